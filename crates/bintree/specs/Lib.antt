@@ -1,0 +1,7 @@
+-- Document 01, "Expressions" and "Verdicts": shapes and their symbols, reading, merging, parts and colours, counts, verdicts.
+pub mod Shape
+pub mod Reading
+pub mod Merging
+pub mod Parts
+pub mod Counts
+pub mod Verdicts

@@ -1,0 +1,42 @@
+-- Document 01, "Verdicts": Clear, or Hit with first frame, last frame and black voxel count, over frames first to last, both ends in.
+use Prim.Native.Nat.{ℕ, zero, suc, _+_, _-_}
+use mathlib.Core.Bool.{Bool, cond}
+use mathlib.Core.List.{List, [], _∷_}
+use lib.Dec.{ltb}
+use Rattle.lemmas.specs.Sums.{sum}
+use Rattle.universe.specs.declared.Universe.{Universe}
+use Rattle.bintree.specs.declared.Verdict.{Verdict}
+use Rattle.bintree.specs.declared.Verdict.the-variants.{Clear, Hit}
+use Rattle.bintree.specs.Shape.{Shape}
+use Rattle.bintree.specs.Counts.{voxelsAt}
+
+-- how many frames a window holds: both ends are in
+abbrev pub windowLength : ℕ → ℕ → ℕ
+windowLength first last = suc last - first
+
+-- the first of n frames from `frame` on that the test names, and the last; n frames on where it names none
+unfoldable pub firstFrame : (ℕ → Bool) → ℕ → ℕ → ℕ
+firstFrame named frame zero = frame
+firstFrame named frame (suc n) = cond (named frame) frame (firstFrame named (suc frame) n)
+
+unfoldable pub lastFrame : (ℕ → Bool) → ℕ → ℕ → ℕ
+lastFrame named frame zero = frame
+lastFrame named frame (suc n) = cond (named (frame + n)) (frame + n) (lastFrame named frame n)
+
+-- the black voxels of a shape in a window
+unfoldable pub voxelsIn : Universe → Shape → ℕ → ℕ → ℕ
+voxelsIn u s first last = sum (windowLength first last) (λ c. voxelsAt u s (first + c))
+
+-- a frame that holds a black voxel
+abbrev pub isHit : Universe → Shape → ℕ → Bool
+isHit u s frame = ltb 0 (voxelsAt u s frame)
+
+unfoldable pub verdict : Universe → Shape → ℕ → ℕ → Verdict
+verdict u s first last =
+    cond (ltb 0 (voxelsIn u s first last))
+    (Hit (record {
+      first = firstFrame (isHit u s) first (windowLength first last);
+      last = lastFrame (isHit u s) first (windowLength first last);
+      voxels = voxelsIn u s first last;
+    }))
+    Clear

@@ -1,0 +1,2 @@
+-- The theorem.
+pub mod Cases

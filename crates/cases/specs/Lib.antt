@@ -1,0 +1,2 @@
+-- Document 01, "Both sides of the edges".
+pub mod Cases

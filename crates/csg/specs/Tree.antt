@@ -1,0 +1,55 @@
+-- Document 01, "Halfspaces and trees": trees, MINUS and reversal. MINUS and reversal are pushed down to the halfspaces, so that marks and
+-- colours are given to plain trees alone.
+use Prim.Native.Nat.{ℕ, _+_}
+use mathlib.Core.Bool.{Bool, true, false}
+use Rattle.bintree.specs.declared.Colour.{Colour}
+use Rattle.bintree.specs.declared.Colour.the-variants.{White, Black}
+
+-- what a word pushes: WHITE, BLACK or a halfspace
+pub data Leaf : Type 0 where
+  white : Leaf
+  black : Leaf
+  halfspace : ℕ → Leaf
+
+pub data Operator : Type 0 where
+  union : Operator
+  intersection : Operator
+  minus : Operator
+
+pub data Tree : Type 0 where
+  leaf : Leaf → Tree
+  node : Operator → Tree → Tree → Tree
+
+-- a tree with no MINUS, each of whose halfspaces stands as it is or reversed
+pub data Plain : Type 0 where
+  colour : Colour → Plain
+  side : Bool → ℕ → Plain
+  unionOf : Plain → Plain → Plain
+  intersectionOf : Plain → Plain → Plain
+
+-- a halfspace as it is, and reversed
+abbrev pub asItIs : Bool
+asItIs = false
+
+abbrev pub reversed : Bool
+reversed = true
+
+unfoldable mutual
+  -- "A MINUS B is A INTERSECTION the reversal of B"
+  pub plain : Tree → Plain
+  plain (leaf white) = colour White
+  plain (leaf black) = colour Black
+  plain (leaf (halfspace i)) = side asItIs i
+  plain (node union a b) = unionOf (plain a) (plain b)
+  plain (node intersection a b) = intersectionOf (plain a) (plain b)
+  plain (node minus a b) = intersectionOf (plain a) (reversal b)
+
+  -- "Reversal negates all five numbers of a halfspace, exchanges BLACK with WHITE, turns UNION and INTERSECTION into each other over reversed
+  -- sons, and makes A MINUS B into reversed A UNION B."
+  pub reversal : Tree → Plain
+  reversal (leaf white) = colour Black
+  reversal (leaf black) = colour White
+  reversal (leaf (halfspace i)) = side reversed i
+  reversal (node union a b) = intersectionOf (reversal a) (reversal b)
+  reversal (node intersection a b) = unionOf (reversal a) (reversal b)
+  reversal (node minus a b) = unionOf (reversal a) (plain b)

@@ -1,0 +1,1 @@
+// Halfspaces and trees.

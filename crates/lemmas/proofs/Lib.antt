@@ -1,0 +1,3 @@
+-- Laws of general things.
+pub mod Whole
+pub mod Machine

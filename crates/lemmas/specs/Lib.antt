@@ -1,0 +1,2 @@
+-- Sums and products over a number of places.
+pub mod Sums

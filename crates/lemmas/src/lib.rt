@@ -1,0 +1,1 @@
+// No code: general definitions in specs/, their laws in proofs/.

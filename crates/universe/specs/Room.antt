@@ -1,0 +1,20 @@
+-- Document 01, "Expressions": room, for N halfspace words in all trees of the run.
+use Prim.Native.Nat.{ℕ, _+_, _*_, _-_, min}
+use Rattle.lemmas.specs.Sums.{sum, product}
+use Rattle.universe.specs.declared.Universe.{Universe}
+use Rattle.universe.specs.Universe.{levels, blocksAlong}
+
+-- "at level l let ni be the blocks along axis i": their number, and that of those that touch no low face
+unfoldable pub blocksAt : Universe → ℕ → ℕ
+blocksAt u l = product (u .axes) (blocksAlong u l)
+
+unfoldable pub innerBlocksAt : Universe → ℕ → ℕ
+innerBlocksAt u l = product (u .axes) (λ i. blocksAlong u l i - 1)
+
+-- "The level counts the smaller of Π ni and N × (Π ni − Π (ni − 1))."
+unfoldable pub levelCount : Universe → ℕ → ℕ → ℕ
+levelCount u leaves l = min (blocksAt u l) (leaves * (blocksAt u l - innerBlocksAt u l))
+
+-- "Room is 1 + 2 × the sum over levels 0 to L−1."
+unfoldable pub room : Universe → ℕ → ℕ
+room u leaves = 1 + 2 * sum (levels u) (levelCount u leaves)
