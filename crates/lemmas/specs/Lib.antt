@@ -1,2 +1,3 @@
--- Sums and products over a number of places.
+-- Sums and products over places, and over the cells of a grid.
 pub mod Sums
+pub mod Grid

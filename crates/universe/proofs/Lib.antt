@@ -1,1 +1,4 @@
 -- Laws of the definitions.
+pub mod Refusals
+pub mod Universes
+pub mod Rooms
