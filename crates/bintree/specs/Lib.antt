@@ -5,3 +5,4 @@ pub mod Merging
 pub mod Parts
 pub mod Counts
 pub mod Verdicts
+pub mod Answers

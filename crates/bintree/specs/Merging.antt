@@ -1,10 +1,9 @@
 -- Document 01, "Expressions": merged is "what remains when each `(BB` becomes `B` and each `(WW` becomes `W`, until none is left".
-use mathlib.Core.Bool.{Bool, true, false}
-use mathlib.Core.List.{List, [], _∷_, _++_}
-use Prim.Native.Nat.{ℕ}
+use mathlib.Core.Bool.{Bool, true, false, not, _&&_}
+use lib.Dec.{eqb}
 use Rattle.bintree.specs.declared.Colour.{Colour}
 use Rattle.bintree.specs.declared.Colour.the-variants.{White, Black}
-use Rattle.bintree.specs.Shape.{Shape, leaf, halved}
+use Rattle.bintree.specs.Shape.{Shape, leaf, halved, symbolOf}
 
 -- two parts that hold no pair to replace, joined so that none is left
 unfoldable pub join : Shape → Shape → Shape
@@ -25,3 +24,19 @@ pub data Replaces : Shape → Shape → Type 0 where
   here : (c : Colour) → Replaces (halved (leaf c) (leaf c)) (leaf c)
   inLow : {a b : Shape} (h : Shape) → Replaces a b → Replaces (halved a h) (halved b h)
   inHigh : {a b : Shape} (l : Shape) → Replaces a b → Replaces (halved l a) (halved l b)
+
+-- replacements one after the other
+pub data Becomes : Shape → Shape → Type 0 where
+  none : (s : Shape) → Becomes s s
+  next : {s t v : Shape} → Replaces s t → Becomes t v → Becomes s v
+
+-- two leaves of one colour
+unfoldable pub isPair : Shape → Shape → Bool
+isPair (leaf c) (leaf d) = eqb (symbolOf c) (symbolOf d)
+isPair (leaf c) (halved a b) = false
+isPair (halved a b) s = false
+
+-- whether no such pair is left
+unfoldable pub isMerged : Shape → Bool
+isMerged (leaf c) = true
+isMerged (halved a b) = not (isPair a b) && isMerged a && isMerged b

@@ -18,3 +18,9 @@ pub enum Verdict {
     Clear,
     Hit(Contact),
 }
+
+// What a call answers that writes into lent room: 0 and the length written, 6 and the length needed, or another refusal and 0.
+pub struct Written {
+    pub refusal: u64,
+    pub length: u64,
+}

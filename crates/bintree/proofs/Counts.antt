@@ -1,0 +1,183 @@
+-- Counts of black voxels: halving a block halves its voxels, so merging keeps volume and frames; and the frames add up to the volume.
+use mathlib.Core.Path.{_≡_, refl, sym, ap, ap₂, _∙_}
+use mathlib.Core.Bool.{Bool, true, false}
+use Prim.Native.Nat.{ℕ, zero, suc, _+_, _-_, _*_, _/_, _%_, _^_, _≤_, _<_, max}
+use native.Mathlib.Nat.{le-max-left, le-max-right, mod-lt, div-eq-of-lt-le}
+use native.Mathlib.Decide.{ℕ-discrete, decLt}
+use native.Mathlib.Omega.{arith}
+use borrow.Author.Tests.{eq-eqb, ne-eqb}
+use lib.Dec.{eqb}
+use Rattle.lemmas.specs.Sums.{sum, product}
+use Rattle.lemmas.proofs.Sums.{sum-cong, sum-add, sum-mono, product-cong, product-scaled}
+use Rattle.universe.specs.declared.Universe.{Universe}
+use Rattle.universe.specs.Universe.{levels, axisAt, frameAxis, frameCount, blockSide}
+use Rattle.universe.specs.Voxel.{halfAt}
+use Rattle.universe.proofs.Universes.{axis-below, side-positive, side-first, side-halved, side-kept, voxels-halved}
+use Rattle.bintree.specs.declared.Colour.{Colour}
+use Rattle.bintree.specs.declared.Colour.the-variants.{White, Black}
+use Rattle.bintree.specs.Shape.{Shape, leaf, halved, depth}
+use Rattle.bintree.specs.Merging.{merged}
+use Rattle.bintree.specs.Counts.{volumeFrom, volume, ofHalves, voxelsFrom, voxelsAt}
+use Rattle.bintree.proofs.Merging.{Joined, one, two, joined}
+
+-- a halved shape that is not too deep below level l: the level has halves, and its parts are not too deep below the next
+module _ (u : Universe) (l : ℕ) (a b : Shape) (h : l + depth (halved a b) ≤ levels u) where
+  pub level-below : l < levels u
+  unfolding depth
+  level-below = omega arith
+
+  pub low-fits : suc l + depth a ≤ levels u
+  unfolding depth
+  low-fits = omega (arith, le-max-left (depth a) (depth b))
+
+  pub high-fits : suc l + depth b ≤ levels u
+  unfolding depth
+  high-fits = omega (arith, le-max-right (depth a) (depth b))
+
+module _ (u : Universe) (some : 0 < u .axes) where
+  -- THEOREM: a block has at most all its voxels
+  pub volume-most : (l : ℕ) (s : Shape) → l + depth s ≤ levels u → volumeFrom u l s ≤ product (u .axes) (blockSide u l)
+  unfolding volumeFrom
+  volume-most l (leaf Black) h = omega arith
+  volume-most l (leaf White) h = omega arith
+  volume-most l (halved a b) h =
+      let x = volume-most (suc l) a (low-fits u l a b h) in
+      let y = volume-most (suc l) b (high-fits u l a b h) in
+      omega (arith, voxels-halved u some l (level-below u l a b h))
+
+  -- THEOREM: merging keeps the volume
+  join-volume : (l : ℕ) → l < levels u → {a b j : Shape} → Joined a b j → volumeFrom u l j ≡ volumeFrom u (suc l) a + volumeFrom u (suc l) b
+  unfolding volumeFrom
+  join-volume l h (one Black) = omega (arith, voxels-halved u some l h)
+  join-volume l h (one White) = refl
+  join-volume l h (two e) = refl
+
+  pub merged-volume : (l : ℕ) (s : Shape) → l + depth s ≤ levels u → volumeFrom u l (merged s) ≡ volumeFrom u l s
+  unfolding volumeFrom merged
+  merged-volume l (leaf c) h = refl
+  merged-volume l (halved a b) h =
+      let x = merged-volume (suc l) a (low-fits u l a b h) in
+      let y = merged-volume (suc l) b (high-fits u l a b h) in
+      join-volume l (level-below u l a b h) (joined (merged a) (merged b)) ∙ rw (x, y)
+
+  -- the voxels of one frame in a block: a halving across the frame axis keeps them, another one halves them
+  frame-kept : (l : ℕ) → axisAt u l ≡ frameAxis u → product (frameAxis u) (blockSide u (suc l)) ≡ product (frameAxis u) (blockSide u l)
+  frame-kept l e = product-cong (frameAxis u) (blockSide u (suc l)) (blockSide u l) (λ i h. side-kept u l i (λ f. omega arith))
+
+  frame-halved : (l : ℕ) → l < levels u → (axisAt u l ≡ frameAxis u → ⊥) → product (frameAxis u) (blockSide u l) ≡ 2 * product (frameAxis u) (blockSide u (suc l))
+  frame-halved l h n =
+      product-scaled (frameAxis u) (blockSide u (suc l)) (blockSide u l) 2 (axisAt u l) (omega (arith, axis-below u some l)) (λ i j k. sym (side-kept u l i k)) (side-halved u some l h)
+
+  -- THEOREM: merging keeps the voxels of each frame
+  same-half : (lower : Bool) (n : ℕ) → n ≡ ofHalves true lower n n
+  same-half true n = refl
+  same-half false n = refl
+
+  join-leaf : (l frame : ℕ) → l < levels u → (c : Colour) → voxelsFrom u l (leaf c) frame ≡ ofHalves (eqb (axisAt u l) (frameAxis u)) (eqb (halfAt u l frame) 0) (voxelsFrom u (suc l) (leaf c) frame) (voxelsFrom u (suc l) (leaf c) frame)
+  unfolding voxelsFrom
+  join-leaf l frame h Black = go (ℕ-discrete (axisAt u l) (frameAxis u))
+    where
+      go : Dec (axisAt u l ≡ frameAxis u) → product (frameAxis u) (blockSide u l) ≡ ofHalves (eqb (axisAt u l) (frameAxis u)) (eqb (halfAt u l frame) 0) (product (frameAxis u) (blockSide u (suc l))) (product (frameAxis u) (blockSide u (suc l)))
+      go (yes e) = rw (eq-eqb (axisAt u l) (frameAxis u) e, frame-kept l e) (same-half (eqb (halfAt u l frame) 0) (product (frameAxis u) (blockSide u l)))
+      go (no n) = rw (ne-eqb (axisAt u l) (frameAxis u) n) (omega (arith, frame-halved l h n))
+  join-leaf l frame h White = go (eqb (axisAt u l) (frameAxis u)) (eqb (halfAt u l frame) 0)
+    where
+      go : (across lower : Bool) → 0 ≡ ofHalves across lower 0 0
+      go true true = refl
+      go true false = refl
+      go false lower = refl
+
+  join-voxels : (l frame : ℕ) → l < levels u → {a b j : Shape} → Joined a b j → voxelsFrom u l j frame ≡ ofHalves (eqb (axisAt u l) (frameAxis u)) (eqb (halfAt u l frame) 0) (voxelsFrom u (suc l) a frame) (voxelsFrom u (suc l) b frame)
+  unfolding voxelsFrom
+  join-voxels l frame h (one c) = join-leaf l frame h c
+  join-voxels l frame h (two e) = refl
+
+  pub merged-voxels : (l : ℕ) (s : Shape) (frame : ℕ) → l + depth s ≤ levels u → voxelsFrom u l (merged s) frame ≡ voxelsFrom u l s frame
+  unfolding voxelsFrom merged
+  merged-voxels l (leaf c) frame h = refl
+  merged-voxels l (halved a b) frame h =
+      let x = merged-voxels (suc l) a frame (low-fits u l a b h) in
+      let y = merged-voxels (suc l) b frame (high-fits u l a b h) in
+      join-voxels l frame (level-below u l a b h) (joined (merged a) (merged b)) ∙ rw (x, y)
+
+-- a run of places in two, and places that all count the same
+sum-split : (n m : ℕ) (f : ℕ → ℕ) → sum (n + m) f ≡ sum n f + sum m (λ c. f (n + c))
+unfolding sum
+sum-split n zero f = let e : n + 0 ≡ n = omega arith in rw e (omega arith)
+sum-split n (suc m) f = let e : n + suc m ≡ suc (n + m) = omega arith in rw e (omega (arith, sum-split n m f))
+
+sum-same : (n k : ℕ) → sum n (λ c. k) ≡ k * n
+unfolding sum
+sum-same zero k = omega arith
+sum-same (suc n) k = omega (arith, sum-same n k)
+
+-- the half that holds a place
+quotient : {x : ℕ} (q n : ℕ) → q * n ≤ x → x < q * n + n → x / n ≡ q
+quotient q n h k = div-eq-of-lt-le n h (omega arith)
+
+lower-half : (n k c : ℕ) → c < n → (k * (2 * n) + c) / n % 2 ≡ 0
+lower-half n k c h = let e : (k * (2 * n) + c) / n ≡ 2 * k = quotient (2 * k) n (omega arith) (omega arith) in omega arith
+
+upper-half : (n k c : ℕ) → c < n → (k * (2 * n) + (n + c)) / n % 2 ≡ 1
+upper-half n k c h = let e : (k * (2 * n) + (n + c)) / n ≡ 2 * k + 1 = quotient (2 * k + 1) n (omega arith) (omega arith) in omega arith
+
+half-sum : (n k : ℕ) (low high : ℕ → ℕ) → sum (2 * n) (λ c. ofHalves true (eqb ((k * (2 * n) + c) / n % 2) 0) (low (k * (2 * n) + c)) (high (k * (2 * n) + c))) ≡ sum n (λ c. low (2 * k * n + c)) + sum n (λ c. high ((2 * k + 1) * n + c))
+half-sum n k low high =
+    let both : ℕ → ℕ = λ c. ofHalves true (eqb ((k * (2 * n) + c) / n % 2) 0) (low (k * (2 * n) + c)) (high (k * (2 * n) + c)) in
+    let e : 2 * n ≡ n + n = omega arith in
+    ap (λ m. sum m both) e ∙ sum-split n n both
+    ∙ ap₂ (λ x y. x + y) (sum-cong n both (λ c. low (2 * k * n + c)) lower) (sum-cong n (λ c. both (n + c)) (λ c. high ((2 * k + 1) * n + c)) upper)
+  where
+    lower : (c : ℕ) → c < n → ofHalves true (eqb ((k * (2 * n) + c) / n % 2) 0) (low (k * (2 * n) + c)) (high (k * (2 * n) + c)) ≡ low (2 * k * n + c)
+    lower c h = let e : k * (2 * n) + c ≡ 2 * k * n + c = omega arith in rw (lower-half n k c h, e)
+
+    upper : (c : ℕ) → c < n → ofHalves true (eqb ((k * (2 * n) + (n + c)) / n % 2) 0) (low (k * (2 * n) + (n + c))) (high (k * (2 * n) + (n + c))) ≡ high ((2 * k + 1) * n + c)
+    upper c h = let e : k * (2 * n) + (n + c) ≡ (2 * k + 1) * n + c = omega arith in rw (upper-half n k c h, e)
+
+-- THEOREM: the frames of a block, which begin at a multiple of its length, add up to its volume; hence all frames to the volume
+module _ (u : Universe) (some : 0 < u .axes) where
+  block-voxels : (l : ℕ) → product (frameAxis u) (blockSide u l) * blockSide u l (frameAxis u) ≡ product (u .axes) (blockSide u l)
+  unfolding product
+  block-voxels l = let e : u .axes ≡ suc (frameAxis u) = omega arith in ap (λ n. product n (blockSide u l)) (sym e)
+
+  -- one level: across the frame axis the halves' frames follow each other, otherwise they are the same
+  Framed : ℕ → Shape → Type 0
+  Framed l s = (k : ℕ) → sum (blockSide u l (frameAxis u)) (λ c. voxelsFrom u l s (k * blockSide u l (frameAxis u) + c)) ≡ volumeFrom u l s
+
+  across-frames : (l : ℕ) (a b : Shape) → l < levels u → axisAt u l ≡ frameAxis u → Framed (suc l) a → Framed (suc l) b → Framed l (halved a b)
+  unfolding voxelsFrom volumeFrom Framed
+  across-frames l a b h e x y k =
+      let n = blockSide u (suc l) (frameAxis u) in
+      let m : blockSide u l (frameAxis u) ≡ 2 * n = rw e at (side-halved u some l h) in
+      ap (λ z. sum z (λ c. voxelsFrom u l (halved a b) (k * z + c))) m
+      ∙ sum-cong (2 * n) (λ c. voxelsFrom u l (halved a b) (k * (2 * n) + c)) (λ c. ofHalves true (eqb ((k * (2 * n) + c) / n % 2) 0) (voxelsFrom u (suc l) a (k * (2 * n) + c)) (voxelsFrom u (suc l) b (k * (2 * n) + c))) (λ c h. rw (eq-eqb (axisAt u l) (frameAxis u) e, e))
+      ∙ half-sum n k (voxelsFrom u (suc l) a) (voxelsFrom u (suc l) b)
+      ∙ ap₂ (λ v w. v + w) (x (2 * k)) (y (2 * k + 1))
+
+  along-frames : (l : ℕ) (a b : Shape) → (axisAt u l ≡ frameAxis u → ⊥) → Framed (suc l) a → Framed (suc l) b → Framed l (halved a b)
+  unfolding voxelsFrom volumeFrom Framed
+  along-frames l a b n x y k =
+      let m = sym (side-kept u l (frameAxis u) n) in
+      let i = blockSide u (suc l) (frameAxis u) in
+      ap (λ z. sum z (λ c. voxelsFrom u l (halved a b) (k * z + c))) m
+      ∙ sum-cong i (λ c. voxelsFrom u l (halved a b) (k * i + c)) (λ c. voxelsFrom u (suc l) a (k * i + c) + voxelsFrom u (suc l) b (k * i + c)) (λ c h. rw (ne-eqb (axisAt u l) (frameAxis u) n))
+      ∙ sum-add i (λ c. voxelsFrom u (suc l) a (k * i + c)) (λ c. voxelsFrom u (suc l) b (k * i + c))
+      ∙ ap₂ (λ v w. v + w) (x k) (y k)
+
+  block-frames : (l : ℕ) (s : Shape) → l + depth s ≤ levels u → Framed l s
+  unfolding voxelsFrom volumeFrom Framed
+  block-frames l (leaf Black) h = λ k. sum-same (blockSide u l (frameAxis u)) (product (frameAxis u) (blockSide u l)) ∙ block-voxels l
+  block-frames l (leaf White) h = λ k. sum-same (blockSide u l (frameAxis u)) 0 ∙ omega arith
+  block-frames l (halved a b) h = go (ℕ-discrete (axisAt u l) (frameAxis u)) (block-frames (suc l) a (low-fits u l a b h)) (block-frames (suc l) b (high-fits u l a b h))
+    where
+      go : Dec (axisAt u l ≡ frameAxis u) → Framed (suc l) a → Framed (suc l) b → Framed l (halved a b)
+      go (yes e) x y = across-frames l a b (level-below u l a b h) e x y
+      go (no n) x y = along-frames l a b n x y
+
+  pub frames-volume : (s : Shape) → depth s ≤ levels u → sum (frameCount u) (voxelsAt u s) ≡ volume u s
+  unfolding Framed
+  frames-volume s h =
+      let n = blockSide u 0 (frameAxis u) in
+      ap (λ m. sum m (voxelsAt u s)) (sym (side-first u (frameAxis u)))
+      ∙ sum-cong n (voxelsAt u s) (λ c. voxelsFrom u 0 s (0 * n + c)) (λ c k. let e : c ≡ 0 * n + c = omega arith in ap (voxelsFrom u 0 s) e)
+      ∙ block-frames 0 s (omega arith) 0

@@ -1,0 +1,115 @@
+-- The part at a path, by the path's halves; and the colour at a voxel, whose path has L halves, so that the part there is a leaf.
+use mathlib.Core.Path.{_≡_, refl, sym, ap, _∙_}
+use mathlib.Core.Bool.{Bool, true, false, cond, _&&_}
+use mathlib.Core.List.{List, [], _∷_, _++_}
+use Prim.Native.Nat.{ℕ, zero, suc, _+_, _-_, _≤_, _<_}
+use native.Mathlib.Omega.{arith}
+use borrow.Author.Tests.{leb-true, le-leb, ltb-true, lt-ltb}
+use lib.Dec.{eqb, leb, ltb}
+use lib.ListN.{length, getD}
+use Rattle.lemmas.specs.Sums.{every}
+use Rattle.lemmas.proofs.Sums.{and-left, and-right, and-both, every-all, all-every}
+use Rattle.universe.proofs.Refusals.{unless-holds, holds-unless}
+use Rattle.universe.specs.declared.Universe.{Universe}
+use Rattle.universe.specs.Refusals.{unless}
+use Rattle.universe.specs.Universe.{levels}
+use Rattle.universe.specs.Voxel.{pathFrom, pathTo}
+use Rattle.bintree.specs.declared.Colour.{Colour}
+use Rattle.bintree.specs.Shape.{Shape, leaf, halved, depth}
+use Rattle.bintree.specs.Parts.{part, pathRefusal}
+use Rattle.bintree.proofs.Shape.{depth-low, depth-high, halved-deep}
+
+pub part-empty : (s : Shape) → part s [] ≡ s
+unfolding part
+part-empty (leaf c) = refl
+part-empty (halved a b) = refl
+
+pub part-leaf : (c : Colour) (path : List ℕ) → part (leaf c) path ≡ leaf c
+unfolding part
+part-leaf c path = refl
+
+pub part-half : (a b : Shape) (h : ℕ) (path : List ℕ) → part (halved a b) (h ∷ path) ≡ cond (eqb h 0) (part a path) (part b path)
+unfolding part
+part-half a b h path = refl
+
+pub part-low : (a b : Shape) (path : List ℕ) → part (halved a b) (0 ∷ path) ≡ part a path
+unfolding part
+part-low a b path = refl
+
+pub part-high : (a b : Shape) (path : List ℕ) → part (halved a b) (1 ∷ path) ≡ part b path
+unfolding part
+part-high a b path = refl
+
+-- a path after a path
+part-choice : (choice : Bool) (x y : Shape) (path : List ℕ) → part (cond choice x y) path ≡ cond choice (part x path) (part y path)
+part-choice true x y path = refl
+part-choice false x y path = refl
+
+pub part-append : (s : Shape) (path more : List ℕ) → part s (path ++ more) ≡ part (part s path) more
+unfolding part
+part-append (leaf c) path more = refl
+part-append (halved a b) [] more = refl
+part-append (halved a b) (h ∷ path) more = rw (part-append a path more, part-append b path more) (sym (part-choice (eqb h 0) (part a path) (part b path) more))
+
+-- each half of the path leads at least one halving down
+depth-choice : (choice : Bool) (x y : Shape) (n : ℕ) → depth x ≤ n → depth y ≤ n → depth (cond choice x y) ≤ n
+depth-choice true x y n h k = h
+depth-choice false x y n h k = k
+
+pub depth-part : (s : Shape) (n : ℕ) (path : List ℕ) → depth s ≤ n → depth (part s path) ≤ n - length path
+unfolding part depth
+depth-part (leaf c) n path h = omega arith
+depth-part (halved a b) n [] h = omega arith
+depth-part (halved a b) zero (d ∷ path) h = absurd (omega arith)
+depth-part (halved a b) (suc n) (d ∷ path) h =
+    let e : suc n - suc (length path) ≡ n - length path = omega arith in
+    rw e (depth-choice (eqb d 0) (part a path) (part b path) (n - length path) (depth-part a n path (depth-low a b n h)) (depth-part b n path (depth-high a b n h)))
+
+-- so a path that is as long as the shape is deep leads to a leaf
+flat-leaf : (s : Shape) → depth s ≤ 0 → (c : Colour) × (s ≡ leaf c)
+flat-leaf (leaf c) h = (c, refl)
+flat-leaf (halved a b) h = absurd (halved-deep a b h)
+
+pub leaf-part : (s : Shape) (path : List ℕ) → depth s ≤ length path → (c : Colour) × (part s path ≡ leaf c)
+leaf-part s path h = flat-leaf (part s path) (omega (arith, depth-part s (length path) path h))
+
+-- a voxel's path has L halves
+pub length-pathFrom : (u : Universe) (v : List ℕ) (l n : ℕ) → length (pathFrom u v l n) ≡ n
+unfolding pathFrom
+length-pathFrom u v l zero = refl
+length-pathFrom u v l (suc n) = ap suc (length-pathFrom u v (suc l) n)
+
+pub length-path : (u : Universe) (v : List ℕ) → length (pathTo u v) ≡ levels u
+length-path u v = length-pathFrom u v 0 (levels u)
+
+pub voxel-leaf : (u : Universe) (s : Shape) (v : List ℕ) → depth s ≤ levels u → (c : Colour) × (part s (pathTo u v) ≡ leaf c)
+voxel-leaf u s v h = leaf-part s (pathTo u v) (omega (arith, length-path u v))
+
+-- a path is accepted exactly where it has at most L bytes, each 0 or 1
+pub record IsPath (u : Universe) (path : List ℕ) : Type 0 where
+  pub short : length path ≤ levels u
+  pub halves : (i : ℕ) → i < length path → getD path i 0 < 2
+
+pub accepted-path : (u : Universe) (path : List ℕ) → pathRefusal u path ≡ 0 → IsPath u path
+unfolding pathRefusal
+accepted-path u path e =
+    let short : Bool = leb (length path) (levels u) in
+    let halves : Bool = every (length path) (λ i. ltb (getD path i 0) 2) in
+    let both = unless-holds (short && halves) 9 (omega arith) e in
+    record {
+      short = leb-true _ _ (and-left short halves both);
+      halves = λ i h. ltb-true _ _ (every-all (length path) (λ i. ltb (getD path i 0) 2) (and-right short halves both) i h);
+    }
+
+pub path-accepted : (u : Universe) (path : List ℕ) → IsPath u path → pathRefusal u path ≡ 0
+unfolding pathRefusal
+path-accepted u path w =
+    holds-unless _ 9 (and-both (le-leb _ _ (w .short)) (all-every (length path) (λ i. ltb (getD path i 0) 2) (λ i h. lt-ltb _ _ (w .halves i h))))
+
+pub path-refused : (u : Universe) (path : List ℕ) → (IsPath u path → ⊥) → pathRefusal u path ≡ 9
+unfolding pathRefusal
+path-refused u path h = number (leb (length path) (levels u) && every (length path) (λ i. ltb (getD path i 0) 2)) (λ e. h (accepted-path u path e))
+  where
+    number : (good : Bool) → (unless good 9 ≡ 0 → ⊥) → unless good 9 ≡ 9
+    number true k = absurd (k refl)
+    number false k = refl
