@@ -46,6 +46,10 @@ unfoldable pub rowsRefusal : Universe → List ℤ → ℕ
 rowsRefusal u rows =
     unless (eqb (length rows % rowLength) 0 && leb (rowCount rows) mostRows && every (rowCount rows) (λ i. withinLimits u (rowAt rows i))) 3
 
+-- "It holds at a point where a0 + Σ ai·xi ≥ 0": the value there
+unfoldable pub valueAt : Universe → Halfspace → (ℕ → ℕ) → ℤ
+valueAt u h x = h .offset +ℤ total (u .axes) (λ i. h .coefficient i *ℤ pos (x i))
+
 -- "At a centre the test is 2·a0 + Σ ai·(2ci + 1) ≥ 0": twice the value at the centre of voxel c
 unfoldable pub centreValue : Universe → Halfspace → List ℕ → ℤ
 centreValue u h v = pos 2 *ℤ h .offset +ℤ total (u .axes) (λ i. h .coefficient i *ℤ pos (2 * placeAlong v i + 1))
@@ -53,6 +57,10 @@ centreValue u h v = pos 2 *ℤ h .offset +ℤ total (u .axes) (λ i. h .coeffici
 -- "equality is BLACK"
 unfoldable pub colourAtCentre : Universe → Halfspace → List ℕ → Colour
 colourAtCentre u h v = cond (leZ (pos 0) (centreValue u h v)) Black White
+
+-- a corner of a block: along each axis its high end where the choice says so, else its low end
+abbrev pub corner : Block → (ℕ → Bool) → ℕ → ℕ
+corner b choice i = cond (choice i) (lowAlong b i + lengthAlong b i) (lowAlong b i)
 
 -- the lesser and the greater of two whole numbers
 abbrev pub lesser : ℤ → ℤ → ℤ

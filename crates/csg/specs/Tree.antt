@@ -53,3 +53,16 @@ unfoldable mutual
   reversal (node union a b) = intersectionOf (reversal a) (reversal b)
   reversal (node intersection a b) = unionOf (reversal a) (reversal b)
   reversal (node minus a b) = unionOf (reversal a) (plain b)
+
+-- how many halfspaces a tree has, and how many sides a plain one; one that stands twice counts twice
+unfoldable pub leaves : Tree → ℕ
+leaves (leaf white) = 0
+leaves (leaf black) = 0
+leaves (leaf (halfspace i)) = 1
+leaves (node o a b) = leaves a + leaves b
+
+unfoldable pub sides : Plain → ℕ
+sides (colour c) = 0
+sides (side turned i) = 1
+sides (unionOf a b) = sides a + sides b
+sides (intersectionOf a b) = sides a + sides b

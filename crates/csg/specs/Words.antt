@@ -1,6 +1,6 @@
 -- Document 01, "Halfspaces and trees": a tree is a list of words in postfix order; its refusals 4 and 5, in the order of "Numbers we say no with".
-use Prim.Native.Nat.{ℕ, _+_, _-_}
-use mathlib.Core.Bool.{Bool, true, false, cond, _&&_}
+use Prim.Native.Nat.{ℕ, _+_, _-_, _<_}
+use mathlib.Core.Bool.{Bool, true, false, cond, _&&_, _||_}
 use mathlib.Core.List.{List, [], _∷_}
 use lib.Dec.{ltb, leb, eqb}
 use lib.ListN.{length}
@@ -34,6 +34,19 @@ meaning rows w =
     (cond (eqb w 4) (join minus)
     (cond (leb firstHalfspace w && ltb (w - firstHalfspace) rows) (push (halfspace (w - firstHalfspace))) unknown)))))
 
+-- the same by a word's number alone: whether it joins, and with what; whether it pushes, and which leaf
+abbrev pub isOperator : ℕ → Bool
+isOperator w = leb 2 w && leb w 4
+
+abbrev pub operatorOf : ℕ → Operator
+operatorOf w = cond (eqb w 2) union (cond (eqb w 3) intersection minus)
+
+abbrev pub isLeaf : ℕ → ℕ → Bool
+isLeaf rows w = leb w 1 || (leb firstHalfspace w && ltb (w - firstHalfspace) rows)
+
+abbrev pub leafOf : ℕ → Leaf
+leafOf w = cond (eqb w 0) white (cond (eqb w 1) black (halfspace (w - firstHalfspace)))
+
 -- why words are no tree: 4 "tree empty, unknown word, index past the rows, operator with under two pending, not one left"; 5 "over 255 words, or
 -- a 33rd shape pending"
 pub data Fault : Type 0 where
@@ -52,6 +65,10 @@ pub data Outcome (A : Type 0) : Type 0 where
 abbrev pub andThen : {A B : Type 0} → Outcome A → (A → Outcome B) → Outcome B
 andThen (refused f) next = refused f
 andThen (made a) next = next a
+
+abbrev pub mapOutcome : {A B : Type 0} → (A → B) → Outcome A → Outcome B
+mapOutcome f (refused fault) = refused fault
+mapOutcome f (made a) = made (f a)
 
 -- words read one by one over the shapes pending, the last one first, for any meaning of leaves and operators
 module _ {A : Type 0} (ofLeaf : Leaf → A) (ofNode : Operator → A → A → A) where
@@ -104,3 +121,10 @@ namesHalfspace w = leb firstHalfspace w && ltb w (firstHalfspace + mostRows)
 unfoldable pub halfspaceWords : List ℕ → ℕ
 halfspaceWords [] = 0
 halfspaceWords (w ∷ ws) = cond (namesHalfspace w) 1 0 + halfspaceWords ws
+
+-- every halfspace of the tree is one of so many rows
+pub data InRows (rows : ℕ) : Tree → Type 0 where
+  white-in : InRows rows (leaf white)
+  black-in : InRows rows (leaf black)
+  halfspace-in : {i : ℕ} → i < rows → InRows rows (leaf (halfspace i))
+  node-in : {o : Operator} {a b : Tree} → InRows rows a → InRows rows b → InRows rows (node o a b)

@@ -1,0 +1,7 @@
+-- Laws of the definitions.
+pub mod Halfspace
+pub mod Tree
+pub mod Words
+pub mod Evaluation
+pub mod Marks
+pub mod Raw
