@@ -1,0 +1,4 @@
+-- The demands.
+pub mod Counting
+pub mod Crossing
+pub mod Room

@@ -1,0 +1,2 @@
+-- What is demanded of the definitions, for the theorems of proofs/.
+pub mod Room

@@ -1,0 +1,1 @@
+// No code: what the product promises, as theorems on the definitions.
