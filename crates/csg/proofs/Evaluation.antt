@@ -12,7 +12,7 @@ use Rattle.csg.specs.Tree.{Leaf, Operator}
 use Rattle.csg.specs.Words.{mostPending, isOperator, operatorOf, isLeaf, leafOf, fold, treeRefusal, treeOf}
 use Rattle.csg.proofs.Words.{next, accepted-run, Reads, reads, left-one, leaf-next, two-pending, join-next}
 
--- ---- an evaluation, over the shapes pending: what is left of accepted words comes to what all of them come to
+-- an evaluation, over the shapes pending: what is left of accepted words comes to what all of them come to
 pub record Midway {A : Type 0} (ofLeaf : Leaf → A) (ofNode : Operator → A → A → A) (rows : ℕ) (ws : List ℕ) (pending : List A) (i : ℕ) : Type 0 where
   pub read : i ≤ length ws
   pub few : length pending ≤ mostPending
@@ -46,7 +46,7 @@ module _ {A : Type 0} {ofLeaf : Leaf → A} {ofNode : Operator → A → A → A
   pub midway-join : {pending : List A} {x y : A} {i : ℕ} → Midway ofLeaf ofNode rows ws (y ∷ x ∷ pending) i → i < length ws → isOperator (getD ws i 0) ≡ true → Midway ofLeaf ofNode rows ws (ofNode (operatorOf (getD ws i 0)) x y ∷ pending) (i + 1)
   midway-join m h o = record { read = omega arith; few = omega (arith, m .few); onward = join-next (here m h) o }
 
--- ---- an array as the shapes pending: the first n of its elements, the last of them first; `d` stands past its end
+-- an array as the shapes pending: the first n of its elements, the last of them first; `d` stands past its end
 module _ {A : Type 0} (d : A) where
   abbrev pub pendingIn : List A → ℕ → List A
   pendingIn array zero = []
@@ -75,7 +75,7 @@ module _ {A : Type 0} (d : A) where
   pending-join : (array : List A) (n : ℕ) (x : A) → 2 ≤ n → n ≤ length array → pendingIn (set array (n - 2) x) (n - 1) ≡ x ∷ pendingIn array (n - 2)
   pending-join array n x h g = let e : n - 1 ≡ n - 2 + 1 = omega arith in rw e (pending-push array (n - 2) x (omega arith))
 
--- ---- an evaluation over an array of 32, which has read i words and holds n shapes pending
+-- an evaluation over an array of 32, which has read i words and holds n shapes pending
 pub record Evaluating {A : Type 0} (ofLeaf : Leaf → A) (ofNode : Operator → A → A → A) (rows : ℕ) (ws : List ℕ) (d : A) (array : List A) (n i : ℕ) : Type 0 where
   pub few : n ≤ mostPending
   pub long : length array ≡ mostPending

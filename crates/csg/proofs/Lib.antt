@@ -1,5 +1,6 @@
 -- Laws of the definitions.
 pub mod Halfspace
+pub mod Rows
 pub mod Tree
 pub mod Words
 pub mod Evaluation

@@ -3,18 +3,18 @@
 use Prim.Native.Nat.{ℕ, zero, suc, _+_, _-_, _≤_, _<_}
 use native.Mathlib.Omega.{arith}
 use native.Mathlib.Numerals.{add-one, sub-one}
-use mathlib.Core.Path.{_≡_, refl, sym, ap, ap₂, _∙_}
-use mathlib.Core.Bool.{Bool, true, false, cond, _&&_, _||_, false≢true}
+use mathlib.Core.Path.{_≡_, refl, sym, ap, _∙_}
+use mathlib.Core.Bool.{Bool, true, false, cond, _&&_, false≢true}
 use mathlib.Core.List.{List, [], _∷_, map}
 use lib.ListN.{length, getD, drop, replicate, length-map, length-replicate, drop-of-length-le}
 use lib.Seq.{drop-cons}
-use lib.Dec.{ltb, leb, eqb}
-use borrow.Author.Tests.{ne-eqb, eq-eqb, lt-ltb, le-ltb, ltb-true, ltb-false, leb-true, leb-false, le-leb, lt-leb}
+use lib.Dec.{ltb, leb}
+use borrow.Author.Tests.{ne-eqb, lt-ltb, le-ltb, ltb-true, ltb-false, leb-true, le-leb, lt-leb}
 use Rattle.csg.specs.Halfspace.{mostRows}
-use Rattle.csg.specs.Tree.{Leaf, white, black, halfspace, Operator, union, intersection, minus, Tree, leaf, node, leaves}
-use Rattle.csg.specs.Words.{mostWords, mostPending, Word, push, join, unknown, firstHalfspace, meaning, isOperator, operatorOf, isLeaf, leafOf, Fault, malformed, overfull, numberOf, Outcome, refused, made, andThen, mapOutcome, step, finish, run, fold, parse, refusalOf, treeRefusal, orWhite, treeOf, namesHalfspace, halfspaceWords, InRows, white-in, black-in, halfspace-in, node-in}
+use Rattle.csg.specs.Tree.{Leaf, halfspace, Operator, Tree, leaf, node, leaves}
+use Rattle.csg.specs.Words.{mostWords, mostPending, Word, push, join, unknown, firstHalfspace, meaning, isOperator, operatorOf, isLeaf, leafOf, Fault, malformed, overfull, Outcome, refused, made, andThen, mapOutcome, step, finish, run, fold, parse, refusalOf, treeRefusal, orWhite, treeOf, namesHalfspace, halfspaceWords, InRows, white-in, black-in, halfspace-in, node-in}
 
--- ---- a word by its number
+-- a word by its number: an operator, else a leaf, else unknown
 far : (rows w : ℕ) → 4 < w → meaning rows w ≡ cond (isOperator w) (join (operatorOf w)) (cond (isLeaf rows w) (push (leafOf w)) unknown)
 unfolding meaning
 far rows w h =
@@ -49,11 +49,14 @@ leaf-row rows w l h = by (leb firstHalfspace w) refl (ltb (w - firstHalfspace) r
     by true p false q e = absurd (false≢true e)
     by false p b q e = absurd (false≢true e)
 
+pub leaf-halfspace : (w : ℕ) → 1 < w → leafOf w ≡ halfspace (w - firstHalfspace)
+leaf-halfspace w h = simp (ne-eqb w 0 (omega arith), ne-eqb w 1 (omega arith))
+
 -- the word at i, and those after it
 pub next : (ws : List ℕ) (i : ℕ) → i < length ws → drop i ws ≡ getD ws i 0 ∷ drop (i + 1) ws
 next ws i h = rw (add-one, drop-cons ws i 0)
 
--- ---- one step of the machine, by the kind of its word
+-- one step of the machine, by the kind of its word
 module _ {A : Type 0} (ofLeaf : Leaf → A) (ofNode : Operator → A → A → A) (rows w : ℕ) (ws : List ℕ) where
   pub on-leaf : (pending : List A) → isOperator w ≡ false → isLeaf rows w ≡ true → length pending < mostPending → run ofLeaf ofNode rows (w ∷ ws) pending ≡ run ofLeaf ofNode rows ws (ofLeaf (leafOf w) ∷ pending)
   unfolding run step
@@ -77,7 +80,7 @@ module _ {A : Type 0} (ofLeaf : Leaf → A) (ofNode : Operator → A → A → A
   unfolding run step
   on-unknown pending o l = rw (unknown-word rows w o l)
 
--- ---- reading with a meaning is the meaning of what is read
+-- reading with a meaning is the meaning of what is read
 module _ {A : Type 0} (ofLeaf : Leaf → A) (ofNode : Operator → A → A → A) where
   step-fold : (w : Word) (pending : List Tree) → step ofLeaf ofNode w (map (fold ofLeaf ofNode) pending) ≡ mapOutcome (map (fold ofLeaf ofNode)) (step leaf node w pending)
   unfolding step fold
@@ -105,7 +108,7 @@ module _ {A : Type 0} (ofLeaf : Leaf → A) (ofNode : Operator → A → A → A
   pub run-parse : (rows : ℕ) (ws : List ℕ) → run ofLeaf ofNode rows ws [] ≡ mapOutcome (fold ofLeaf ofNode) (run leaf node rows ws [])
   run-parse rows ws = run-fold rows ws []
 
--- ---- words that are not refused
+-- words that are not refused
 pub refusal-cases : (rows : ℕ) (ws : List ℕ) (G : Type 0) → (treeRefusal rows ws ≡ 0 → G) → (treeRefusal rows ws ≡ 4 → G) → (treeRefusal rows ws ≡ 5 → G) → G
 unfolding treeRefusal
 refusal-cases rows ws G none four five = by (parse rows ws) refl
@@ -143,7 +146,7 @@ module _ (rows : ℕ) (ws : List ℕ) (accepted : treeRefusal rows ws ≡ 0) whe
   pub accepted-run : {A : Type 0} (ofLeaf : Leaf → A) (ofNode : Operator → A → A → A) → run ofLeaf ofNode rows ws [] ≡ made (fold ofLeaf ofNode (treeOf rows ws))
   accepted-run ofLeaf ofNode = run-parse ofLeaf ofNode rows ws ∙ ap (mapOutcome (fold ofLeaf ofNode)) accepted-tree
 
--- ---- a run that is not refused, word by word: what stands pending before the words, and what they come to
+-- a run that is not refused, word by word: what stands pending before the words, and what they come to
 pub data Reads {A : Type 0} (ofLeaf : Leaf → A) (ofNode : Operator → A → A → A) (rows : ℕ) : List ℕ → List A → A → Type 0 where
   ended : {a : A} → Reads ofLeaf ofNode rows [] (a ∷ []) a
   pushed : {w : ℕ} {ws : List ℕ} {pending : List A} {a : A} → isOperator w ≡ false → isLeaf rows w ≡ true → length pending < mostPending → Reads ofLeaf ofNode rows ws (ofLeaf (leafOf w) ∷ pending) a → Reads ofLeaf ofNode rows (w ∷ ws) pending a
@@ -194,8 +197,8 @@ module _ {A : Type 0} {ofLeaf : Leaf → A} {ofNode : Operator → A → A → A
   join-next (pushed p l g r) o = absurd (false≢true (sym p ∙ o))
   join-next (joined p r) o = r
 
--- ---- the halfspaces of a tree are the words that name one, and each is one of the rows
-pub leavesOf : List Tree → ℕ
+-- the halfspaces of a tree are the words that name one, and each is one of the rows
+leavesOf : List Tree → ℕ
 leavesOf [] = 0
 leavesOf (t ∷ ts) = leaves t + leavesOf ts
 
@@ -205,7 +208,7 @@ leaf-leaves rows zero h o l = refl
 leaf-leaves rows (suc zero) h o l = refl
 leaf-leaves rows (suc (suc w)) h o l =
     let r = leaf-row rows (suc (suc w)) l (omega arith) in
-    simp (ne-eqb (suc (suc w)) 0 (omega arith), ne-eqb (suc (suc w)) 1 (omega arith), le-leb firstHalfspace (suc (suc w)) (r .0), lt-ltb (suc (suc w)) (firstHalfspace + mostRows) (omega arith))
+    simp (leaf-halfspace (suc (suc w)) (omega arith), le-leb firstHalfspace (suc (suc w)) (r .0), lt-ltb (suc (suc w)) (firstHalfspace + mostRows) (omega arith))
 
 operator-names : (w : ℕ) → isOperator w ≡ true → _≡_ {A = ℕ} (cond (namesHalfspace w) 1 0) 0
 operator-names w o = by (leb 2 w) (leb w 4) refl o
@@ -225,6 +228,15 @@ pub tree-leaves : (rows : ℕ) (ws : List ℕ) → treeRefusal rows ws ≡ 0 →
 unfolding leavesOf
 tree-leaves rows ws accepted h = omega (arith, run-leaves h (reads ws [] (treeOf rows ws) (accepted-tree rows ws accepted)))
 
+pub halfspace-words-most : (ws : List ℕ) → halfspaceWords ws ≤ length ws
+unfolding halfspaceWords
+halfspace-words-most [] = omega arith
+halfspace-words-most (w ∷ ws) = by (namesHalfspace w) (halfspace-words-most ws)
+  where
+    by : (b : Bool) → halfspaceWords ws ≤ length ws → cond b 1 0 + halfspaceWords ws ≤ suc (length ws)
+    by true h = omega arith
+    by false h = omega arith
+
 data AllInRows (rows : ℕ) : List Tree → Type 0 where
   none-in : AllInRows rows []
   more-in : {t : Tree} {ts : List Tree} → InRows rows t → AllInRows rows ts → AllInRows rows (t ∷ ts)
@@ -233,7 +245,7 @@ leaf-in : (rows w : ℕ) → isLeaf rows w ≡ true → InRows rows (leaf (leafO
 leaf-in rows zero l = white-in
 leaf-in rows (suc zero) l = black-in
 leaf-in rows (suc (suc w)) l =
-    simp (ne-eqb (suc (suc w)) 0 (omega arith), ne-eqb (suc (suc w)) 1 (omega arith)) (halfspace-in (leaf-row rows (suc (suc w)) l (omega arith) .1))
+    rw (leaf-halfspace (suc (suc w)) (omega arith)) (halfspace-in (leaf-row rows (suc (suc w)) l (omega arith) .1))
 
 run-in : {rows : ℕ} {ws : List ℕ} {pending : List Tree} {t : Tree} → Reads leaf node rows ws pending t → AllInRows rows pending → InRows rows t
 run-in ended (more-in p none-in) = p
@@ -243,7 +255,7 @@ run-in (joined o r) (more-in q (more-in p ps)) = run-in r (more-in (node-in p q)
 pub tree-in-rows : (rows : ℕ) (ws : List ℕ) → treeRefusal rows ws ≡ 0 → InRows rows (treeOf rows ws)
 tree-in-rows rows ws accepted = run-in (reads ws [] _ (accepted-tree rows ws accepted)) none-in
 
--- ---- the refusal by the number of shapes pending alone: the machine with no meaning at all
+-- the refusal by the number of shapes pending alone: the machine with no meaning at all
 abbrev blankLeaf : Leaf → Unit {0}
 blankLeaf l = tt {0}
 
@@ -325,18 +337,19 @@ module _ {rows : ℕ} {ws : List ℕ} {n i : ℕ} (m : Counting rows ws n i) whe
         by (suc zero) f = absurd (omega arith)
         by (suc (suc k)) f = rw sub-one (ap refusalOf (on-operator blankLeaf blankNode rows _ _ (tt {0}) (tt {0}) (blanks k) o))
 
--- ---- the count of the words that name a halfspace: i words are read, and n of them did
-pub record Named (ws : List ℕ) (n i : ℕ) : Type 0 where
-  pub read : i ≤ length ws
-  pub few : n ≤ i
-  pub same : halfspaceWords ws ≡ n + halfspaceWords (drop i ws)
-
+-- a word from 256 on names a halfspace where it is below 256 + 256
 pub below-shifted : (w : ℕ) → firstHalfspace ≤ w → ltb (w - firstHalfspace) mostRows ≡ ltb w (firstHalfspace + mostRows)
 below-shifted w h = by (ltb w (firstHalfspace + mostRows)) refl
   where
     by : (b : Bool) → ltb w (firstHalfspace + mostRows) ≡ b → ltb (w - firstHalfspace) mostRows ≡ b
     by true t = lt-ltb (w - firstHalfspace) mostRows (omega (arith, ltb-true w (firstHalfspace + mostRows) t))
     by false t = le-ltb (w - firstHalfspace) mostRows (omega (arith, ltb-false w (firstHalfspace + mostRows) t))
+
+-- the count of the words that name a halfspace: i words are read, and n of them did
+pub record Named (ws : List ℕ) (n i : ℕ) : Type 0 where
+  pub read : i ≤ length ws
+  pub few : n ≤ i
+  pub same : halfspaceWords ws ≡ n + halfspaceWords (drop i ws)
 
 pub named-start : (ws : List ℕ) → Named ws 0 0
 named-start ws = record { read = omega arith; few = omega arith; same = omega arith }

@@ -34,7 +34,7 @@ meaning rows w =
     (cond (eqb w 4) (join minus)
     (cond (leb firstHalfspace w && ltb (w - firstHalfspace) rows) (push (halfspace (w - firstHalfspace))) unknown)))))
 
--- the same by a word's number alone: whether it joins, and with what; whether it pushes, and which leaf
+-- the same by a word's number alone: whether it joins, and with what; whether it pushes, and which leaf (`meaning-is` of proofs/Words.antt)
 abbrev pub isOperator : ℕ → Bool
 isOperator w = leb 2 w && leb w 4
 
@@ -66,6 +66,7 @@ abbrev pub andThen : {A B : Type 0} → Outcome A → (A → Outcome B) → Outc
 andThen (refused f) next = refused f
 andThen (made a) next = next a
 
+-- what is made, under a meaning
 abbrev pub mapOutcome : {A B : Type 0} → (A → B) → Outcome A → Outcome B
 mapOutcome f (refused fault) = refused fault
 mapOutcome f (made a) = made (f a)

@@ -1,1 +1,180 @@
-// Halfspaces and trees.
+// Halfspaces and trees: whether rows are halfspaces of a universe, and whether words are a tree over them.
+use universe::Universe;
+ghost use mathlib.Core.Path.{_≡_};
+ghost use mathlib.Core.Bool.{cond, _&&_};
+ghost use Prim.Native.Nat.{_+_, _*_, _≤_};
+ghost use lib.Dec.{leb, ltb};
+ghost use lib.IntN.{natAbs};
+ghost use lib.Signed.{leZ};
+ghost use Rattle.universe.specs.Universe.{offsetLimit, coefficientLimit};
+ghost use Rattle.csg.specs.Halfspace.{rowLength, rowAt, withinLimits, rowsRefusal};
+ghost use Rattle.csg.specs.Words.{isOperator, isLeaf, treeRefusal, namesHalfspace, halfspaceWords};
+
+// At most 256 halfspaces, five whole numbers to each.
+pub const MOST_ROWS: usize = 256;
+
+pub const ROW_LENGTH: usize = 5;
+
+// At most 255 words a tree, 32 shapes pending.
+pub const MOST_WORDS: usize = 255;
+
+pub const MOST_PENDING: usize = 32;
+
+// The words: five that name themselves, and from 256 on those that name a halfspace.
+pub const WHITE: u16 = 0;
+
+pub const BLACK: u16 = 1;
+
+pub const UNION: u16 = 2;
+
+pub const INTERSECTION: u16 = 3;
+
+pub const MINUS: u16 = 4;
+
+pub const FIRST_HALFSPACE: u16 = 256;
+
+// Whether a number is from least to most.
+fn between(least: i64, value: i64, most: i64) -> bool
+    ensures { λ r. ⌜ r ≡ (leZ least value && leZ value most) ⌝ }
+{
+    if least <= value { value <= most } else { false }
+}
+
+// Whether a0 is within its limit.
+fn offset_within(value: i64) -> bool
+    ensures { λ r. ⌜ r ≡ leb (natAbs value) offsetLimit ⌝ }
+{
+    between(-Universe::OFFSET_LIMIT, value, Universe::OFFSET_LIMIT)
+}
+
+// Whether the coefficient of an axis is within its limit, which is 0 above the universe's axes.
+fn coefficient_within(axes: u64, axis: u64, value: i64) -> bool
+    ensures { λ r. ⌜ r ≡ leb (natAbs value) (cond (ltb axis axes) coefficientLimit 0) ⌝ }
+{
+    if axes <= axis {
+        return between(0, value, 0);
+    }
+    between(
+        -Universe::COEFFICIENT_LIMIT,
+        value,
+        Universe::COEFFICIENT_LIMIT,
+    )
+}
+
+// Whether a row of the rows, one that is there whole, is within the limits.
+fn row_within(universe: Universe, rows: &[i64], row: usize) -> bool
+    requires { do ⌜ rowLength * row + rowLength ≤ (← ⟦rows.len()⟧) ⌝ }
+    ensures { λ r. ⌜ r ≡ withinLimits universe (rowAt (now (rows .entry)) row) ⌝ }
+{
+    let start = ROW_LENGTH * row;
+    if !offset_within(rows[start]) {
+        return false;
+    }
+    let mut axis: u64 = 0;
+    while axis < Universe::MOST_AXES {
+        if !coefficient_within(universe.axes, axis, rows[start + 1 + axis as usize]) {
+            return false;
+        }
+        axis += 1;
+    }
+    true
+}
+
+// 3 where rows are not in fives, are too many, or exceed a limit of the universe, else 0.
+pub fn check_rows(universe: Universe, rows: &[i64]) -> u64
+    ensures { λ r. ⌜ r ≡ rowsRefusal universe (now (rows .entry)) ⌝ }
+{
+    if rows.len() % ROW_LENGTH != 0 {
+        return 3;
+    }
+    let count = rows.len() / ROW_LENGTH;
+    if MOST_ROWS < count {
+        return 3;
+    }
+    let mut row: usize = 0;
+    while row < count {
+        if !row_within(universe, rows, row) {
+            return 3;
+        }
+        row += 1;
+    }
+    0
+}
+
+// Whether a word joins two shapes.
+pub fn is_operator(word: u16) -> bool
+    ensures { λ r. ⌜ r ≡ isOperator word ⌝ }
+{
+    if word < UNION {
+        return false;
+    }
+    word <= MINUS
+}
+
+// Whether a word pushes a shape, where there are so many rows.
+fn is_leaf(rows: u64, word: u16) -> bool
+    ensures { λ r. ⌜ r ≡ isLeaf rows word ⌝ }
+{
+    if word <= BLACK {
+        return true;
+    }
+    if word < FIRST_HALFSPACE {
+        return false;
+    }
+    ((word - FIRST_HALFSPACE) as u64) < rows
+}
+
+// 5 where a tree has too many words or shapes pending, 4 where words are no tree over so many rows, else 0.
+pub fn check_tree(rows: u64, words: &[u16]) -> u64
+    ensures { λ r. ⌜ r ≡ treeRefusal rows (now (words .entry)) ⌝ }
+{
+    if MOST_WORDS < words.len() {
+        return 5;
+    }
+    let mut pending: usize = 0;
+    let mut i: usize = 0;
+    while i < words.len() {
+        let word = words[i];
+        if is_operator(word) {
+            if pending < 2 {
+                return 4;
+            }
+            pending -= 1;
+        } else {
+            if !is_leaf(rows, word) {
+                return 4;
+            }
+            if MOST_PENDING <= pending {
+                return 5;
+            }
+            pending += 1;
+        }
+        i += 1;
+    }
+    if pending == 1 { 0 } else { 4 }
+}
+
+// Whether a word names a halfspace.
+fn names_halfspace(word: u16) -> bool
+    ensures { λ r. ⌜ r ≡ namesHalfspace word ⌝ }
+{
+    if word < FIRST_HALFSPACE {
+        return false;
+    }
+    ((word - FIRST_HALFSPACE) as usize) < MOST_ROWS
+}
+
+// How many of the words name a halfspace.
+pub fn halfspace_words(words: &[u16]) -> u64
+    ensures { λ r. ⌜ r ≡ halfspaceWords (now (words .entry)) ⌝ }
+{
+    let mut count: u64 = 0;
+    let mut i: usize = 0;
+    while i < words.len() {
+        if names_halfspace(words[i]) {
+            count += 1;
+        }
+        i += 1;
+    }
+    count
+}

@@ -5,7 +5,7 @@ use Prim.Native.Nat.{ℕ, zero, suc, _+_, _*_, _^_, _≤_, _<_}
 use native.Mathlib.Omega.{arith}
 use native.Mathlib.Nat.{mul-le-mul, le-refl, not-suc-le-zero, pow-zero, pow-suc}
 use native.Mathlib.Decide.{ℕ-discrete}
-use lib.IntN.{ℤ, pos, _+ℤ_}
+use lib.IntN.{ℤ, _+ℤ_}
 use Rattle.lemmas.specs.Sums.{sum, total, product, every}
 
 -- what holds at each place below n + 1 holds at each below n, and at n
@@ -122,6 +122,10 @@ and-right false c h = let z : _≡_ {A = ℕ} 0 1 = cc in absurd (omega arith)
 
 pub and-both : {b c : Bool} → b ≡ true → c ≡ true → b && c ≡ true
 and-both h k = rw (h, k)
+
+pub and-false : (b : Bool) → b && false ≡ false
+and-false true = refl
+and-false false = refl
 
 pub every-all : (n : ℕ) (p : ℕ → Bool) → every n p ≡ true → (i : ℕ) → i < n → p i ≡ true
 unfolding every

@@ -1,12 +1,13 @@
 -- The universe: what acceptance gives, how often each axis is halved, and how long and how many blocks are along it. Only `axis-below`, the closed
--- form of `halvings` and `halvings-all` look at how the axes take turns; every other law follows from these, one halving at a time.
+-- form of `halvings` and `halvings-all` look at how the axes take turns, and only `levels-few` and `side-few` at how many bits there may be; every other
+-- law follows from these, one halving at a time.
 use mathlib.Core.Path.{_≡_, refl, sym, ap, _∙_}
 use mathlib.Core.Bool.{Bool, true, _&&_}
 use Prim.Native.Nat.{ℕ, zero, suc, _+_, _-_, _*_, _/_, _%_, _^_, _≤_, _<_}
 use native.Mathlib.Omega.{arith}
 use native.Mathlib.Nat.{mod-lt, div-add-mod', div-eq-of-lt-le, pow-succ', sub-self, sub-zero, le-refl, mul-le-mul}
 use native.Mathlib.Decide.{ℕ-discrete, decLe}
-use lib.Dec.{leb, eqb}
+use lib.Dec.{leb}
 use lib.Pow.{pow-pos, pow-mono, pow-add}
 use borrow.Author.Tests.{leb-true, le-leb, eq-eqb, ne-eqb}
 use Rattle.lemmas.specs.Sums.{product}
@@ -48,7 +49,7 @@ side-few u a i = pow-mono (a .few-bits)
 -- ---- the axes in turn
 
 pub axis-below : (u : Universe) → 0 < u .axes → (l : ℕ) → axisAt u l < u .axes
-axis-below u h l = mod-lt l h
+axis-below u h l = mod-lt _ h
 
 -- a quotient by its bounds
 quotient : {n : ℕ} (q d : ℕ) → q * d ≤ n → n < q * d + d → n / d ≡ q

@@ -46,7 +46,7 @@ placedAlong b i =
     (eqb (lowAlong b i % lengthAlong b i) 0 && ltb (lowAlong b i) (sideAlong (b .universe) i))
     (eqb (lowAlong b i) 0)
 
--- whether a block is given: `given-is` of proofs/Block.antt shows this test equal to `Given`
+-- whether a block is given: `given-is` of proofs/Blocks.antt shows this test equal to `Given`
 unfoldable pub isGiven : Block → Bool
 isGiven b = eqb (universeRefusal (b .universe)) 0 && leb (b .level) (levels (b .universe)) && every mostAxes (placedAlong b)
 

@@ -1,7 +1,10 @@
 // The universe of space and time, and its blocks.
 ghost use mathlib.Core.Path.{_≡_};
-ghost use Rattle.universe.specs.Universe.{universeRefusal};
-ghost use Rattle.universe.specs.Block.{wholeBlock, lowHalf, highHalf, bothHalves};
+ghost use mathlib.Core.Bool.{_&&_};
+ghost use Prim.Native.Nat.{_≤_, _<_};
+ghost use lib.Dec.{ltb};
+ghost use Rattle.universe.specs.Universe.{universeRefusal, mostAxes, levels, axisAt, blockSide};
+ghost use Rattle.universe.specs.Block.{wholeBlock, placedAlong, isGiven, lowHalf, highHalf, bothHalves};
 
 // Axes and bits, any numbers: `refusal` says whether they are a universe's.
 pub struct Universe {
@@ -13,7 +16,7 @@ pub struct Universe {
 pub struct Block {
     pub universe: Universe,
     pub level: u64,
-    pub low: [u64; 4],
+    pub low: [u64; Universe::MOST_AXES as usize],
 }
 
 // Both halves of one block.
@@ -52,6 +55,33 @@ impl Universe {
         0
     }
 
+    // The levels of halving.
+    fn levels(self) -> u64
+        requires { ⌜ universeRefusal self ≡ 0 ⌝ }
+        ensures { λ r. ⌜ r ≡ levels self ⌝ }
+    {
+        self.axes * self.bits
+    }
+
+    // The axis across which a block of a level is halved.
+    fn axis_at(self, level: u64) -> u64
+        requires { ⌜ universeRefusal self ≡ 0 ⌝ }
+        ensures { λ r. ⌜ r ≡ axisAt self level ⌝ }
+    {
+        level % self.axes
+    }
+
+    // The length of a block of a level along an axis: the bits that its halvings leave.
+    fn block_side(self, level: u64, axis: u64) -> u64
+        requires { ⌜ universeRefusal self ≡ 0 ⌝ }
+        requires { ⌜ level ≤ levels self ⌝ }
+        requires { ⌜ axis < self .axes ⌝ }
+        ensures { λ r. ⌜ r ≡ blockSide self level axis ⌝ }
+    {
+        let halvings = (level + (self.axes - 1 - axis)) / self.axes;
+        1u64 << (self.bits - halvings)
+    }
+
     // The block of a whole universe.
     pub fn whole(universe: Universe) -> Block
         ensures { λ r. ⌜ r ≡ wholeBlock universe ⌝ }
@@ -59,7 +89,91 @@ impl Universe {
         Block {
             universe: universe,
             level: 0,
-            low: [0u64; 4],
+            low: [0u64; Universe::MOST_AXES as usize],
+        }
+    }
+}
+
+impl Block {
+    // Whether a block begins at a multiple of its length inside the universe along an axis, and at 0 above the universe's axes.
+    fn is_placed(self, axis: u64) -> bool
+        requires { ⌜ universeRefusal (self .universe) ≡ 0 ⌝ }
+        requires { ⌜ self .level ≤ levels (self .universe) ⌝ }
+        requires { ⌜ axis < mostAxes ⌝ }
+        ensures { λ r. ⌜ r ≡ placedAlong self axis ⌝ }
+    {
+        let low = self.low[axis as usize];
+        if self.universe.axes <= axis {
+            return low == 0;
+        }
+        if low % self.universe.block_side(self.level, axis) != 0 {
+            return false;
+        }
+        low < self.universe.block_side(0, axis)
+    }
+
+    // Whether halving the first block gives this block.
+    fn is_given(self) -> bool
+        ensures { λ r. ⌜ r ≡ isGiven self ⌝ }
+    {
+        if self.universe.refusal() != 0 {
+            return false;
+        }
+        if self.universe.levels() < self.level {
+            return false;
+        }
+        let mut axis: u64 = 0;
+        while axis < Universe::MOST_AXES {
+            if !self.is_placed(axis) {
+                return false;
+            }
+            axis += 1;
+        }
+        true
+    }
+
+    // Whether it has halves of its own.
+    fn is_halved(self) -> bool
+        ensures { λ r. ⌜ r ≡ (isGiven self && ltb (self .level) (levels (self .universe))) ⌝ }
+    {
+        if self.is_given() {
+            return self.level < self.universe.levels();
+        }
+        false
+    }
+
+    // The low half: the same place, one level on. A block with no halves of its own yields itself.
+    pub fn low_half(self) -> Block
+        ensures { λ r. ⌜ r ≡ lowHalf self ⌝ }
+    {
+        let mut half = self;
+        if self.is_halved() {
+            half.level = self.level + 1;
+        }
+        half
+    }
+
+    // The high half: half the block's length further along the axis, one level on. A block with no halves of its own yields itself.
+    pub fn high_half(self) -> Block
+        ensures { λ r. ⌜ r ≡ highHalf self ⌝ }
+    {
+        let mut half = self;
+        if self.is_halved() {
+            let axis = self.universe.axis_at(self.level);
+            half.low[axis as usize] = self.low[axis as usize]
+                + self.universe.block_side(self.level + 1, axis);
+            half.level = self.level + 1;
+        }
+        half
+    }
+
+    // Both halves of the one block.
+    pub fn halves(self) -> Halves
+        ensures { λ r. ⌜ r ≡ bothHalves self ⌝ }
+    {
+        Halves {
+            low: self.low_half(),
+            high: self.high_half(),
         }
     }
 }

@@ -1,0 +1,62 @@
+-- `halfspace_words` gives halfspaceWords: the loop counts those of the words that it has read.
+use Prim.Native.Nat.{_-_}
+use mathlib.Core.Path.{sym, _∙_}
+use mathlib.Core.Logic.{⊎-elim}
+use borrow.Author.Needs.{needs}
+use lib.ListN.{length}
+use Rattle.csg.proofs.Words.{Named, named-start, named-more, named-same, named-end}
+use Rattle.csg.proofs.halfspace_words.Statement.{statement}
+use Rattle.csg.proofs.halfspace_words.Tie as tie
+
+abbrev Inv-loop : tie.InvT-loop
+Inv-loop words count₀ i₀ count i = Named words count i
+
+abbrev μ-loop : tie.MeasureT-loop
+μ-loop words count₀ i₀ count i = length words - i
+
+loop-holds : tie.Need-loop-holds Inv-loop μ-loop
+loop-holds c = named-start _
+
+mul-names-halfspace : tie.Need-mul-names-halfspace Inv-loop μ-loop
+mul-names-halfspace c = search needs
+
+shared-slice-read-names-halfspace : tie.Need-shared-slice-read-names-halfspace Inv-loop μ-loop
+shared-slice-read-names-halfspace c = search needs
+
+names-halfspace-requires : tie.Need-names-halfspace-requires Inv-loop μ-loop
+names-halfspace-requires c κs = search needs
+
+add-count : tie.Need-add-count Inv-loop μ-loop
+add-count c = search needs
+
+add-i : tie.Need-add-i Inv-loop μ-loop
+add-i c = search needs
+
+loop-less : tie.Need-loop-less Inv-loop μ-loop
+loop-less c = search needs
+
+loop-again : tie.Need-loop-again Inv-loop μ-loop
+loop-again c =
+    let f = sym (c .before .names-halfspace .ensures) in
+    let l = c .before .before .before .before .loop in
+    let h = c .before .before .before .loop-test .taken in
+    ⊎-elim (λ w. rw (w .1) (named-more (l .inv) h (f ∙ w .0 .taken))) (λ w. rw (w .1) (named-same (l .inv) h (f ∙ w .0 .left))) (c .if1 .came)
+
+returns : tie.Need-returns Inv-loop μ-loop
+returns c = named-end (c .before .loop .inv) (c .loop-test .left)
+
+pub halfspace-words-spec : {M : Type 1} → statement M
+halfspace-words-spec =
+    tie.close
+    (tie.spec
+    Inv-loop
+    μ-loop
+    loop-holds
+    mul-names-halfspace
+    shared-slice-read-names-halfspace
+    names-halfspace-requires
+    add-count
+    add-i
+    loop-less
+    loop-again
+    returns)
