@@ -4,3 +4,4 @@ pub mod Whole
 pub mod Machine
 pub mod Totals
 pub mod Grid
+pub mod Stores

@@ -5,3 +5,4 @@ pub mod Multiples
 pub mod Blocks
 pub mod Voxel
 pub mod Rooms
+pub mod Levels

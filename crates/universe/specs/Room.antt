@@ -1,8 +1,13 @@
 -- Document 01, "Expressions": room, for N halfspace words in all trees of the run.
-use Prim.Native.Nat.{ℕ, _+_, _*_, _-_, min}
+use Prim.Native.Nat.{ℕ, _+_, _*_, _-_, _^_, _≤_, _<_, min}
+use mathlib.Core.Bool.{cond}
+use mathlib.Core.List.{List}
+use lib.Dec.{eqb}
+use lib.ListN.{getD}
 use Rattle.lemmas.specs.Sums.{sum, product}
 use Rattle.universe.specs.declared.Universe.{Universe}
-use Rattle.universe.specs.Universe.{levels, blocksAlong}
+use Rattle.universe.specs.declared.room.RoomAnswer.{RoomAnswer}
+use Rattle.universe.specs.Universe.{mostAxes, mostBits, universeRefusal, levels, blocksAlong}
 
 -- "at level l let ni be the blocks along axis i": their number, and that of those that touch no low face
 unfoldable pub blocksAt : Universe → ℕ → ℕ
@@ -18,3 +23,16 @@ levelCount u leaves l = min (blocksAt u l) (leaves * (blocksAt u l - innerBlocks
 -- "Room is 1 + 2 × the sum over levels 0 to L−1."
 unfoldable pub room : Universe → ℕ → ℕ
 room u leaves = 1 + 2 * sum (levels u) (levelCount u leaves)
+
+-- what the room question answers: 0 and room, or the universe's refusal and zero
+unfoldable pub roomAnswer : Universe → ℕ → RoomAnswer
+roomAnswer u leaves =
+    cond (eqb (universeRefusal u) 0)
+    (record { refusal = 0; symbols = room u leaves })
+    (record { refusal = universeRefusal u; symbols = 0 })
+
+-- what the code asks where it multiplies: few axes, and along each of them some blocks, no more than the longest side has units
+pub record FewBlocks (axes : ℕ) (blocks : List ℕ) : Type 0 where
+  pub few : axes ≤ mostAxes
+  pub some : (i : ℕ) → i < axes → 0 < getD blocks i 0
+  pub most : (i : ℕ) → i < axes → getD blocks i 0 ≤ 2 ^ mostBits

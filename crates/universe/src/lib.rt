@@ -1,4 +1,7 @@
 // The universe of space and time, and its blocks.
+mod room;
+
+pub use room::RoomAnswer;
 ghost use mathlib.Core.Path.{_≡_};
 ghost use mathlib.Core.Bool.{_&&_};
 ghost use Prim.Native.Nat.{_≤_, _<_};

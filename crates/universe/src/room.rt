@@ -1,0 +1,78 @@
+// The room question: how many symbols an expression takes at the most.
+use crate::Universe;
+ghost use mathlib.Core.Path.{_≡_};
+ghost use Prim.Native.Nat.{_*_, _-_, _≤_, _<_, min};
+ghost use lib.ListN.{getD};
+ghost use Rattle.lemmas.specs.Sums.{product};
+ghost use Rattle.universe.specs.Universe.{universeRefusal};
+ghost use Rattle.universe.specs.Room.{room, roomAnswer, FewBlocks};
+
+// What the room question answers: 0 and room in symbols, or 2 and 0.
+pub struct RoomAnswer {
+    pub refusal: u64,
+    pub symbols: u64,
+}
+
+// The product over the axes of the blocks along each, less 0 or 1.
+fn product_less(axes: usize, blocks: [u64; 4], less: u64) -> u64
+    requires { ⌜ FewBlocks axes blocks ⌝ }
+    requires { ⌜ less ≤ 1 ⌝ }
+    ensures { λ r. ⌜ r ≡ product axes (λ i. getD blocks i 0 - less) ⌝ }
+{
+    let mut found: u64 = 1;
+    let mut axis: usize = 0;
+    while axis < axes {
+        found *= blocks[axis] - less;
+        axis += 1;
+    }
+    found
+}
+
+// The smaller of all blocks of a level and of the leaves times the blocks that are not inner ones. Their product is not formed where it exceeds all.
+fn level_count(leaves: u64, all: u64, inner: u64) -> u64
+    requires { ⌜ inner < all ⌝ }
+    ensures { λ r. ⌜ r ≡ min all (leaves * (all - inner)) ⌝ }
+{
+    let outer = all - inner;
+    if all / outer < leaves {
+        return all;
+    }
+    leaves * outer
+}
+
+// Room in a universe that is not refused, level by level: the blocks along each axis are doubled in turn.
+fn room_accepted(universe: Universe, leaves: u64) -> u64
+    requires { ⌜ universeRefusal universe ≡ 0 ⌝ }
+    ensures { λ r. ⌜ r ≡ room universe leaves ⌝ }
+{
+    let mut blocks = [1u64; 4];
+    let mut sum: u64 = 0;
+    let mut level: u64 = 0;
+    while level < universe.axes * universe.bits {
+        let all = product_less(universe.axes as usize, blocks, 0);
+        let inner = product_less(universe.axes as usize, blocks, 1);
+        sum += level_count(leaves, all, inner);
+        blocks[(level % universe.axes) as usize] *= 2;
+        level += 1;
+    }
+    1 + 2 * sum
+}
+
+impl Universe {
+    // How many symbols an expression takes at the most, for so many halfspace words in all trees of the run.
+    pub fn room(self, leaves: u64) -> RoomAnswer
+        ensures { λ r. ⌜ r ≡ roomAnswer self leaves ⌝ }
+    {
+        let refusal = self.refusal();
+        if refusal != 0 {
+            return RoomAnswer {
+                refusal: refusal,
+                symbols: 0,
+            };
+        }
+        RoomAnswer {
+            refusal: 0,
+            symbols: room_accepted(self, leaves),
+        }
+    }
+}
