@@ -2,3 +2,9 @@
 pub mod Counting
 pub mod Crossing
 pub mod Room
+pub mod Colours
+pub mod Grids
+pub mod Voxels
+pub mod Verdicts
+pub mod Fixed
+pub mod Theorems
