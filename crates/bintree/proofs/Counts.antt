@@ -1,18 +1,18 @@
 -- Counts of black voxels: halving a block halves its voxels, so merging keeps volume and frames; and the frames add up to the volume.
 use mathlib.Core.Path.{_≡_, refl, sym, ap, ap₂, _∙_}
 use mathlib.Core.Bool.{Bool, true, false}
-use Prim.Native.Nat.{ℕ, zero, suc, _+_, _-_, _*_, _/_, _%_, _^_, _≤_, _<_, max}
-use native.Mathlib.Nat.{le-max-left, le-max-right, mod-lt, div-eq-of-lt-le}
-use native.Mathlib.Decide.{ℕ-discrete, decLt}
+use Prim.Native.Nat.{ℕ, zero, suc, _+_, _*_, _/_, _%_, _≤_, _<_}
+use native.Mathlib.Nat.{le-max-left, le-max-right, div-eq-of-lt-le}
+use native.Mathlib.Decide.{ℕ-discrete}
 use native.Mathlib.Omega.{arith}
 use borrow.Author.Tests.{eq-eqb, ne-eqb}
 use lib.Dec.{eqb}
 use Rattle.lemmas.specs.Sums.{sum, product}
-use Rattle.lemmas.proofs.Sums.{sum-cong, sum-add, sum-mono, product-cong, product-scaled}
+use Rattle.lemmas.proofs.Sums.{sum-cong, sum-add, product-cong, product-scaled}
 use Rattle.universe.specs.declared.Universe.{Universe}
 use Rattle.universe.specs.Universe.{levels, axisAt, frameAxis, frameCount, blockSide}
 use Rattle.universe.specs.Voxel.{halfAt}
-use Rattle.universe.proofs.Universes.{axis-below, side-positive, side-first, side-halved, side-kept, voxels-halved}
+use Rattle.universe.proofs.Universes.{axis-below, side-first, side-halved, side-kept, voxels-halved}
 use Rattle.bintree.specs.declared.Colour.{Colour}
 use Rattle.bintree.specs.declared.Colour.the-variants.{White, Black}
 use Rattle.bintree.specs.Shape.{Shape, leaf, halved, depth}

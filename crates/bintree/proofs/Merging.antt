@@ -3,7 +3,7 @@
 use mathlib.Core.Path.{_≡_, refl, sym, ap, subst, _∙_}
 use mathlib.Core.Bool.{Bool, true, false, cond, not, _&&_}
 use mathlib.Core.List.{List, [], _∷_, _++_, append-assoc, append-nil}
-use Prim.Native.Nat.{ℕ, zero, suc, _+_, _-_, _≤_, _<_, max, suc-le-suc}
+use Prim.Native.Nat.{ℕ, zero, suc, _+_, _-_, _≤_, _<_, max}
 use native.Mathlib.Nat.{max-le, le-max-left, le-max-right}
 use native.Mathlib.Decide.{decLt}
 use native.Mathlib.Omega.{arith}
@@ -77,7 +77,7 @@ apart a b e =
 not-both : {t : Bool} → t ≡ true → t ≡ false → ⊥
 not-both e f = let z : _≡_ {A = ℕ} 0 1 = cc in omega arith
 
-join-apart : {a b j : Shape} → Joined a b j → isPair a b ≡ false → j ≡ halved a b
+pub join-apart : {a b j : Shape} → Joined a b j → isPair a b ≡ false → j ≡ halved a b
 join-apart (one c) e = absurd (not-both (pair-leaves c) e)
 join-apart (two p) e = refl
 

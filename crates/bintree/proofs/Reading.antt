@@ -17,7 +17,7 @@ use Rattle.bintree.specs.declared.Colour.{Colour}
 use Rattle.bintree.specs.declared.Colour.the-variants.{White, Black}
 use Rattle.bintree.specs.Shape.{Shape, leaf, halved, openSymbol, symbolOf, symbols, size, depth}
 use Rattle.bintree.specs.Reading.{Reading, none, read, readLeaf, withHigh, readHalves, readAt, exactly, expression, refusalOf, expressionRefusal}
-use Rattle.bintree.proofs.Shape.{length-symbols, size-positive, depth-low, depth-high, halved-deep, symbol-not-zero, symbol-not-open}
+use Rattle.bintree.proofs.Shape.{length-symbols, depth-low, depth-high, halved-deep, symbol-not-zero, symbol-not-open}
 
 -- what is read at a place, by the symbol there
 pub leaf-read : (c : Colour) → readLeaf (symbolOf c) ≡ read (leaf c)
@@ -69,6 +69,26 @@ module _ (s : List ℕ) where
     pub both-parts : (a b : Shape) → readAt s n (suc p) ≡ read a → readAt s n (suc p + size a) ≡ read b → readAt s (suc n) p ≡ read (halved a b)
     unfolding readHalves withHigh
     both-parts a b l r = open-suc n p e ∙ rw (l, r)
+
+  -- the same with the numbers of code: the levels left are not 0, and the parts have one less
+  module _ (n p : ℕ) (e : getD s p 0 ≡ openSymbol) (h : n ≡ 0 → ⊥) where
+    pub low-missing : readAt s (n - 1) (p + 1) ≡ none → readAt s n p ≡ none
+    low-missing l =
+        let d : n ≡ suc (n - 1) = omega arith in
+        let q : p + 1 ≡ suc p = omega arith in
+        ap (λ m. readAt s m p) d ∙ no-low (n - 1) p e (rw q at l)
+
+    pub high-missing : (a : Shape) → readAt s (n - 1) (p + 1) ≡ read a → readAt s (n - 1) (p + 1 + size a) ≡ none → readAt s n p ≡ none
+    high-missing a l r =
+        let d : n ≡ suc (n - 1) = omega arith in
+        let q : p + 1 ≡ suc p = omega arith in
+        ap (λ m. readAt s m p) d ∙ no-high (n - 1) p e a (rw q at l) (rw q at r)
+
+    pub both-read : (a b : Shape) → readAt s (n - 1) (p + 1) ≡ read a → readAt s (n - 1) (p + 1 + size a) ≡ read b → readAt s n p ≡ read (halved a b)
+    both-read a b l r =
+        let d : n ≡ suc (n - 1) = omega arith in
+        let q : p + 1 ≡ suc p = omega arith in
+        ap (λ m. readAt s m p) d ∙ both-parts (n - 1) p e a b (rw q at l) (rw q at r)
 
 -- a shape's symbols stand in s from a place on
 pub data Stands (s : List ℕ) : ℕ → ℕ → Shape → Type 0 where

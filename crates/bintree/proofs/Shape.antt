@@ -1,7 +1,6 @@
 -- Sizes of shapes: `size` is the length of the expression, it is odd, hence at least 1; and depth bounds the depth of both halves.
 use mathlib.Core.Path.{_≡_, refl}
-use mathlib.Core.List.{_++_}
-use Prim.Native.Nat.{ℕ, suc, _+_, _%_, _≤_, max}
+use Prim.Native.Nat.{ℕ, suc, _%_, _≤_}
 use native.Mathlib.Nat.{le-max-left, le-max-right}
 use native.Mathlib.Omega.{arith}
 use lib.ListN.{length, length-append}

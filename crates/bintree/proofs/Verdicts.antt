@@ -1,17 +1,15 @@
 -- Verdicts over a window, both ends in: Clear exactly where no frame of the window has a black voxel, and otherwise Hit with the first and the
 -- last frame that has one and the sum of all. Frames are named by any test, and a window of n frames by its first.
-use mathlib.Core.Path.{_≡_, refl, sym, ap, _∙_}
+use mathlib.Core.Path.{_≡_, refl, ap, _∙_}
 use mathlib.Core.Bool.{Bool, true, false, cond}
 use Prim.Native.Nat.{ℕ, zero, suc, _+_, _-_, _≤_, _<_}
 use native.Mathlib.Decide.{decLt}
 use native.Mathlib.Omega.{arith}
 use borrow.Author.Tests.{ltb-true, ltb-false, lt-ltb, le-ltb}
-use lib.Dec.{ltb}
 use Rattle.lemmas.specs.Sums.{sum}
 use Rattle.lemmas.proofs.Sums.{sum-zero, sum-part}
 use Rattle.universe.specs.declared.Universe.{Universe}
 use Rattle.bintree.specs.declared.Contact.{Contact}
-use Rattle.bintree.specs.declared.Verdict.{Verdict}
 use Rattle.bintree.specs.declared.Verdict.the-variants.{Clear, Hit}
 use Rattle.bintree.specs.Shape.{Shape}
 use Rattle.bintree.specs.Counts.{voxelsAt}

@@ -1,11 +1,43 @@
--- Document 01, "Numbers we say no with": what a call answers that writes symbols (or bytes) into lent room, and what the room holds after it.
+-- Document 01, "Numbers we say no with": what the questions answer. The first of the checks, in the order 2, 7, 9, that refuses is the answer's
+-- number, with all other fields zero; a call that writes symbols (or bytes) into lent room then asks for room, 6.
 use Prim.Native.Nat.{ℕ}
-use mathlib.Core.Bool.{Bool, cond, _&&_}
-use mathlib.Core.List.{List, _++_}
+use mathlib.Core.Bool.{cond, _&&_}
+use mathlib.Core.List.{List, [], _∷_, _++_}
 use lib.Dec.{leb, eqb}
 use lib.ListN.{length, drop}
-use Rattle.universe.specs.Refusals.{unless}
+use Rattle.universe.specs.declared.Universe.{Universe}
+use Rattle.universe.specs.Refusals.{unless, firstRefusal}
+use Rattle.universe.specs.Universe.{universeRefusal}
+use Rattle.universe.specs.Voxel.{voxelRefusal}
+use Rattle.bintree.specs.declared.Colour.the-variants.{White}
+use Rattle.bintree.specs.declared.Counted.{Counted}
+use Rattle.bintree.specs.declared.Coloured.{Coloured}
 use Rattle.bintree.specs.declared.Written.{Written}
+use Rattle.bintree.specs.Shape.{Shape, symbols}
+use Rattle.bintree.specs.Reading.{Reading, none, read, expression, expressionRefusal}
+use Rattle.bintree.specs.Merging.{merged}
+use Rattle.bintree.specs.Counts.{volume}
+use Rattle.bintree.specs.Parts.{colourAt}
+
+-- of the shape that is read, or what stands for it where there is none
+abbrev pub ofShape : {A : Type 0} → Reading → A → (Shape → A) → A
+ofShape none other of = other
+ofShape (read a) other of = of a
+
+-- the checks of an expression: 2, then 7
+abbrev pub expressionChecks : Universe → List ℕ → ℕ
+expressionChecks u s = firstRefusal (universeRefusal u ∷ expressionRefusal u s ∷ [])
+
+-- the black voxels of an expression
+unfoldable pub volumeAnswer : Universe → List ℕ → Counted
+volumeAnswer u s = record { refusal = expressionChecks u s; voxels = cond (eqb (expressionChecks u s) 0) (ofShape (expression u s) 0 (volume u)) 0 }
+
+-- the colour at a voxel: 9 comes after 7
+abbrev pub voxelChecks : Universe → List ℕ → List ℕ → ℕ
+voxelChecks u s v = firstRefusal (universeRefusal u ∷ expressionRefusal u s ∷ voxelRefusal u v ∷ [])
+
+unfoldable pub colourAnswer : Universe → List ℕ → List ℕ → Coloured
+colourAnswer u s v = record { refusal = voxelChecks u s v; colour = cond (eqb (voxelChecks u s v) 0) (ofShape (expression u s) White (λ a. colourAt u a v)) White }
 
 -- number 6 where what is needed exceeds the room lent
 abbrev pub roomRefusal : ℕ → ℕ → ℕ
@@ -21,3 +53,13 @@ writtenAnswer refusal out symbols =
 -- "Buffers are untouched by a refusal; on success bytes past the written length are untouched."
 unfoldable pub writtenBuffer : ℕ → List ℕ → List ℕ → List ℕ
 writtenBuffer refusal out symbols = cond (eqb refusal 0 && leb (length symbols) (length out)) (symbols ++ drop (length symbols) out) out
+
+-- merging writes the merged expression
+abbrev pub mergedSymbols : Universe → List ℕ → List ℕ
+mergedSymbols u s = ofShape (expression u s) [] (λ a. symbols (merged a))
+
+unfoldable pub mergeAnswer : Universe → List ℕ → List ℕ → Written
+mergeAnswer u s out = writtenAnswer (expressionChecks u s) out (mergedSymbols u s)
+
+unfoldable pub mergeBuffer : Universe → List ℕ → List ℕ → List ℕ
+mergeBuffer u s out = writtenBuffer (expressionChecks u s) out (mergedSymbols u s)

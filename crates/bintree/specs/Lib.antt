@@ -5,4 +5,5 @@ pub mod Merging
 pub mod Parts
 pub mod Counts
 pub mod Verdicts
+pub mod Walks
 pub mod Answers

@@ -1,4 +1,12 @@
 // Expressions: what their symbols say.
+mod count;
+mod lay;
+mod voxel;
+
+pub use count::volume;
+pub use count::well_formed;
+pub use lay::merge;
+pub use voxel::colour_at;
 
 // The two colours of a voxel.
 pub enum Colour {
@@ -23,4 +31,16 @@ pub enum Verdict {
 pub struct Written {
     pub refusal: u64,
     pub length: u64,
+}
+
+// What `volume` answers: a refusal and 0, or 0 and the black voxels.
+pub struct Counted {
+    pub refusal: u64,
+    pub voxels: u64,
+}
+
+// What `colour_at` answers: a refusal and White, or 0 and the colour.
+pub struct Coloured {
+    pub refusal: u64,
+    pub colour: Colour,
 }

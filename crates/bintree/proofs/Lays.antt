@@ -1,0 +1,326 @@
+-- What laying a merged tree into room tells and leaves. A leaf is held back until it is known that it does not merge with its brother, so that nothing
+-- is written in vain: the two parts, `(` and the two leaves that were held back make the whole (`parts-laid`).
+use mathlib.Core.Path.{_≡_, refl, sym, ap, _∙_}
+use mathlib.Core.Bool.{Bool, true, false}
+use mathlib.Core.List.{List}
+use Prim.Native.Nat.{ℕ, suc, _+_, _-_, _≤_, _<_, _^_}
+use native.Mathlib.Decide.{ℕ-discrete}
+use native.Mathlib.Omega.{arith}
+use borrow.Author.Needs.{needs}
+use borrow.Author.Tests.{eq-eqb, ne-eqb}
+use lib.Dec.{eqb}
+use lib.ListN.{length, getD, set}
+use lib.Seq.{sets, set-out}
+use Rattle.universe.specs.declared.Universe.{Universe}
+use Rattle.universe.specs.Universe.{universeRefusal, levels}
+use Rattle.bintree.specs.declared.Colour.{Colour}
+use Rattle.bintree.specs.declared.Colour.the-variants.{White, Black}
+use Rattle.bintree.specs.declared.Written.{Written}
+use Rattle.bintree.specs.declared.lay.Laid.{Laid}
+use Rattle.bintree.specs.declared.lay.Laid.the-variants.{Done, Unread}
+use Rattle.bintree.specs.Shape.{Shape, leaf, halved, openSymbol, symbolOf, symbols, size}
+use Rattle.bintree.specs.Reading.{Reading, none, read, readAt, expression}
+use Rattle.bintree.specs.Merging.{merged, isPair}
+use Rattle.bintree.specs.Walks.{heldOf, isAlike, noted, opened, laid, layAnswer, Lays}
+use Rattle.bintree.specs.Answers.{expressionChecks, mergedSymbols, mergeAnswer, mergeBuffer}
+use Rattle.bintree.proofs.Answers.{levels-fit, checks-universe, checks-none, checks-read, written-refused, kept-refused, written-short, kept-short, written-all, left-all}
+use Rattle.bintree.proofs.Shape.{length-symbols, size-positive, symbol-not-zero}
+use Rattle.bintree.proofs.Reading.{leaf-at, other-at, end-at, deep-at, low-missing, high-missing, both-read, expression-none, expression-rest, expression-read}
+use Rattle.bintree.proofs.Merging.{Joined, one, two, joined, join-apart, merged-size}
+use Rattle.lemmas.proofs.Stores.{set-sets, sets-append, sets-first}
+
+-- ---- `is_alike`, `note` and `open`
+
+pub alike-none : (low high : ℕ) → low ≡ 0 → false ≡ isAlike low high
+unfolding isAlike
+alike-none low high e = rw (eq-eqb low 0 e)
+
+pub alike-some : (low high : ℕ) → (low ≡ 0 → ⊥) → eqb low high ≡ isAlike low high
+unfolding isAlike
+alike-some low high n = rw (ne-eqb low 0 n)
+
+pub noted-none : (o : List ℕ) (t x : ℕ) → x ≡ 0 → o ≡ noted o t x
+unfolding noted
+noted-none o t x e = rw (eq-eqb x 0 e)
+
+pub noted-some : (o : List ℕ) (t x : ℕ) → (x ≡ 0 → ⊥) → set o t x ≡ noted o t x
+unfolding noted
+noted-some o t x n = rw (ne-eqb x 0 n)
+
+pub noted-past : (o : List ℕ) (t x : ℕ) → (x ≡ 0 → ⊥) → length o ≤ t → o ≡ noted o t x
+noted-past o t x n h = sym (set-out o t x h) ∙ noted-some o t x n
+
+pub opened-is : (o o₁ o₂ o₃ : List ℕ) (t x d y : ℕ) → o₁ ≡ noted o t openSymbol → o₂ ≡ noted o₁ (t + 1) x → o₃ ≡ noted o₂ d y → o₃ ≡ opened o t x d y
+unfolding opened
+opened-is o o₁ o₂ o₃ t x d y e f g = rw (g, f, e)
+
+pub next-fits : (t d : ℕ) → t < d → d < 2 ^ 64 → t + 1 < 2 ^ 64
+next-fits t d h k = omega arith
+
+pub three-lengths : (o o₁ o₂ o₃ : List ℕ) → length o₁ ≡ length o → length o₂ ≡ length o₁ → length o₃ ≡ length o₂ → length o₃ ≡ length o
+three-lengths o o₁ o₂ o₃ e f g = g ∙ f ∙ e
+
+pub ruleset note-laws = (needs, alike-none, alike-some, noted-none, noted-some, noted-past, opened-is, next-fits, three-lengths)
+
+-- ---- what is held back, and the merged shape of two parts by it
+
+held-pair : (a b : Shape) → isAlike (heldOf a) (heldOf b) ≡ isPair a b
+unfolding heldOf isAlike isPair
+held-pair (leaf Black) (leaf d) = refl
+held-pair (leaf White) (leaf d) = refl
+held-pair (leaf Black) (halved x y) = refl
+held-pair (leaf White) (halved x y) = refl
+held-pair (halved x y) b = refl
+
+alike-same : {a b j : Shape} → Joined a b j → isPair a b ≡ true → (c : Colour) × (a ≡ leaf c) × (b ≡ leaf c) × (j ≡ leaf c)
+alike-same (one c) e = (c, refl, refl, refl)
+alike-same (two f) e = let z : _≡_ {A = ℕ} 0 1 = cc in absurd (omega arith)
+
+module _ (l r : Shape) where
+  merged-same : isAlike (heldOf (merged l)) (heldOf (merged r)) ≡ true → (c : Colour) × (merged l ≡ leaf c) × (merged r ≡ leaf c) × (merged (halved l r) ≡ leaf c)
+  unfolding merged
+  merged-same e = alike-same (joined (merged l) (merged r)) (sym (held-pair (merged l) (merged r)) ∙ e)
+
+  merged-apart : isAlike (heldOf (merged l)) (heldOf (merged r)) ≡ false → merged (halved l r) ≡ halved (merged l) (merged r)
+  unfolding merged
+  merged-apart e = join-apart (joined (merged l) (merged r)) (sym (held-pair (merged l) (merged r)) ∙ e)
+
+-- ---- the two parts, `(` and the two leaves that were held back make the whole
+
+laid-noted : (o : List ℕ) (t : ℕ) (a : Shape) → noted (laid o t a) t (heldOf a) ≡ sets o t (symbols a)
+unfolding laid heldOf symbols
+laid-noted o t (leaf c) = sym (noted-some o t (symbolOf c) (symbol-not-zero c))
+laid-noted o t (halved a b) = sym (noted-none (sets o t (symbols (halved a b))) t 0 refl)
+
+set-laid : (o : List ℕ) (i t x : ℕ) (a : Shape) → i < t → set (laid o t a) i x ≡ laid (set o i x) t a
+unfolding laid
+set-laid o i t x (leaf c) h = refl
+set-laid o i t x (halved a b) h = set-sets (symbols (halved a b)) o i t x h
+
+noted-laid : (o : List ℕ) (i t x : ℕ) (a : Shape) → i < t → noted (laid o t a) i x ≡ laid (noted o i x) t a
+noted-laid o i t x a h = go (ℕ-discrete x 0)
+  where
+    go : Dec (x ≡ 0) → noted (laid o t a) i x ≡ laid (noted o i x) t a
+    go (yes e) = sym (noted-none (laid o t a) i x e) ∙ ap (λ z. laid z t a) (noted-none o i x e)
+    go (no e) = sym (noted-some (laid o t a) i x e) ∙ set-laid o i t x a h ∙ ap (λ z. laid z t a) (noted-some o i x e)
+
+parts-laid : (o : List ℕ) (t : ℕ) (a b : Shape) → opened (laid (laid o (t + 1) a) (t + 1 + size a) b) t (heldOf a) (t + 1 + size a) (heldOf b) ≡ sets o t (symbols (halved a b))
+unfolding opened symbols
+parts-laid o t a b =
+    let d : t + 1 + size a ≡ suc t + length (symbols a) = omega (arith, length-symbols a) in
+    let e : t + 1 ≡ suc t = omega arith in
+    let k : t < t + 1 + size a = omega arith in
+    let j : t + 1 < t + 1 + size a = omega (arith, size-positive a) in
+    let i : t < t + 1 = omega arith in
+    let w : noted o t openSymbol ≡ set o t openSymbol = sym (noted-some o t openSymbol (λ z. omega arith)) in
+    ap (λ z. noted (noted z (t + 1) (heldOf a)) (t + 1 + size a) (heldOf b)) (noted-laid (laid o (t + 1) a) t (t + 1 + size a) openSymbol b k ∙ ap (λ z. laid z (t + 1 + size a) b) (noted-laid o t (t + 1) openSymbol a i ∙ ap (λ z. laid z (t + 1) a) w))
+    ∙ ap (λ z. noted z (t + 1 + size a) (heldOf b)) (noted-laid (laid (set o t openSymbol) (t + 1) a) (t + 1) (t + 1 + size a) (heldOf a) b j ∙ ap (λ z. laid z (t + 1 + size a) b) (laid-noted (set o t openSymbol) (t + 1) a))
+    ∙ laid-noted (sets (set o t openSymbol) (t + 1) (symbols a)) (t + 1 + size a) b
+    ∙ rw (d, e) (sets-append (symbols a) (symbols b) (set o t openSymbol) (suc t))
+
+leaf-laid : (o : List ℕ) (t : ℕ) (c : Colour) {a : Shape} → a ≡ leaf c → laid o t a ≡ o
+unfolding laid
+leaf-laid o t c e = rw e
+
+-- the room after both parts and `open`, where they stay apart
+apart-laid : (o o₁ o₂ o₃ : List ℕ) (t d x y : ℕ) (a b : Shape) → o₁ ≡ laid o (t + 1) a → o₂ ≡ laid o₁ d b → d ≡ t + 1 + size a → x ≡ heldOf a → y ≡ heldOf b → o₃ ≡ opened o₂ t x d y → o₃ ≡ laid o t (halved a b)
+unfolding laid
+apart-laid o o₁ o₂ o₃ t d x y a b e f g h i j = rw (j, f, e, g, h, i) (parts-laid o t a b)
+
+-- ---- answers and what is read
+
+no-shape : {x : Reading} {a : Shape} → x ≡ none → x ≡ read a → ⊥
+no-shape e f = let z : _≡_ {A = ℕ} 0 1 = cc in omega arith
+
+lays-none : (p t : ℕ) (o o′ : List ℕ) {x : Reading} → x ≡ none → Lays p t o x Unread o′
+unfolding layAnswer
+lays-none p t o o′ e = record { tells = rw e; leaves = λ a f. absurd (no-shape e f) }
+
+lays-leaf : (p t : ℕ) (o : List ℕ) (c : Colour) {x : Reading} → x ≡ read (leaf c) → Lays p t o x (Done (p + 1) (symbolOf c) (t + 1)) o
+unfolding layAnswer merged heldOf size laid
+lays-leaf p t o c {x} e = record { tells = rw e; leaves = λ a f. let g : a ≡ leaf c = cc in sym (ap (λ z. laid o t (merged z)) g) }
+
+unread-none : (p t : ℕ) (x : Reading) → Unread ≡ layAnswer p t x → x ≡ none
+unfolding layAnswer
+unread-none p t none w = refl
+unread-none p t (read a) w = let z : _≡_ {A = ℕ} 0 1 = cc in absurd (omega arith)
+
+pub record Laying (p t q h d : ℕ) (x : Reading) : Type 0 where
+  pub shape : Shape
+  pub is : x ≡ read shape
+  pub after : q ≡ p + size shape
+  pub held : h ≡ heldOf (merged shape)
+  pub end : d ≡ t + size (merged shape)
+
+pub laying : (p t q h d : ℕ) (x : Reading) → Done q h d ≡ layAnswer p t x → Laying p t q h d x
+unfolding layAnswer
+laying p t q h d none w = let z : _≡_ {A = ℕ} 0 1 = cc in absurd (omega arith)
+laying p t q h d (read a) w = record { shape = a; is = refl; after = (cc); held = (cc); end = (cc) }
+
+-- an answer for a halved shape, from its fields
+lays-halved : (p t q h d : ℕ) (o o′ : List ℕ) (a : Shape) {x : Reading} → x ≡ read a → q ≡ p + size a → h ≡ heldOf (merged a) → d ≡ t + size (merged a) → o′ ≡ laid o t (merged a) → Lays p t o x (Done q h d) o′
+unfolding layAnswer
+lays-halved p t q h d o o′ a {x} e f g i j = record { tells = rw (e, f, g, i); leaves = λ b k. let m : a ≡ b = cc in j ∙ ap (λ z. laid o t (merged z)) m }
+
+-- ---- the laws of `lay`
+
+module _ (s : List ℕ) (n p t : ℕ) (o o′ : List ℕ) where
+  pub lay-end : length s ≤ p → Lays p t o (readAt s n p) Unread o′
+  lay-end h = lays-none p t o o′ (end-at s n p h)
+
+  pub lay-deep : getD s p 0 ≡ openSymbol → n ≡ 0 → Lays p t o (readAt s n p) Unread o′
+  lay-deep e h = lays-none p t o o′ (ap (λ m. readAt s m p) h ∙ deep-at s p e)
+
+  pub lay-other : (getD s p 0 ≡ openSymbol → ⊥) → (getD s p 0 ≡ symbolOf Black → ⊥) → (getD s p 0 ≡ symbolOf White → ⊥) → Lays p t o (readAt s n p) Unread o′
+  lay-other h k l = lays-none p t o o′ (other-at s n p h k l)
+
+module _ (s : List ℕ) (n p t : ℕ) (o : List ℕ) where
+  pub lay-black : getD s p 0 ≡ symbolOf Black → Lays p t o (readAt s n p) (Done (p + 1) 66 (t + 1)) o
+  lay-black e = lays-leaf p t o Black (leaf-at s n p Black e)
+
+  pub lay-white : getD s p 0 ≡ symbolOf White → Lays p t o (readAt s n p) (Done (p + 1) 87 (t + 1)) o
+  lay-white e = lays-leaf p t o White (leaf-at s n p White e)
+
+  pub lay-low : (o₁ : List ℕ) (r : Laid) → getD s p 0 ≡ openSymbol → (n ≡ 0 → ⊥) → Lays (p + 1) (t + 1) o (readAt s (n - 1) (p + 1)) r o₁ → r ≡ Unread → Lays p t o (readAt s n p) Unread o₁
+  lay-low o₁ r e h w g = lays-none p t o o₁ (low-missing s n p e h (unread-none (p + 1) (t + 1) (readAt s (n - 1) (p + 1)) (sym g ∙ w .tells)))
+
+  module _ (o₁ : List ℕ) (r₁ : Laid) (q x d : ℕ) (w : Lays (p + 1) (t + 1) o (readAt s (n - 1) (p + 1)) r₁ o₁) (g : r₁ ≡ Done q x d) where
+    low-laid : Laying (p + 1) (t + 1) q x d (readAt s (n - 1) (p + 1))
+    low-laid = laying (p + 1) (t + 1) q x d (readAt s (n - 1) (p + 1)) (sym g ∙ w .tells)
+
+    -- what is written or held back is no longer than what was read, and goes on
+    pub lay-shorter : t ≤ p → d ≤ q
+    lay-shorter h = let l = low-laid in omega (arith, l .after, l .end, merged-size (l .shape))
+
+    pub lay-further : t < d
+    lay-further = let l = low-laid in omega (arith, l .end)
+
+    module _ (o₂ : List ℕ) (r₂ : Laid) (v : Lays q d o₁ (readAt s (n - 1) q) r₂ o₂) where
+      at-high : readAt s (n - 1) (p + 1 + size (low-laid .shape)) ≡ readAt s (n - 1) q
+      at-high = ap (readAt s (n - 1)) (sym (low-laid .after))
+
+      pub lay-high : getD s p 0 ≡ openSymbol → (n ≡ 0 → ⊥) → r₂ ≡ Unread → Lays p t o (readAt s n p) Unread o₂
+      lay-high e h j = lays-none p t o o₂ (high-missing s n p e h (low-laid .shape) (low-laid .is) (at-high ∙ unread-none q d (readAt s (n - 1) q) (sym j ∙ v .tells)))
+
+      module _ (q′ y d′ : ℕ) (j : r₂ ≡ Done q′ y d′) (e : getD s p 0 ≡ openSymbol) (h : n ≡ 0 → ⊥) where
+        high-laid : Laying q d q′ y d′ (readAt s (n - 1) q)
+        high-laid = laying q d q′ y d′ (readAt s (n - 1) q) (sym j ∙ v .tells)
+
+        whole : readAt s n p ≡ read (halved (low-laid .shape) (high-laid .shape))
+        whole = both-read s n p e h (low-laid .shape) (high-laid .shape) (low-laid .is) (at-high ∙ high-laid .is)
+
+        whole-after : q′ ≡ p + size (halved (low-laid .shape) (high-laid .shape))
+        unfolding size
+        whole-after = omega (arith, low-laid .after, high-laid .after)
+
+        test : (f b : Bool) → f ≡ isAlike x y → f ≡ b → isAlike (heldOf (merged (low-laid .shape))) (heldOf (merged (high-laid .shape))) ≡ b
+        test f b i k = rw (← low-laid .held, ← high-laid .held) (sym i ∙ k)
+
+        pub lay-alike : (f : Bool) → f ≡ isAlike x y → f ≡ true → Lays p t o (readAt s n p) (Done q′ x (t + 1)) o₂
+        unfolding size
+        lay-alike f i k =
+            let a = low-laid .shape in
+            let b = high-laid .shape in
+            let m = merged-same a b (test f true i k) in
+            lays-halved p t q′ x (t + 1) o o₂ (halved a b) whole whole-after
+            (low-laid .held ∙ ap heldOf (m .1 ∙ sym (m .3)))
+            (ap (λ z. t + size z) (sym (m .3)))
+            (v .leaves b (high-laid .is) ∙ leaf-laid o₁ d (m .0) (m .2) ∙ w .leaves a (low-laid .is) ∙ leaf-laid o (t + 1) (m .0) (m .1) ∙ sym (leaf-laid o t (m .0) (m .3)))
+
+        pub lay-apart : (f : Bool) (o₃ : List ℕ) → f ≡ isAlike x y → f ≡ false → o₃ ≡ opened o₂ t x d y → Lays p t o (readAt s n p) (Done q′ 0 d′) o₃
+        unfolding size heldOf
+        lay-apart f o₃ i k j =
+            let a = low-laid .shape in
+            let b = high-laid .shape in
+            let m = merged-apart a b (test f false i k) in
+            lays-halved p t q′ 0 d′ o o₃ (halved a b) whole whole-after
+            (sym (ap heldOf m))
+            (omega (arith, low-laid .end, high-laid .end, ap size m))
+            (apart-laid o o₁ o₂ o₃ t d x y (merged a) (merged b) (w .leaves a (low-laid .is)) (v .leaves b (high-laid .is)) (low-laid .end) (low-laid .held) (high-laid .held) j ∙ ap (laid o t) (sym m))
+
+-- a place within has a next one, and so has one that is not past it
+pub to-fits : (s : List ℕ) (p t : ℕ) → t ≤ p → p < length s → length s < 2 ^ 64 → t + 1 < 2 ^ 64
+to-fits s p t h k l = omega arith
+
+pub two-lengths : (o o₁ o₂ : List ℕ) → length o₁ ≡ length o → length o₂ ≡ length o₁ → length o₂ ≡ length o
+two-lengths o o₁ o₂ e f = f ∙ e
+
+pub ruleset lay-laws = (needs, lay-end, lay-deep, lay-other, lay-black, lay-white, lay-low, lay-shorter, lay-further, lay-high, lay-alike, lay-apart, to-fits, two-lengths, three-lengths)
+
+-- ---- the laws of `merge`: `number` is the universe's own check; the first laying measures, the second one writes
+
+written-eq : {n m k : ℕ} → m ≡ k → _≡_ {A = Written} (record { refusal = n; length = m }) (record { refusal = n; length = k })
+written-eq {n} e = λ i. record { refusal = n; length = e i }
+
+module _ (u : Universe) (s out : List ℕ) (number : ℕ) (e : number ≡ universeRefusal u) where
+  pub merge-refused : (number ≡ 0 → ⊥) → record { refusal = number; length = 0 } ≡ mergeAnswer u s out
+  unfolding mergeAnswer
+  merge-refused n = rw (checks-universe u number e s n) (written-refused number out (mergedSymbols u s) n)
+
+  pub merge-kept : (number ≡ 0 → ⊥) → out ≡ mergeBuffer u s out
+  unfolding mergeBuffer
+  merge-kept n = rw (checks-universe u number e s n) (kept-refused number out (mergedSymbols u s) n)
+
+  seven : number ≡ 0 → expression u s ≡ none → record { refusal = 7; length = 0 } ≡ mergeAnswer u s out
+  unfolding mergeAnswer
+  seven z x = rw (checks-none u number e s z x) (written-refused 7 out (mergedSymbols u s) (λ k. omega arith))
+
+  seven-kept : number ≡ 0 → expression u s ≡ none → out ≡ mergeBuffer u s out
+  unfolding mergeBuffer
+  seven-kept z x = rw (checks-none u number e s z x) (kept-refused 7 out (mergedSymbols u s) (λ k. omega arith))
+
+  module _ (o₀ o₁ : List ℕ) (r : Laid) (z : number ≡ 0) (w : Lays 0 0 o₀ (readAt s (levels u) 0) r o₁) where
+    pub merge-unread : r ≡ Unread → record { refusal = 7; length = 0 } ≡ mergeAnswer u s out
+    merge-unread g = seven z (expression-none u s (unread-none 0 0 (readAt s (levels u) 0) (sym g ∙ w .tells)))
+
+    pub merge-unread-kept : r ≡ Unread → out ≡ mergeBuffer u s out
+    merge-unread-kept g = seven-kept z (expression-none u s (unread-none 0 0 (readAt s (levels u) 0) (sym g ∙ w .tells)))
+
+    module _ (q x d : ℕ) (g : r ≡ Done q x d) where
+      all-laid : Laying 0 0 q x d (readAt s (levels u) 0)
+      all-laid = laying 0 0 q x d (readAt s (levels u) 0) (sym g ∙ w .tells)
+
+      rest : (q ≡ length s → ⊥) → expression u s ≡ none
+      rest n = let l = all-laid in expression-rest u s (l .shape) (l .is) (λ k. n (omega (arith, l .after)))
+
+      pub merge-rest : (q ≡ length s → ⊥) → record { refusal = 7; length = 0 } ≡ mergeAnswer u s out
+      merge-rest n = seven z (rest n)
+
+      pub merge-rest-kept : (q ≡ length s → ⊥) → out ≡ mergeBuffer u s out
+      merge-rest-kept n = seven-kept z (rest n)
+
+      module _ (k : q ≡ length s) where
+        is-read : expression u s ≡ read (all-laid .shape)
+        is-read = let l = all-laid in expression-read u s (l .shape) (l .is) (omega (arith, l .after))
+
+        accepted : expressionChecks u s ≡ 0
+        accepted = checks-read u number e s (all-laid .shape) z is-read
+
+        its-symbols : mergedSymbols u s ≡ symbols (merged (all-laid .shape))
+        its-symbols = rw is-read
+
+        its-length : d ≡ length (mergedSymbols u s)
+        its-length = let l = all-laid in omega (arith, l .end, length-symbols (merged (l .shape)), ap length its-symbols)
+
+        pub merge-short : length out < d → record { refusal = 6; length = d } ≡ mergeAnswer u s out
+        unfolding mergeAnswer
+        merge-short h = written-eq its-length ∙ written-short (expressionChecks u s) out (mergedSymbols u s) accepted (omega (arith, its-length))
+
+        pub merge-short-kept : length out < d → out ≡ mergeBuffer u s out
+        unfolding mergeBuffer
+        merge-short-kept h = kept-short (expressionChecks u s) out (mergedSymbols u s) accepted (omega (arith, its-length))
+
+        pub merge-done : d ≤ length out → record { refusal = 0; length = d } ≡ mergeAnswer u s out
+        unfolding mergeAnswer
+        merge-done h = written-eq its-length ∙ written-all (expressionChecks u s) out (mergedSymbols u s) accepted (omega (arith, its-length))
+
+        pub merge-left : (r₂ : Laid) (o₂ o₃ : List ℕ) → d ≤ length out → Lays 0 0 out (readAt s (levels u) 0) r₂ o₂ → o₃ ≡ noted o₂ 0 x → o₃ ≡ mergeBuffer u s out
+        unfolding mergeBuffer
+        merge-left r₂ o₂ o₃ h v f =
+            let a = all-laid .shape in
+            let room : length (mergedSymbols u s) ≤ length out = omega (arith, its-length) in
+            f ∙ ap (λ y. noted y 0 x) (v .leaves a (all-laid .is)) ∙ ap (noted (laid out 0 (merged a)) 0) (all-laid .held)
+            ∙ laid-noted out 0 (merged a) ∙ ap (sets out 0) (sym its-symbols) ∙ sets-first (mergedSymbols u s) out room
+            ∙ left-all (expressionChecks u s) out (mergedSymbols u s) accepted room
+
+pub ruleset merge-laws = (needs, levels-fit, merge-refused, merge-kept, merge-unread, merge-unread-kept, merge-rest, merge-rest-kept, merge-short, merge-short-kept, merge-done, merge-left, two-lengths)

@@ -1,0 +1,75 @@
+-- What the crate's own walks over an expression tell, from the shape that is read where they begin. A block with n levels left has 2ⁿ voxels.
+use Prim.Native.Nat.{ℕ, _+_, _-_, _^_}
+use mathlib.Core.Path.{_≡_}
+use mathlib.Core.Bool.{Bool, false, cond}
+use mathlib.Core.List.{List}
+use lib.Dec.{eqb}
+use lib.ListN.{set}
+use lib.Seq.{sets}
+use Rattle.universe.specs.declared.Universe.{Universe}
+use Rattle.universe.specs.Voxel.{pathFrom, voxelRefusal}
+use Rattle.bintree.specs.declared.Colour.{Colour}
+use Rattle.bintree.specs.declared.Colour.the-variants.{White, Black}
+use Rattle.bintree.specs.declared.Coloured.{Coloured}
+use Rattle.bintree.specs.declared.count.Walked.{Walked}
+use Rattle.bintree.specs.declared.count.Walked.the-variants.{Past, Nowhere}
+use Rattle.bintree.specs.declared.lay.Laid.{Laid}
+use Rattle.bintree.specs.declared.lay.Laid.the-variants.{Done, Unread}
+use Rattle.bintree.specs.declared.voxel.Sought.{Sought}
+use Rattle.bintree.specs.declared.voxel.Sought.the-variants.{Found, Missing}
+use Rattle.bintree.specs.Shape.{Shape, leaf, halved, openSymbol, symbolOf, symbols, size}
+use Rattle.bintree.specs.Reading.{Reading, none, read}
+use Rattle.bintree.specs.Merging.{merged}
+use Rattle.bintree.specs.Parts.{part, colourOf}
+
+-- black voxels of a block with n levels left
+unfoldable pub voxelsBelow : ℕ → Shape → ℕ
+voxelsBelow n (leaf Black) = 2 ^ n
+voxelsBelow n (leaf White) = 0
+voxelsBelow n (halved a b) = voxelsBelow (n - 1) a + voxelsBelow (n - 1) b
+
+-- the place after the tree that begins at p, and its black voxels
+unfoldable pub walked : ℕ → ℕ → Reading → Walked
+walked p n none = Nowhere
+walked p n (read a) = Past (p + size a) (voxelsBelow n a)
+
+-- the place after the tree that begins at p and has n levels, and the colour at the voxel v, whose block of level l the tree stands for
+unfoldable pub sought : Universe → List ℕ → ℕ → ℕ → ℕ → Reading → Sought
+sought u v p l n none = Missing
+sought u v p l n (read a) = Found (p + size a) (colourOf (part a (pathFrom u v l n)))
+
+-- the answer for a voxel of a well-formed expression
+unfoldable pub shownAt : Universe → List ℕ → Colour → Coloured
+shownAt u v c = record { refusal = voxelRefusal u v; colour = cond (eqb (voxelRefusal u v) 0) c White }
+
+-- what is held back of a merged shape: the symbol of a leaf, which may still meet its brother; 0 is none
+unfoldable pub heldOf : Shape → ℕ
+heldOf (leaf c) = symbolOf c
+heldOf (halved a b) = 0
+
+-- whether two shapes are leaves of one colour, by what is held back of them
+unfoldable pub isAlike : ℕ → ℕ → Bool
+isAlike low high = cond (eqb low 0) false (eqb low high)
+
+-- room with a symbol that was held back
+unfoldable pub noted : List ℕ → ℕ → ℕ → List ℕ
+noted out at symbol = cond (eqb symbol 0) out (set out at symbol)
+
+-- room with `(` and what was held back of the two parts behind it
+unfoldable pub opened : List ℕ → ℕ → ℕ → ℕ → ℕ → List ℕ
+opened out to low middle high = noted (noted (noted out to openSymbol) (to + 1) low) middle high
+
+-- room with a merged shape laid into it: all but a leaf, which is held back
+unfoldable pub laid : List ℕ → ℕ → Shape → List ℕ
+laid out to (leaf c) = out
+laid out to (halved a b) = sets out to (symbols (halved a b))
+
+-- what laying the tree that begins at p tells, from `to` on
+unfoldable pub layAnswer : ℕ → ℕ → Reading → Laid
+layAnswer p to none = Unread
+layAnswer p to (read a) = Done (p + size a) (heldOf (merged a)) (to + size (merged a))
+
+-- and what it leaves of the room where there is a tree
+pub record Lays (p to : ℕ) (out : List ℕ) (x : Reading) (answer : Laid) (left : List ℕ) : Type 0 where
+  pub tells : answer ≡ layAnswer p to x
+  pub leaves : (a : Shape) → x ≡ read a → left ≡ laid out to (merged a)

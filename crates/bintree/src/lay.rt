@@ -1,0 +1,124 @@
+// Merging into lent room: one walk measures, a second one writes.
+ghost use mathlib.Core.Path.{_≡_};
+ghost use Prim.Native.Nat.{_≤_, _<_};
+ghost use Rattle.bintree.specs.Reading.{readAt};
+ghost use Rattle.bintree.specs.Walks.{isAlike, noted, opened, Lays};
+ghost use Rattle.bintree.specs.Answers.{mergeAnswer, mergeBuffer};
+use crate::Written;
+use universe::Universe;
+
+// What laying one merged tree tells: the place after the tree, the symbol of a merged tree that is one leaf (it is held back) or else 0 (all is
+// written), and the place after what is written or held back; or that there is no tree.
+pub(crate) enum Laid {
+    Done(usize, u8, usize),
+    Unread,
+}
+
+// Whether two merged parts, by what is held back of them, are leaves of one colour.
+fn is_alike(low: u8, high: u8) -> bool
+    ensures { λ r. ⌜ r ≡ isAlike low high ⌝ }
+{
+    if low == 0 {
+        return false;
+    }
+    low == high
+}
+
+// Writes a symbol that was held back, where there is one and room for it.
+fn note(out: &mut [u8], at: usize, symbol: u8)
+    ensures { λ _. ⌜ now (out .exit) ≡ noted (now (out .entry)) at symbol ⌝ }
+{
+    if symbol != 0 {
+        if at < out.len() {
+            out[at] = symbol;
+        }
+    }
+}
+
+// Writes `(` at `to` and what was held back of the two parts behind it.
+fn open(out: &mut [u8], to: usize, low: u8, middle: usize, high: u8)
+    requires { ⌜ to < middle ⌝ }
+    ensures { λ _. ⌜ now (out .exit) ≡ opened (now (out .entry)) to low middle high ⌝ }
+{
+    note(out, to, b'(');
+    note(out, to + 1, low);
+    note(out, middle, high);
+}
+
+// Lays the merged tree of at most `left` levels that begins at `at` into `out` from `to` on, as far as there is room.
+fn lay(expression: &[u8], at: usize, left: u64, out: &mut [u8], to: usize) -> Laid
+    requires { ⌜ to ≤ at ⌝ }
+    ensures { λ r. ⌜ Lays at to (now (out .entry)) (readAt (now (expression .entry)) left at) r (now (out .exit)) ⌝ }
+{
+    if expression.len() <= at {
+        return Laid::Unread;
+    }
+    let symbol = expression[at];
+    if symbol == b'(' {
+        if left == 0 {
+            return Laid::Unread;
+        }
+        match lay(expression, at + 1, left - 1, out, to + 1) {
+            Laid::Done(next, low, middle) => match lay(expression, next, left - 1, out, middle) {
+                Laid::Done(after, high, end) => {
+                    if is_alike(low, high) {
+                        return Laid::Done(after, low, to + 1);
+                    }
+                    open(out, to, low, middle, high);
+                    Laid::Done(after, 0, end)
+                }
+                Laid::Unread => Laid::Unread,
+            },
+            Laid::Unread => Laid::Unread,
+        }
+    } else if symbol == b'B' {
+        Laid::Done(at + 1, b'B', to + 1)
+    } else if symbol == b'W' {
+        Laid::Done(at + 1, b'W', to + 1)
+    } else {
+        Laid::Unread
+    }
+}
+
+// Writes the merged expression into `out`, or, where it is refused or does not fit, nothing.
+pub fn merge(universe: Universe, expression: &[u8], out: &mut [u8]) -> Written
+    ensures { λ r. ⌜ r ≡ mergeAnswer universe (now (expression .entry)) (now (out .entry)) ⌝ }
+    ensures { λ _. ⌜ now (out .exit) ≡ mergeBuffer universe (now (expression .entry)) (now (out .entry)) ⌝ }
+{
+    let refusal = universe.refusal();
+    if refusal != 0 {
+        return Written {
+            refusal: refusal,
+            length: 0,
+        };
+    }
+    let levels = universe.axes * universe.bits;
+    let mut nothing = [0u8; 0];
+    match lay(expression, 0, levels, &mut nothing, 0) {
+        Laid::Done(after, symbol, length) => {
+            if after == expression.len() {
+                if out.len() < length {
+                    return Written {
+                        refusal: 6,
+                        length: length as u64,
+                    };
+                }
+                lay(expression, 0, levels, out, 0);
+                note(out, 0, symbol);
+                Written {
+                    refusal: 0,
+                    length: length as u64,
+                }
+            } else {
+                Written {
+                    refusal: 7,
+                    length: 0,
+                }
+            }
+        }
+        Laid::Unread => Written {
+            refusal: 7,
+            length: 0,
+        },
+    }
+}
