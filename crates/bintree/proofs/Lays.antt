@@ -50,6 +50,13 @@ noted-some o t x n = rw (ne-eqb x 0 n)
 pub noted-past : (o : List ℕ) (t x : ℕ) → (x ≡ 0 → ⊥) → length o ≤ t → o ≡ noted o t x
 noted-past o t x n h = sym (set-out o t x h) ∙ noted-some o t x n
 
+pub noted-beyond : (o : List ℕ) (t x : ℕ) → length o ≤ t → o ≡ noted o (t + 1) x
+noted-beyond o t x h = go (ℕ-discrete x 0)
+  where
+    go : Dec (x ≡ 0) → o ≡ noted o (t + 1) x
+    go (yes e) = noted-none o (t + 1) x e
+    go (no n) = noted-past o (t + 1) x n (omega arith)
+
 pub opened-is : (o o₁ o₂ o₃ : List ℕ) (t x d y : ℕ) → o₁ ≡ noted o t openSymbol → o₂ ≡ noted o₁ (t + 1) x → o₃ ≡ noted o₂ d y → o₃ ≡ opened o t x d y
 unfolding opened
 opened-is o o₁ o₂ o₃ t x d y e f g = rw (g, f, e)
@@ -60,7 +67,7 @@ next-fits t d h k = omega arith
 pub three-lengths : (o o₁ o₂ o₃ : List ℕ) → length o₁ ≡ length o → length o₂ ≡ length o₁ → length o₃ ≡ length o₂ → length o₃ ≡ length o
 three-lengths o o₁ o₂ o₃ e f g = g ∙ f ∙ e
 
-pub ruleset note-laws = (needs, alike-none, alike-some, noted-none, noted-some, noted-past, opened-is, next-fits, three-lengths)
+pub ruleset note-laws = (needs, alike-none, alike-some, noted-none, noted-some, noted-past, noted-beyond, opened-is, next-fits, three-lengths)
 
 -- ---- what is held back, and the merged shape of two parts by it
 
@@ -77,17 +84,17 @@ alike-same (one c) e = (c, refl, refl, refl)
 alike-same (two f) e = let z : _≡_ {A = ℕ} 0 1 = cc in absurd (omega arith)
 
 module _ (l r : Shape) where
-  merged-same : isAlike (heldOf (merged l)) (heldOf (merged r)) ≡ true → (c : Colour) × (merged l ≡ leaf c) × (merged r ≡ leaf c) × (merged (halved l r) ≡ leaf c)
+  pub merged-same : isAlike (heldOf (merged l)) (heldOf (merged r)) ≡ true → (c : Colour) × (merged l ≡ leaf c) × (merged r ≡ leaf c) × (merged (halved l r) ≡ leaf c)
   unfolding merged
   merged-same e = alike-same (joined (merged l) (merged r)) (sym (held-pair (merged l) (merged r)) ∙ e)
 
-  merged-apart : isAlike (heldOf (merged l)) (heldOf (merged r)) ≡ false → merged (halved l r) ≡ halved (merged l) (merged r)
+  pub merged-apart : isAlike (heldOf (merged l)) (heldOf (merged r)) ≡ false → merged (halved l r) ≡ halved (merged l) (merged r)
   unfolding merged
   merged-apart e = join-apart (joined (merged l) (merged r)) (sym (held-pair (merged l) (merged r)) ∙ e)
 
 -- ---- the two parts, `(` and the two leaves that were held back make the whole
 
-laid-noted : (o : List ℕ) (t : ℕ) (a : Shape) → noted (laid o t a) t (heldOf a) ≡ sets o t (symbols a)
+pub laid-noted : (o : List ℕ) (t : ℕ) (a : Shape) → noted (laid o t a) t (heldOf a) ≡ sets o t (symbols a)
 unfolding laid heldOf symbols
 laid-noted o t (leaf c) = sym (noted-some o t (symbolOf c) (symbol-not-zero c))
 laid-noted o t (halved a b) = sym (noted-none (sets o t (symbols (halved a b))) t 0 refl)
@@ -118,12 +125,12 @@ parts-laid o t a b =
     ∙ laid-noted (sets (set o t openSymbol) (t + 1) (symbols a)) (t + 1 + size a) b
     ∙ rw (d, e) (sets-append (symbols a) (symbols b) (set o t openSymbol) (suc t))
 
-leaf-laid : (o : List ℕ) (t : ℕ) (c : Colour) {a : Shape} → a ≡ leaf c → laid o t a ≡ o
+pub leaf-laid : (o : List ℕ) (t : ℕ) (c : Colour) {a : Shape} → a ≡ leaf c → laid o t a ≡ o
 unfolding laid
 leaf-laid o t c e = rw e
 
 -- the room after both parts and `open`, where they stay apart
-apart-laid : (o o₁ o₂ o₃ : List ℕ) (t d x y : ℕ) (a b : Shape) → o₁ ≡ laid o (t + 1) a → o₂ ≡ laid o₁ d b → d ≡ t + 1 + size a → x ≡ heldOf a → y ≡ heldOf b → o₃ ≡ opened o₂ t x d y → o₃ ≡ laid o t (halved a b)
+pub apart-laid : (o o₁ o₂ o₃ : List ℕ) (t d x y : ℕ) (a b : Shape) → o₁ ≡ laid o (t + 1) a → o₂ ≡ laid o₁ d b → d ≡ t + 1 + size a → x ≡ heldOf a → y ≡ heldOf b → o₃ ≡ opened o₂ t x d y → o₃ ≡ laid o t (halved a b)
 unfolding laid
 apart-laid o o₁ o₂ o₃ t d x y a b e f g h i j = rw (j, f, e, g, h, i) (parts-laid o t a b)
 

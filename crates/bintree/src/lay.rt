@@ -1,6 +1,6 @@
 // Merging into lent room: one walk measures, a second one writes.
 ghost use mathlib.Core.Path.{_≡_};
-ghost use Prim.Native.Nat.{_≤_, _<_};
+ghost use Prim.Native.Nat.{_+_, _≤_};
 ghost use Rattle.bintree.specs.Reading.{readAt};
 ghost use Rattle.bintree.specs.Walks.{isAlike, noted, opened, Lays};
 ghost use Rattle.bintree.specs.Answers.{mergeAnswer, mergeBuffer};
@@ -15,7 +15,7 @@ pub(crate) enum Laid {
 }
 
 // Whether two merged parts, by what is held back of them, are leaves of one colour.
-fn is_alike(low: u8, high: u8) -> bool
+pub fn is_alike(low: u8, high: u8) -> bool
     ensures { λ r. ⌜ r ≡ isAlike low high ⌝ }
 {
     if low == 0 {
@@ -25,7 +25,7 @@ fn is_alike(low: u8, high: u8) -> bool
 }
 
 // Writes a symbol that was held back, where there is one and room for it.
-fn note(out: &mut [u8], at: usize, symbol: u8)
+pub fn note(out: &mut [u8], at: usize, symbol: u8)
     ensures { λ _. ⌜ now (out .exit) ≡ noted (now (out .entry)) at symbol ⌝ }
 {
     if symbol != 0 {
@@ -35,13 +35,21 @@ fn note(out: &mut [u8], at: usize, symbol: u8)
     }
 }
 
-// Writes `(` at `to` and what was held back of the two parts behind it.
-fn open(out: &mut [u8], to: usize, low: u8, middle: usize, high: u8)
-    requires { ⌜ to < middle ⌝ }
+// The same at the place after `at`.
+fn note_next(out: &mut [u8], at: usize, symbol: u8)
+    ensures { λ _. ⌜ now (out .exit) ≡ noted (now (out .entry)) (at + 1) symbol ⌝ }
+{
+    if at < out.len() {
+        note(out, at + 1, symbol);
+    }
+}
+
+// Writes `(` at `to` and what was held back of the two parts behind it, as far as there is room.
+pub fn open(out: &mut [u8], to: usize, low: u8, middle: usize, high: u8)
     ensures { λ _. ⌜ now (out .exit) ≡ opened (now (out .entry)) to low middle high ⌝ }
 {
     note(out, to, b'(');
-    note(out, to + 1, low);
+    note_next(out, to, low);
     note(out, middle, high);
 }
 

@@ -5,7 +5,10 @@ mod voxel;
 
 pub use count::volume;
 pub use count::well_formed;
+pub use lay::is_alike;
 pub use lay::merge;
+pub use lay::note;
+pub use lay::open;
 pub use voxel::colour_at;
 
 // The two colours of a voxel.

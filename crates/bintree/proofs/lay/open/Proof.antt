@@ -2,8 +2,22 @@
 use Rattle.bintree.proofs.Lays.{note-laws}
 use Rattle.bintree.proofs.lay.open.Statement.{statement}
 use Rattle.bintree.proofs.lay.open.Tie as tie
-use Rattle.bintree.proofs.lay.note.Reads as note-reads
+
+note-requires : tie.Need-note-requires
+note-requires c κs = search note-laws
+
+note-next-requires : tie.Need-note-next-requires
+note-next-requires c κs = search note-laws
+
+note-requires-2 : tie.Need-note-requires-2
+note-requires-2 c κs = search note-laws
+
+same-length : tie.Need-same-length
+same-length c = search note-laws
+
+returns : tie.Need-returns
+returns c = search note-laws
 
 pub open-spec : {M : Type 1} → statement M
 open-spec =
-    tie.close (tie.spec (λ c κs. search note-laws) (λ c. search note-laws) (λ c κs. search note-laws) (λ c κs. search note-laws) (λ c. search note-laws) (λ c. search note-laws))
+    tie.close (tie.spec note-requires note-next-requires note-requires-2 same-length returns)
