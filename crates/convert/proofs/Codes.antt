@@ -1,0 +1,130 @@
+-- Codes and marks. Joining codes is joining marks, which antt computes over all the marks; so a tree's code is that of its mark and its
+-- reversal's, for any marks of the leaves: those over a block, or the colours at the centre of a voxel.
+use mathlib.Core.Path.{_≡_, refl, sym, ap, ap₂, _∙_}
+use mathlib.Core.Bool.{Bool, true, false, cond, _&&_}
+use mathlib.Core.List.{List}
+use Prim.Native.Nat.{ℕ, _+_, _*_, _%_, _≤_, _<_}
+use native.Mathlib.Omega.{arith}
+use lib.Dec.{T, eqb, eqb→eq, lit≤}
+use lib.IntN.{ℤ, pos, negℤ, _+ℤ_}
+use lib.Signed.{leZ}
+use Rattle.lemmas.proofs.Whole.{lt-out, leZ-false}
+use Rattle.lemmas.proofs.Totals.{below-negated}
+use Rattle.universe.specs.declared.Universe.{Universe}
+use Rattle.universe.specs.declared.Block.{Block}
+use Rattle.bintree.specs.declared.Colour.{Colour}
+use Rattle.bintree.specs.declared.Colour.the-variants.{White, Black}
+use Rattle.csg.specs.Halfspace.{Halfspace, Mark, decided, undecided, rowAt, negated, least, greatest, markOver, centreValue, colourAtCentre}
+use Rattle.csg.specs.Tree.{Leaf, white, black, halfspace, Operator, union, intersection, minus, Tree, leaf, node, Plain, colour, side, unionOf, intersectionOf, plain, reversal}
+use Rattle.csg.specs.Words.{fold, InRows, white-in, black-in, halfspace-in, node-in}
+use Rattle.csg.specs.Marks.{unionMark, intersectionMark, unionColour, intersectionColour, leafMark, leafColour, plainMark, plainColour}
+use Rattle.csg.proofs.Halfspace.{negated-marks, centre-negated}
+use Rattle.csg.proofs.Marks.{union-colours, intersection-colours}
+use Rattle.convert.specs.Codes.{bitsOf, codeOf, spanCode, leafCode, joinCode, codeOfLeaf}
+
+-- the mark of two shapes joined, and that of the joined shape's reversal
+abbrev joined : Operator → Mark → Mark → Mark → Mark → Mark
+joined union a a′ b b′ = unionMark a b
+joined intersection a a′ b b′ = intersectionMark a b
+joined minus a a′ b b′ = intersectionMark a b′
+
+abbrev joinedReversal : Operator → Mark → Mark → Mark → Mark → Mark
+joinedReversal union a a′ b b′ = intersectionMark a′ b′
+joinedReversal intersection a a′ b b′ = unionMark a′ b′
+joinedReversal minus a a′ b b′ = unionMark a′ b
+
+-- a test of all marks
+abbrev ofMarks : (Mark → Bool) → Bool
+ofMarks f = f (decided Black) && f (decided White) && f undecided
+
+split : (a b : Bool) → T (a && b) → T a × T b
+split true b t = (tt, t)
+split false b t = absurd t
+
+at-mark : (f : Mark → Bool) → T (ofMarks f) → (m : Mark) → T (f m)
+at-mark f t (decided Black) = split (f (decided Black)) (f (decided White)) (split (f (decided Black) && f (decided White)) (f undecided) t .0) .0
+at-mark f t (decided White) = split (f (decided Black)) (f (decided White)) (split (f (decided Black) && f (decided White)) (f undecided) t .0) .1
+at-mark f t undecided = split (f (decided Black) && f (decided White)) (f undecided) t .1
+
+abbrev test : Operator → Mark → Mark → Mark → Mark → Bool
+test o a a′ b b′ = eqb (joinCode o (codeOf a a′) (codeOf b b′)) (codeOf (joined o a a′ b b′) (joinedReversal o a a′ b b′))
+
+passed : (o : Operator) → T (ofMarks (λ a. ofMarks (λ a′. ofMarks (λ b. ofMarks (λ b′. test o a a′ b b′)))))
+unfolding joinCode unionMark intersectionMark
+passed union = tt
+passed intersection = tt
+passed minus = tt
+
+code-join : (o : Operator) (a a′ b b′ : Mark) → joinCode o (codeOf a a′) (codeOf b b′) ≡ codeOf (joined o a a′ b b′) (joinedReversal o a a′ b b′)
+code-join o a a′ b b′ =
+    eqb→eq _ _
+    (at-mark (λ y. test o a a′ b y)
+    (at-mark (λ x. ofMarks (λ y. test o a a′ x y))
+    (at-mark (λ x. ofMarks (λ y. ofMarks (λ z. test o a x y z)))
+    (at-mark (λ x. ofMarks (λ y. ofMarks (λ z. ofMarks (λ w. test o x y z w)))) (passed o) a) a′) b) b′)
+
+-- the mark of a plain tree by any marks of its leaves
+pub markBy : (Bool → ℕ → Mark) → Plain → Mark
+markBy f (colour c) = decided c
+markBy f (side turned i) = f turned i
+markBy f (unionOf s t) = unionMark (markBy f s) (markBy f t)
+markBy f (intersectionOf s t) = intersectionMark (markBy f s) (markBy f t)
+
+pub mark-over : (rows : List ℤ) (b : Block) (p : Plain) → markBy (λ turned i. leafMark rows turned i b) p ≡ plainMark rows p b
+unfolding markBy plainMark
+mark-over rows b (colour c) = refl
+mark-over rows b (side turned i) = refl
+mark-over rows b (unionOf s t) = ap₂ unionMark (mark-over rows b s) (mark-over rows b t)
+mark-over rows b (intersectionOf s t) = ap₂ intersectionMark (mark-over rows b s) (mark-over rows b t)
+
+pub mark-at : (rows : List ℤ) (u : Universe) (v : List ℕ) (p : Plain) → markBy (λ turned i. decided (leafColour rows u turned i v)) p ≡ decided (plainColour rows u p v)
+unfolding markBy plainColour
+mark-at rows u v (colour c) = refl
+mark-at rows u v (side turned i) = refl
+mark-at rows u v (unionOf s t) =
+    ap₂ unionMark (mark-at rows u v s) (mark-at rows u v t) ∙ union-colours (plainColour rows u s v) (plainColour rows u t v)
+mark-at rows u v (intersectionOf s t) =
+    ap₂ intersectionMark (mark-at rows u v s) (mark-at rows u v t) ∙ intersection-colours (plainColour rows u s v) (plainColour rows u t v)
+
+-- where each row's code is that of its marks, the tree's is that of the tree's marks
+module _ (ofLeaf : Leaf → ℕ) (f : Bool → ℕ → Mark) (whites : ofLeaf white ≡ 6) (blacks : ofLeaf black ≡ 9) (n : ℕ) (rows : (i : ℕ) → i < n → ofLeaf (halfspace i) ≡ codeOf (f false i) (f true i)) where
+  pub code-tree : (t : Tree) → InRows n t → fold ofLeaf joinCode t ≡ codeOf (markBy f (plain t)) (markBy f (reversal t))
+  unfolding fold markBy plain reversal
+  code-tree (leaf white) h = whites
+  code-tree (leaf black) h = blacks
+  code-tree (leaf (halfspace i)) (halfspace-in h) = rows i h
+  code-tree (node union s t) (node-in p q) = ap₂ (joinCode union) (code-tree s p) (code-tree t q) ∙ code-join union _ _ _ _
+  code-tree (node intersection s t) (node-in p q) = ap₂ (joinCode intersection) (code-tree s p) (code-tree t q) ∙ code-join intersection _ _ _ _
+  code-tree (node minus s t) (node-in p q) = ap₂ (joinCode minus) (code-tree s p) (code-tree t q) ∙ code-join minus _ _ _ _
+
+-- a code's own two bits
+pub own-bits : (a b : Mark) → codeOf a b % 4 ≡ bitsOf a
+own-bits a b = omega (arith, small a)
+  where
+    small : (m : Mark) → bitsOf m ≤ 2
+    small (decided Black) = lit≤ tt
+    small (decided White) = lit≤ tt
+    small undecided = lit≤ tt
+
+-- ---- a row's code is that of its marks
+pub code-of-marks : (h : Halfspace) (b : Block) → spanCode (least h b) (greatest h b) ≡ codeOf (markOver h b) (markOver (negated h) b)
+unfolding markOver
+code-of-marks h b = rw (negated-marks h b) (by (leZ (pos 0) (least h b)) (leZ (greatest h b) (pos 0)))
+  where
+    by : (p q : Bool) → cond p (cond q 5 9) (cond q 6 0) ≡ codeOf (cond p (decided Black) (cond q (decided White) undecided)) (cond q (decided Black) (cond p (decided White) undecided))
+    by true true = refl
+    by true false = refl
+    by false true = refl
+    by false false = refl
+
+pub code-of-colours : (h : Halfspace) (u : Universe) (v : List ℕ) → spanCode (centreValue u h v) (centreValue u h v) ≡ codeOf (decided (colourAtCentre u h v)) (decided (colourAtCentre u (negated h) v))
+unfolding colourAtCentre
+code-of-colours h u v =
+    rw (centre-negated h u v, below-negated (centreValue u h v))
+    (by (centreValue u h v) (leZ (pos 0) (centreValue u h v)) (leZ (centreValue u h v) (pos 0)) refl refl)
+  where
+    by : (z : ℤ) (p q : Bool) → leZ (pos 0) z ≡ p → leZ z (pos 0) ≡ q → cond p (cond q 5 9) (cond q 6 0) ≡ codeOf (decided (cond p Black White)) (decided (cond q Black White))
+    by z true true e f = refl
+    by z true false e f = refl
+    by z false true e f = refl
+    by z false false e f = absurd (omega (arith, lt-out (leZ-false (pos 0) z e), lt-out (leZ-false z (pos 0) f)))

@@ -1,0 +1,29 @@
+-- `room_of` asks the room question for the halfspace words of both trees, of which there are at most 510.
+use native.Mathlib.Omega.{arith}
+use Rattle.csg.proofs.Words.{halfspace-words-most}
+use Rattle.convert.proofs.Answers.{room-is}
+use borrow.Author.Needs.{needs}
+use Rattle.convert.proofs.room_of.Statement.{statement}
+use Rattle.convert.proofs.room_of.Tie as tie
+
+halfspace-words-requires : tie.Need-halfspace-words-requires
+halfspace-words-requires c κs = search needs
+
+halfspace-words-requires-2 : tie.Need-halfspace-words-requires-2
+halfspace-words-requires-2 c κs = search needs
+
+add-leaves : tie.Need-add-leaves
+add-leaves c =
+    let k = c .before .before .before .before in
+    record { fits = omega (arith, c .before .halfspace-words .ensures, c .halfspace-words2 .ensures, k .pre .first-few, k .pre .second-few, halfspace-words-most (k .args .first .now), halfspace-words-most (k .args .second .now)) }
+
+room-requires : tie.Need-room-requires
+room-requires c κs = search needs
+
+returns : tie.Need-returns
+returns c = room-is _ _ _ (c .before .before .before .before .before .pre .accepted-universe) (c .before .before .halfspace-words .ensures) (c .before .halfspace-words2 .ensures) (c .room .ensures)
+
+pub room-of-spec : {M : Type 1} → statement M
+room-of-spec =
+    tie.close
+    (tie.spec halfspace-words-requires halfspace-words-requires-2 add-leaves room-requires returns)

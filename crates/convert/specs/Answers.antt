@@ -1,0 +1,42 @@
+-- What the conversions answer, and what the lent room then holds. Order of refusals: 2, 3, the trees one after the other, 6.
+use Prim.Native.Nat.{ℕ}
+use mathlib.Core.Bool.{cond}
+use mathlib.Core.List.{List, [], _∷_}
+use lib.Dec.{leb}
+use lib.IntN.{ℤ}
+use lib.ListN.{length}
+use Rattle.universe.specs.declared.Universe.{Universe}
+use Rattle.universe.specs.Refusals.{firstRefusal}
+use Rattle.universe.specs.Universe.{universeRefusal}
+use Rattle.bintree.specs.Shape.{symbols}
+use Rattle.bintree.specs.Merging.{merged}
+use Rattle.csg.specs.Halfspace.{rowCount, rowsRefusal}
+use Rattle.csg.specs.Words.{treeRefusal, treeOf}
+use Rattle.csg.specs.Raw.{raw}
+use Rattle.convert.specs.Cells.{treesOf}
+
+-- the checks before 6, of one tree and of two
+unfoldable pub refusalOfOne : Universe → List ℤ → List ℕ → ℕ
+refusalOfOne u rows words = firstRefusal (universeRefusal u ∷ rowsRefusal u rows ∷ treeRefusal (rowCount rows) words ∷ [])
+
+unfoldable pub refusalOfTwo : Universe → List ℤ → List ℕ → List ℕ → ℕ
+refusalOfTwo u rows first second =
+    firstRefusal (universeRefusal u ∷ rowsRefusal u rows ∷ treeRefusal (rowCount rows) first ∷ treeRefusal (rowCount rows) second ∷ [])
+
+-- the raw expression of one tree, and of two intersected
+unfoldable pub rawOfOne : Universe → List ℤ → List ℕ → List ℕ
+rawOfOne u rows words = symbols (raw u rows (treeOf (rowCount rows) words))
+
+unfoldable pub rawOfTwo : Universe → List ℤ → List ℕ → List ℕ → List ℕ
+rawOfTwo u rows first second = symbols (raw u rows (treesOf rows first second))
+
+-- the merged ones
+unfoldable pub mergedOfOne : Universe → List ℤ → List ℕ → List ℕ
+mergedOfOne u rows words = symbols (merged (raw u rows (treeOf (rowCount rows) words)))
+
+unfoldable pub mergedOfTwo : Universe → List ℤ → List ℕ → List ℕ → List ℕ
+mergedOfTwo u rows first second = symbols (merged (raw u rows (treesOf rows first second)))
+
+-- 0 where the symbols go into the room lent, else their number
+abbrev pub lacking : ℕ → List ℕ → ℕ
+lacking lent written = cond (leb (length written) lent) 0 (length written)

@@ -1,0 +1,25 @@
+-- What the recursion writes for a cell's block.
+use Prim.Native.Nat.{ℕ, _+_}
+use mathlib.Core.Bool.{cond}
+use mathlib.Core.List.{List}
+use lib.Dec.{eqb}
+use lib.IntN.{ℤ}
+use Rattle.universe.specs.declared.Universe.{Universe}
+use Rattle.bintree.specs.declared.Colour.the-variants.{White, Black}
+use Rattle.bintree.specs.Shape.{Shape, symbolOf, size}
+use Rattle.bintree.specs.Walks.{heldOf}
+use Rattle.csg.specs.Raw.{examine}
+use Rattle.convert.specs.declared.merged.Piece.{Piece}
+use Rattle.convert.specs.Cells.{treesOf, blockAt}
+
+-- the raw shape of the block with this low corner, so many levels above L
+unfoldable pub shapeOf : Universe → List ℤ → List ℕ → List ℕ → ℕ → List ℕ → Shape
+shapeOf u rows first second left low = examine rows (treesOf rows first second) left (blockAt u left low)
+
+-- the symbol of a mark's bits
+abbrev pub symbolOfBits : ℕ → ℕ
+symbolOfBits bits = cond (eqb bits 1) (symbolOf Black) (symbolOf White)
+
+-- what laying a merged shape from a place on comes to
+abbrev pub pieceOf : ℕ → Shape → Piece
+pieceOf at s = record { held = heldOf s; end = at + size s }
