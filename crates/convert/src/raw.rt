@@ -2,9 +2,15 @@
 use crate::cell::Cell;
 use crate::cell::lower;
 use crate::cell::upper;
+use crate::cell::whole_cell;
+use crate::check::refusal_of;
+use crate::check::room_of;
 use crate::judge::judge;
+use bintree::Written;
 use universe::Universe;
 ghost use mathlib.Core.Path.{_≡_};
+ghost use Rattle.bintree.specs.Answers.{writtenAnswer, writtenBuffer};
+ghost use Rattle.convert.specs.Answers.{refusalOfOne, refusalOfTwo, rawOfOne, rawOfTwo, lacking};
 ghost use Prim.Native.Nat.{_+_, _≤_};
 ghost use lib.ListN.{length};
 ghost use lib.Seq.{sets};
@@ -85,4 +91,71 @@ pub(crate) fn write_raw(
         out,
         middle,
     )
+}
+
+// 0 where the raw expression goes into so much room, else its length. Room that is as large as the room formula says is not measured for.
+fn raw_lacking(universe: Universe, rows: &[i64], first: &[u16], second: &[u16], lent: u64) -> u64
+    requires { ⌜ Ready universe (now rows) (now first) (now second) ⌝ }
+    ensures { λ r. ⌜ r ≡ lacking lent (rawOfTwo universe (now (rows .entry)) (now (first .entry)) (now (second .entry))) ⌝ }
+{
+    if room_of(universe, first, second) <= lent {
+        return 0;
+    }
+    let levels = universe.axes * universe.bits;
+    let length = measure_raw(universe, rows, first, second, whole_cell(universe), levels);
+    if length <= lent {
+        return 0;
+    }
+    length
+}
+
+// The raw expression of two trees intersected.
+pub fn raw_of_two(
+    universe: Universe,
+    rows: &[i64],
+    first: &[u16],
+    second: &[u16],
+    out: &mut [u8],
+) -> Written
+    ensures { λ r. ⌜ r ≡ writtenAnswer (refusalOfTwo universe (now (rows .entry)) (now (first .entry)) (now (second .entry))) (now (out .entry)) (rawOfTwo universe (now (rows .entry)) (now (first .entry)) (now (second .entry))) ⌝ }
+    ensures { λ _. ⌜ now (out .exit) ≡ writtenBuffer (refusalOfTwo universe (now (rows .entry)) (now (first .entry)) (now (second .entry))) (now (out .entry)) (rawOfTwo universe (now (rows .entry)) (now (first .entry)) (now (second .entry))) ⌝ }
+{
+    let refusal = refusal_of(universe, rows, first, second);
+    if refusal != 0 {
+        return Written {
+            refusal: refusal,
+            length: 0,
+        };
+    }
+    let lacks = raw_lacking(universe, rows, first, second, out.len() as u64);
+    if lacks != 0 {
+        return Written {
+            refusal: 6,
+            length: lacks,
+        };
+    }
+    let levels = universe.axes * universe.bits;
+    let length = write_raw(
+        universe,
+        rows,
+        first,
+        second,
+        whole_cell(universe),
+        levels,
+        out,
+        0,
+    );
+    Written {
+        refusal: 0,
+        length: length as u64,
+    }
+}
+
+// The raw expression of one tree: that tree intersected with BLACK.
+pub fn raw_of_one(universe: Universe, rows: &[i64], words: &[u16], out: &mut [u8]) -> Written
+    ensures { λ r. ⌜ r ≡ writtenAnswer (refusalOfOne universe (now (rows .entry)) (now (words .entry))) (now (out .entry)) (rawOfOne universe (now (rows .entry)) (now (words .entry))) ⌝ }
+    ensures { λ _. ⌜ now (out .exit) ≡ writtenBuffer (refusalOfOne universe (now (rows .entry)) (now (words .entry))) (now (out .entry)) (rawOfOne universe (now (rows .entry)) (now (words .entry))) ⌝ }
+{
+    let black = [csg::BLACK];
+    raw_of_two(universe, rows, words, &black, out)
 }

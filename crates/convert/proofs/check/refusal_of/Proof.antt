@@ -1,8 +1,8 @@
 -- `refusal_of` checks the universe, the rows and the trees in their order.
 use Rattle.convert.proofs.Answers.{refused-universe, refused-rows, refused-first, last-check}
 use borrow.Author.Needs.{needs}
-use Rattle.convert.proofs.refusal_of.Statement.{statement}
-use Rattle.convert.proofs.refusal_of.Tie as tie
+use Rattle.convert.proofs.check.refusal_of.Statement.{statement}
+use Rattle.convert.proofs.check.refusal_of.Tie as tie
 
 refusal-requires : tie.Need-refusal-requires
 refusal-requires c κs = search needs

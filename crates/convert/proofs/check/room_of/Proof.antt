@@ -3,8 +3,8 @@ use native.Mathlib.Omega.{arith}
 use Rattle.csg.proofs.Words.{halfspace-words-most}
 use Rattle.convert.proofs.Answers.{room-is}
 use borrow.Author.Needs.{needs}
-use Rattle.convert.proofs.room_of.Statement.{statement}
-use Rattle.convert.proofs.room_of.Tie as tie
+use Rattle.convert.proofs.check.room_of.Statement.{statement}
+use Rattle.convert.proofs.check.room_of.Tie as tie
 
 halfspace-words-requires : tie.Need-halfspace-words-requires
 halfspace-words-requires c κs = search needs

@@ -1,8 +1,8 @@
 -- `raw_of_one` converts the tree intersected with BLACK.
 use Rattle.convert.proofs.OneTree.{one-raw}
 use borrow.Author.Needs.{needs}
-use Rattle.convert.proofs.raw_of_one.Statement.{statement}
-use Rattle.convert.proofs.raw_of_one.Tie as tie
+use Rattle.convert.proofs.raw.raw_of_one.Statement.{statement}
+use Rattle.convert.proofs.raw.raw_of_one.Tie as tie
 
 slice-aggregate-raw-of-two : tie.Need-slice-aggregate-raw-of-two
 slice-aggregate-raw-of-two c = search needs

@@ -2,8 +2,8 @@
 use Rattle.convert.proofs.Answers.{levels-fit, room-ready, standing}
 use Rattle.convert.proofs.MergedAnswers.{merged-room-lent, whole-fits, laid-none, laid-all}
 use borrow.Author.Needs.{needs}
-use Rattle.convert.proofs.merged_lacking.Statement.{statement}
-use Rattle.convert.proofs.merged_lacking.Tie as tie
+use Rattle.convert.proofs.merged.merged_lacking.Statement.{statement}
+use Rattle.convert.proofs.merged.merged_lacking.Tie as tie
 
 room-of-requires : tie.Need-room-of-requires
 room-of-requires c κs = room-ready (c .before .before .pre)

@@ -1,8 +1,8 @@
 -- `merged_of_one` converts the tree intersected with BLACK.
 use Rattle.convert.proofs.OneTree.{one-merged}
 use borrow.Author.Needs.{needs}
-use Rattle.convert.proofs.merged_of_one.Statement.{statement}
-use Rattle.convert.proofs.merged_of_one.Tie as tie
+use Rattle.convert.proofs.merged.merged_of_one.Statement.{statement}
+use Rattle.convert.proofs.merged.merged_of_one.Tie as tie
 
 slice-aggregate-merged-of-two : tie.Need-slice-aggregate-merged-of-two
 slice-aggregate-merged-of-two c = search needs

@@ -4,8 +4,8 @@ use native.Mathlib.Omega.{arith}
 use borrow.Author.Needs.{needs}
 use Rattle.convert.proofs.Answers.{levels-fit, standing, whole-length, written-whole, raw-fits, answer-refused, answer-short, answer-written}
 use borrow.Author.Needs.{needs}
-use Rattle.convert.proofs.raw_of_two.Statement.{statement}
-use Rattle.convert.proofs.raw_of_two.Tie as tie
+use Rattle.convert.proofs.raw.raw_of_two.Statement.{statement}
+use Rattle.convert.proofs.raw.raw_of_two.Tie as tie
 
 refusal-of-requires : tie.Need-refusal-of-requires
 refusal-of-requires c κs = search needs

@@ -3,8 +3,8 @@ use mathlib.Core.Path.{_∙_}
 use Rattle.convert.proofs.Answers.{levels-fit, standing, answer-refused, answer-short, answer-written}
 use Rattle.convert.proofs.MergedAnswers.{whole-fits, piece-length, noted-whole, merged-fits}
 use borrow.Author.Needs.{needs}
-use Rattle.convert.proofs.merged_of_two.Statement.{statement}
-use Rattle.convert.proofs.merged_of_two.Tie as tie
+use Rattle.convert.proofs.merged.merged_of_two.Statement.{statement}
+use Rattle.convert.proofs.merged.merged_of_two.Tie as tie
 
 refusal-of-requires : tie.Need-refusal-of-requires
 refusal-of-requires c κs = search needs

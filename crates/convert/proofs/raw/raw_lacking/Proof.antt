@@ -3,8 +3,8 @@ use mathlib.Core.Path.{sym, _∙_}
 use native.Mathlib.Omega.{arith}
 use Rattle.convert.proofs.Answers.{levels-fit, room-ready, standing, room-lent, measured-none, measured-all}
 use borrow.Author.Needs.{needs}
-use Rattle.convert.proofs.raw_lacking.Statement.{statement}
-use Rattle.convert.proofs.raw_lacking.Tie as tie
+use Rattle.convert.proofs.raw.raw_lacking.Statement.{statement}
+use Rattle.convert.proofs.raw.raw_lacking.Tie as tie
 
 room-of-requires : tie.Need-room-of-requires
 room-of-requires c κs = room-ready (c .before .before .pre)
