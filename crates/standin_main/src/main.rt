@@ -1,0 +1,281 @@
+// Stand-in proxies on both sides of every limit: a line for each, with what is answered.
+use standin::Corners;
+use standin::Plane;
+use standin::Proxy;
+use standin::Solid;
+use standin::Triple;
+
+fn triple(x: f64, y: f64, z: f64) -> Triple {
+    Triple { x: x, y: y, z: z }
+}
+
+// A Box from (near, 0, 0) to (far, 0, 0) with the displacement (v, 0, 0).
+fn box_along_x(near: f64, far: f64, v: f64) -> Proxy {
+    let near = triple(near, 0.0, 0.0);
+    let far = triple(far, 0.0, 0.0);
+    let corners = Corners {
+        near: near,
+        far: far,
+    };
+    let displacement = triple(v, 0.0, 0.0);
+    let solid = Solid::Box(corners);
+    Proxy {
+        solid: solid,
+        displacement: displacement,
+    }
+}
+
+// A Cut with the normal (n, 0, 0), the offset c and the displacement (v, 0, 0).
+fn cut_along_x(n: f64, c: f64, v: f64) -> Proxy {
+    let normal = triple(n, 0.0, 0.0);
+    let plane = Plane {
+        normal: normal,
+        offset: c,
+    };
+    let displacement = triple(v, 0.0, 0.0);
+    let solid = Solid::Cut(plane);
+    Proxy {
+        solid: solid,
+        displacement: displacement,
+    }
+}
+
+// x at the place asked for, 0 at the others.
+fn only(place: u64, asked: u64, x: f64) -> f64 {
+    if place == asked { x } else { 0.0 }
+}
+
+// A Box all of whose nine numbers are 0 but the one at a place.
+fn box_with(place: u64, x: f64) -> Proxy {
+    let near = triple(only(place, 0, x), only(place, 1, x), only(place, 2, x));
+    let far = triple(only(place, 3, x), only(place, 4, x), only(place, 5, x));
+    let corners = Corners {
+        near: near,
+        far: far,
+    };
+    let displacement = triple(only(place, 6, x), only(place, 7, x), only(place, 8, x));
+    let solid = Solid::Box(corners);
+    Proxy {
+        solid: solid,
+        displacement: displacement,
+    }
+}
+
+// A Cut all of whose seven numbers are 0 but the one at a place.
+fn cut_with(place: u64, x: f64) -> Proxy {
+    let normal = triple(only(place, 0, x), only(place, 1, x), only(place, 2, x));
+    let plane = Plane {
+        normal: normal,
+        offset: only(place, 3, x),
+    };
+    let displacement = triple(only(place, 4, x), only(place, 5, x), only(place, 6, x));
+    let solid = Solid::Cut(plane);
+    Proxy {
+        solid: solid,
+        displacement: displacement,
+    }
+}
+
+// The size of a whole number.
+fn size(n: i64) -> u64 {
+    if n < 0 {
+        let less = 0 - (n + 1);
+        return less as u64 + 1;
+    }
+    n as u64
+}
+
+fn print_number(n: i64) {
+    io::write_all(1, b" ");
+    if n < 0 {
+        io::write_all(1, b"-");
+    }
+    io::print_decimal(1, size(n));
+}
+
+fn print_row(row: [i64; 5]) {
+    io::write_all(1, b"  row");
+    print_number(row[0]);
+    print_number(row[1]);
+    print_number(row[2]);
+    print_number(row[3]);
+    print_number(row[4]);
+    io::write_all(1, b"\n");
+}
+
+fn print_six(rows: [[i64; 5]; 6]) {
+    print_row(rows[0]);
+    print_row(rows[1]);
+    print_row(rows[2]);
+    print_row(rows[3]);
+    print_row(rows[4]);
+    print_row(rows[5]);
+}
+
+// What is answered for a proxy: its number, and the two counts of rows.
+fn answer(proxy: Proxy) {
+    io::write_all(1, b": refusal ");
+    io::print_decimal(1, standin::refusal(proxy));
+    io::write_all(1, b", box rows ");
+    io::print_decimal(1, standin::box_row_count(proxy));
+    io::write_all(1, b", cut rows ");
+    io::print_decimal(1, standin::cut_row_count(proxy));
+    io::write_all(1, b"\n");
+}
+
+// One corner's, displacement's, normal's or offset's number.
+fn corner(name: &[u8], x: f64) {
+    io::write_all(1, name);
+    io::write_all(1, b" corner");
+    answer(box_along_x(x, x, 0.0));
+}
+
+fn displacement(name: &[u8], x: f64) {
+    io::write_all(1, name);
+    io::write_all(1, b" displacement");
+    answer(box_along_x(0.0, 0.0, x));
+}
+
+fn normal(name: &[u8], x: f64) {
+    io::write_all(1, name);
+    io::write_all(1, b" normal");
+    answer(cut_along_x(x, 0.0, 0.0));
+}
+
+fn offset(name: &[u8], x: f64) {
+    io::write_all(1, name);
+    io::write_all(1, b" offset");
+    answer(cut_along_x(0.0, x, 0.0));
+}
+
+// A number that every place takes, or none does, at each kind of place.
+fn everywhere(name: &[u8], x: f64) {
+    corner(name, x);
+    displacement(name, x);
+    normal(name, x);
+    offset(name, x);
+}
+
+fn limits() {
+    corner(b"4096", 4096.0);
+    offset(b"4096", 4096.0);
+    corner(b"4096 and 1/16", 4096.0625);
+    offset(b"4096 and 1/16", 4096.0625);
+    corner(b"-4096", -4096.0);
+    offset(b"-4096", -4096.0);
+    corner(b"-4096 and -1/16", -4096.0625);
+    offset(b"-4096 and -1/16", -4096.0625);
+    displacement(b"64", 64.0);
+    normal(b"64", 64.0);
+    displacement(b"64 and 1/16", 64.0625);
+    normal(b"64 and 1/16", 64.0625);
+    displacement(b"-64", -64.0);
+    normal(b"-64", -64.0);
+    displacement(b"-64 and -1/16", -64.0625);
+    normal(b"-64 and -1/16", -64.0625);
+}
+
+fn numbers() {
+    everywhere(b"1/16", 0.0625);
+    everywhere(b"1/32", 0.03125);
+    everywhere(b"-0.0", -0.0);
+    everywhere(b"least subnormal", 5e-324);
+    everywhere(b"largest subnormal", 2.225073858507201e-308);
+    everywhere(b"NaN", 0.0 / 0.0);
+    everywhere(b"infinity", 1.0 / 0.0);
+    everywhere(b"-infinity", -1.0 / 0.0);
+    everywhere(b"largest float", 1.7976931348623157e308);
+}
+
+fn print_refusal(proxy: Proxy) {
+    io::write_all(1, b" ");
+    io::print_decimal(1, standin::refusal(proxy));
+}
+
+// 1/32 at each place by itself.
+fn places() {
+    io::write_all(1, b"1/32 at each place of a Box, and at none:");
+    print_refusal(box_with(0, 0.03125));
+    print_refusal(box_with(1, 0.03125));
+    print_refusal(box_with(2, 0.03125));
+    print_refusal(box_with(3, 0.03125));
+    print_refusal(box_with(4, 0.03125));
+    print_refusal(box_with(5, 0.03125));
+    print_refusal(box_with(6, 0.03125));
+    print_refusal(box_with(7, 0.03125));
+    print_refusal(box_with(8, 0.03125));
+    print_refusal(box_with(9, 0.03125));
+    io::write_all(1, b"\n1/32 at each place of a Cut, and at none:");
+    print_refusal(cut_with(0, 0.03125));
+    print_refusal(cut_with(1, 0.03125));
+    print_refusal(cut_with(2, 0.03125));
+    print_refusal(cut_with(3, 0.03125));
+    print_refusal(cut_with(4, 0.03125));
+    print_refusal(cut_with(5, 0.03125));
+    print_refusal(cut_with(6, 0.03125));
+    print_refusal(cut_with(7, 0.03125));
+    io::write_all(1, b"\n1/16 at each near and each far place:");
+    print_refusal(box_with(0, 0.0625));
+    print_refusal(box_with(1, 0.0625));
+    print_refusal(box_with(2, 0.0625));
+    print_refusal(box_with(3, 0.0625));
+    print_refusal(box_with(4, 0.0625));
+    print_refusal(box_with(5, 0.0625));
+    io::write_all(1, b"\n");
+}
+
+fn order() {
+    io::write_all(1, b"near = far");
+    answer(box_along_x(2.5, 2.5, 0.0));
+    io::write_all(1, b"near 1/16 short of far");
+    answer(box_along_x(2.4375, 2.5, 0.0));
+    io::write_all(1, b"near 1/16 past far");
+    answer(box_along_x(2.5625, 2.5, 0.0));
+}
+
+// The example of document 01, with all its rows; a Cut; and each asked for the other's rows.
+fn rows() {
+    let moving = box_along_x(2.5, 4.0, -0.25);
+    io::write_all(1, b"Box, near x 2.5, far x 4, v -0.25");
+    answer(moving);
+    print_six(standin::box_rows(moving));
+    io::write_all(1, b" asked for the row of a Cut\n");
+    print_row(standin::cut_row(moving));
+    let cut = cut_along_x(-1.5, 2.25, 0.5);
+    io::write_all(1, b"Cut, n -1.5, c 2.25, v 0.5");
+    answer(cut);
+    print_row(standin::cut_row(cut));
+    io::write_all(1, b" asked for the rows of a Box\n");
+    print_six(standin::box_rows(cut));
+    let bad = box_along_x(2.5, 2.0, -0.25);
+    io::write_all(1, b"Box, near x 2.5, far x 2");
+    answer(bad);
+    print_six(standin::box_rows(bad));
+}
+
+// The largest numbers of a Cut.
+fn largest() {
+    let normal = triple(64.0, -64.0, 64.0);
+    let plane = Plane {
+        normal: normal,
+        offset: 4096.0,
+    };
+    let displacement = triple(-64.0, 64.0, -64.0);
+    let solid = Solid::Cut(plane);
+    let proxy = Proxy {
+        solid: solid,
+        displacement: displacement,
+    };
+    io::write_all(1, b"Cut, every number at its limit");
+    answer(proxy);
+    print_row(standin::cut_row(proxy));
+}
+
+fn main() {
+    limits();
+    numbers();
+    places();
+    order();
+    rows();
+    largest();
+}
