@@ -1,4 +1,4 @@
--- Laws of the definitions, one file for each; then those of the functions, by module of src/ (Walks: count.rt, Voxels: voxel.rt, Lays: lay.rt).
+-- Laws of the definitions, one file for each; then those of the functions, by module of src/ (Walks: count.rt, Voxels: voxel.rt, Lays: lay.rt, Places: place.rt).
 pub mod Shape
 pub mod Reading
 pub mod Parts
@@ -9,3 +9,4 @@ pub mod Answers
 pub mod Walks
 pub mod Voxels
 pub mod Lays
+pub mod Places

@@ -1,12 +1,13 @@
--- The part at a path, by the path's halves; and the colour at a voxel, whose path has L halves, so that the part there is a leaf.
-use mathlib.Core.Path.{_≡_, refl, sym, ap}
+-- The part at a path, by the path's halves; where its symbols stand among the shape's; and the colour at a voxel, whose path has L halves, so that the part there is a leaf.
+use mathlib.Core.Path.{_≡_, refl, sym, ap, _∙_}
 use mathlib.Core.Bool.{Bool, true, false, cond, _&&_}
-use mathlib.Core.List.{List, [], _∷_, _++_}
-use Prim.Native.Nat.{ℕ, zero, suc, _-_, _≤_, _<_}
+use mathlib.Core.List.{List, [], _∷_, _++_, append-assoc, append-nil}
+use Prim.Native.Nat.{ℕ, zero, suc, _+_, _-_, _≤_, _<_}
 use native.Mathlib.Omega.{arith}
 use borrow.Author.Tests.{leb-true, le-leb, ltb-true, lt-ltb}
 use lib.Dec.{eqb, leb, ltb}
-use lib.ListN.{length, getD}
+use lib.ListN.{length, getD, take, drop}
+use lib.Seq.{take-at, drop-at, drop-drop}
 use Rattle.lemmas.specs.Sums.{every}
 use Rattle.lemmas.proofs.Sums.{and-left, and-right, and-both, every-all, all-every}
 use Rattle.universe.proofs.Refusals.{unless-holds, holds-unless}
@@ -15,9 +16,9 @@ use Rattle.universe.specs.Refusals.{unless}
 use Rattle.universe.specs.Universe.{levels}
 use Rattle.universe.specs.Voxel.{pathFrom, pathTo}
 use Rattle.bintree.specs.declared.Colour.{Colour}
-use Rattle.bintree.specs.Shape.{Shape, leaf, halved, depth}
-use Rattle.bintree.specs.Parts.{part, pathRefusal}
-use Rattle.bintree.proofs.Shape.{depth-low, depth-high, halved-deep}
+use Rattle.bintree.specs.Shape.{Shape, leaf, halved, symbols, size, depth}
+use Rattle.bintree.specs.Parts.{part, partStart, pathRefusal}
+use Rattle.bintree.proofs.Shape.{length-symbols, depth-low, depth-high, halved-deep}
 
 pub part-empty : (s : Shape) → part s [] ≡ s
 unfolding part
@@ -50,6 +51,47 @@ unfolding part
 part-append (leaf c) path more = refl
 part-append (halved a b) [] more = refl
 part-append (halved a b) (h ∷ path) more = rw (part-append a path more, part-append b path more) (sym (part-choice (eqb h 0) (part a path) (part b path) more))
+
+-- where the part starts, and that it ends inside the shape
+pub start-empty : (s : Shape) → partStart s [] ≡ 0
+unfolding partStart
+start-empty (leaf c) = refl
+start-empty (halved a b) = refl
+
+within-choice : (choice : Bool) (m n : ℕ) (x y : Shape) (most : ℕ) → m + size x ≤ most → n + size y ≤ most → cond choice m n + size (cond choice x y) ≤ most
+within-choice true m n x y most h k = h
+within-choice false m n x y most h k = k
+
+pub part-within : (s : Shape) (path : List ℕ) → partStart s path + size (part s path) ≤ size s
+unfolding part partStart size
+part-within (leaf c) path = omega arith
+part-within (halved a b) [] = omega arith
+part-within (halved a b) (h ∷ path) =
+    let x = part-within a path in
+    let y = part-within b path in
+    within-choice (eqb h 0) (suc (partStart a path)) (suc (size a + partStart b path)) (part a path) (part b path) (suc (size a + size b)) (omega arith) (omega arith)
+
+-- the part's symbols stand there, whatever follows the shape's
+cut-choice : (choice : Bool) (s : List ℕ) (m n : ℕ) (x y : Shape) → take (size x) (drop m s) ≡ symbols x → take (size y) (drop n s) ≡ symbols y → take (size (cond choice x y)) (drop (cond choice m n) s) ≡ symbols (cond choice x y)
+cut-choice true s m n x y h k = h
+cut-choice false s m n x y h k = k
+
+part-cut : (s : Shape) (path rest : List ℕ) → take (size (part s path)) (drop (partStart s path) (symbols s ++ rest)) ≡ symbols (part s path)
+unfolding part partStart size symbols
+part-cut (leaf c) path rest = refl
+part-cut (halved a b) [] rest = take-at (symbols (halved a b)) rest (size (halved a b)) (length-symbols (halved a b))
+part-cut (halved a b) (h ∷ path) rest =
+    let both = append-assoc (symbols a) (symbols b) rest in
+    let k = partStart b path in
+    let past : drop (size a + k) (symbols a ++ (symbols b ++ rest)) ≡ drop k (symbols b ++ rest) =
+    sym (drop-drop k (size a) (symbols a ++ (symbols b ++ rest))) ∙ ap (drop k) (drop-at (symbols a) (symbols b ++ rest) (size a) (length-symbols a)) in
+    cut-choice (eqb h 0) (symbols (halved a b) ++ rest) (suc (partStart a path)) (suc (size a + k)) (part a path) (part b path)
+    (rw both (part-cut a path (symbols b ++ rest)))
+    (rw (both, past) (part-cut b path rest))
+
+-- THEOREM: the cut at a part's start, as long as the part, is the part's own expression
+pub part-symbols : (s : Shape) (path : List ℕ) → take (size (part s path)) (drop (partStart s path) (symbols s)) ≡ symbols (part s path)
+part-symbols s path = rw (append-nil (symbols s)) at (part-cut s path [])
 
 -- each half of the path leads at least one halving down
 depth-choice : (choice : Bool) (x y : Shape) (n : ℕ) → depth x ≤ n → depth y ≤ n → depth (cond choice x y) ≤ n

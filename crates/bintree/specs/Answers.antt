@@ -4,7 +4,7 @@ use Prim.Native.Nat.{ℕ}
 use mathlib.Core.Bool.{cond, _&&_}
 use mathlib.Core.List.{List, [], _∷_, _++_}
 use lib.Dec.{leb, eqb}
-use lib.ListN.{length, drop}
+use lib.ListN.{length, take, drop}
 use Rattle.universe.specs.declared.Universe.{Universe}
 use Rattle.universe.specs.Refusals.{unless, firstRefusal}
 use Rattle.universe.specs.Universe.{universeRefusal}
@@ -12,12 +12,13 @@ use Rattle.universe.specs.Voxel.{voxelRefusal}
 use Rattle.bintree.specs.declared.Colour.the-variants.{White}
 use Rattle.bintree.specs.declared.Counted.{Counted}
 use Rattle.bintree.specs.declared.Coloured.{Coloured}
+use Rattle.bintree.specs.declared.Placed.{Placed}
 use Rattle.bintree.specs.declared.Written.{Written}
-use Rattle.bintree.specs.Shape.{Shape, symbols}
+use Rattle.bintree.specs.Shape.{Shape, symbols, size}
 use Rattle.bintree.specs.Reading.{Reading, none, read, expression, expressionRefusal}
 use Rattle.bintree.specs.Merging.{merged}
 use Rattle.bintree.specs.Counts.{volume}
-use Rattle.bintree.specs.Parts.{colourAt}
+use Rattle.bintree.specs.Parts.{part, partStart, pathRefusal, colourAt}
 
 -- of the shape that is read, or what stands for it where there is none
 abbrev pub ofShape : {A : Type 0} → Reading → A → (Shape → A) → A
@@ -38,6 +39,25 @@ voxelChecks u s v = firstRefusal (universeRefusal u ∷ expressionRefusal u s �
 
 unfoldable pub colourAnswer : Universe → List ℕ → List ℕ → Coloured
 colourAnswer u s v = record { refusal = voxelChecks u s v; colour = cond (eqb (voxelChecks u s v) 0) (ofShape (expression u s) White (λ a. colourAt u a v)) White }
+
+-- where the part for a block stands: 9 comes after 7
+abbrev pub pathChecks : Universe → List ℕ → List ℕ → ℕ
+pathChecks u s path = firstRefusal (universeRefusal u ∷ expressionRefusal u s ∷ pathRefusal u path ∷ [])
+
+unfoldable pub placeAnswer : Universe → List ℕ → List ℕ → Placed
+placeAnswer u s path =
+    record {
+      refusal = pathChecks u s path;
+      start = cond (eqb (pathChecks u s path) 0) (ofShape (expression u s) 0 (λ a. partStart a path)) 0;
+      length = cond (eqb (pathChecks u s path) 0) (ofShape (expression u s) 0 (λ a. size (part a path))) 0;
+    }
+
+-- "It is a part of the caller's own expression", cut there; "A refusal hands back the empty part"
+abbrev pub cutAt : List ℕ → Placed → List ℕ
+cutAt s place = take (place .length) (drop (place .start) s)
+
+unfoldable pub partAnswer : Universe → List ℕ → List ℕ → List ℕ
+partAnswer u s path = cutAt s (placeAnswer u s path)
 
 -- number 6 where what is needed exceeds the room lent
 abbrev pub roomRefusal : ℕ → ℕ → ℕ

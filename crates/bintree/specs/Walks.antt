@@ -11,16 +11,19 @@ use Rattle.universe.specs.Voxel.{pathFrom, voxelRefusal}
 use Rattle.bintree.specs.declared.Colour.{Colour}
 use Rattle.bintree.specs.declared.Colour.the-variants.{White, Black}
 use Rattle.bintree.specs.declared.Coloured.{Coloured}
+use Rattle.bintree.specs.declared.Placed.{Placed}
 use Rattle.bintree.specs.declared.count.Walked.{Walked}
 use Rattle.bintree.specs.declared.count.Walked.the-variants.{Past, Nowhere}
 use Rattle.bintree.specs.declared.lay.Laid.{Laid}
 use Rattle.bintree.specs.declared.lay.Laid.the-variants.{Done, Unread}
+use Rattle.bintree.specs.declared.place.Traced.{Traced}
+use Rattle.bintree.specs.declared.place.Traced.the-variants.{Led, Lost}
 use Rattle.bintree.specs.declared.voxel.Sought.{Sought}
 use Rattle.bintree.specs.declared.voxel.Sought.the-variants.{Found, Missing}
 use Rattle.bintree.specs.Shape.{Shape, leaf, halved, openSymbol, symbolOf, symbols, size}
 use Rattle.bintree.specs.Reading.{Reading, none, read}
 use Rattle.bintree.specs.Merging.{merged}
-use Rattle.bintree.specs.Parts.{part, colourOf}
+use Rattle.bintree.specs.Parts.{part, partStart, pathRefusal, colourOf}
 
 -- black voxels of a block with n levels left
 unfoldable pub voxelsBelow : ℕ → Shape → ℕ
@@ -41,6 +44,20 @@ sought u v p l n (read a) = Found (p + size a) (colourOf (part a (pathFrom u v l
 -- the answer for a voxel of a well-formed expression
 unfoldable pub shownAt : Universe → List ℕ → Colour → Coloured
 shownAt u v c = record { refusal = voxelRefusal u v; colour = cond (eqb (voxelRefusal u v) 0) c White }
+
+-- the place after the tree that begins at p, and where the part at a path stands and its length
+unfoldable pub traced : ℕ → Reading → List ℕ → Traced
+traced p none path = Lost
+traced p (read a) path = Led (p + size a) (p + partStart a path) (size (part a path))
+
+-- the answer for a path of a well-formed expression
+unfoldable pub judgedAt : Universe → List ℕ → ℕ → ℕ → Placed
+judgedAt u path start length =
+    record {
+      refusal = pathRefusal u path;
+      start = cond (eqb (pathRefusal u path) 0) start 0;
+      length = cond (eqb (pathRefusal u path) 0) length 0;
+    }
 
 -- what is held back of a merged shape: the symbol of a leaf, which may still meet its brother; 0 is none
 unfoldable pub heldOf : Shape → ℕ

@@ -1,6 +1,7 @@
 // Expressions: what their symbols say.
 mod count;
 mod lay;
+mod place;
 mod voxel;
 
 pub use count::volume;
@@ -9,6 +10,9 @@ pub use lay::is_alike;
 pub use lay::merge;
 pub use lay::note;
 pub use lay::open;
+pub use place::part;
+pub use place::part_place;
+pub use place::part_refusal;
 pub use voxel::colour_at;
 
 // The two colours of a voxel.
@@ -46,4 +50,11 @@ pub struct Counted {
 pub struct Coloured {
     pub refusal: u64,
     pub colour: Colour,
+}
+
+// What `part_place` answers: a refusal, 0 and 0, or 0 and where the part starts and how many symbols it has.
+pub struct Placed {
+    pub refusal: u64,
+    pub start: u64,
+    pub length: u64,
 }
