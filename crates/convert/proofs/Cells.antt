@@ -25,9 +25,6 @@ use Rattle.convert.specs.Cells.{CellReady, Standing, blockAt, wholeCell,
 pub sum-small : {a b : List ℕ} → SmallCorner a → SmallCorner b → (i : ℕ) → Fits w64 (getD a i 0 + getD b i 0)
 sum-small p q i = record { fits = omega (arith, p .place i .most, q .place i .most) }
 
-pub shifted : (u : Universe) → universeRefusal u ≡ 0 → (1 * 2 ^ u .bits) % 18446744073709551616 ≡ 2 ^ u .bits
-shifted u e = rw one-mul (mod-eq-of-lt (omega (arith, side-few u (accepted u e) 0)))
-
 -- ---- the whole universe's cell holds its block
 small-repeat : (x : ℕ) → x ≤ 1024 → SmallCorner (replicate 4 x)
 small-repeat x h = record { place = λ i. record { most = by 4 i } }

@@ -1,10 +1,11 @@
 -- Whole numbers that the machine holds. `Near z x b`: what the machine reads, z, is the whole number x, and |x| ≤ b. The bounds are numerals that
 -- compute, so that a sum or a product of i64s fits is `near-fits .. tt`.
 use mathlib.Core.Path.{_≡_, refl, sym, ap, ap₂, _∙_, subst}
-use Prim.Native.Nat.{ℕ, zero, suc, _+_, _*_, _^_, _≤_, _<_}
+use Prim.Native.Nat.{ℕ, zero, suc, _+_, _*_, _%_, _^_, _≤_, _<_}
 use native.Mathlib.Omega.{arith}
-use native.Mathlib.Nat.{mul-le-mul, le-refl}
+use native.Mathlib.Nat.{mul-le-mul, le-refl, one-mul}
 use native.Mathlib.Decide.{decLe}
+use lib.Pow.{shl-exact}
 use mathlib.Core.List.{List}
 use lib.ListN.{length, getD, List·getD-eq-default}
 use mathlib.Core.Bool.{true}
@@ -136,3 +137,7 @@ near-unsigned {z} {x} {b} n t h = (nonneg-as (n .same) h, record { fits = omega 
 
 pub unsigned-is : {z x : ℤ} {b : ℕ} → Near z x b → pos 0 ≤ℤ x → pos (natAbs z) ≡ x
 unsigned-is {z} n h = pos-natAbs z (nonneg-as (n .same) h) ∙ n .same
+
+-- a shift of 1 by fewer than 64 places loses nothing
+pub shifted-one : (n : ℕ) → n < 64 → 1 * 2 ^ n % 18446744073709551616 ≡ 2 ^ n
+shifted-one n h = shl-exact 1 n 64 (omega arith) (omega arith) ∙ one-mul (2 ^ n)

@@ -7,6 +7,7 @@ ghost use mathlib.Core.Bool.{_&&_};
 ghost use Prim.Native.Nat.{_≤_, _<_};
 ghost use lib.Dec.{ltb};
 ghost use Rattle.universe.specs.Universe.{universeRefusal, mostAxes, levels, axisAt, blockSide};
+ghost use Rattle.universe.specs.Voxel.{windowRefusal};
 ghost use Rattle.universe.specs.Block.{wholeBlock, placedAlong, isGiven, lowHalf, highHalf, bothHalves};
 
 // Axes and bits, any numbers: `refusal` says whether they are a universe's.
@@ -56,6 +57,23 @@ impl Universe {
             return 2;
         }
         0
+    }
+
+    // 9 where a window of frames is outside the universe or first > last, else 0; both ends are in.
+    pub fn window_refusal(self, first: u64, last: u64) -> u64
+        ensures { λ r. ⌜ r ≡ windowRefusal self first last ⌝ }
+    {
+        let bits = self.bits;
+        if last < first {
+            return 9;
+        }
+        if 63 < bits {
+            return 0;
+        }
+        if last < 1u64 << bits {
+            return 0;
+        }
+        9
     }
 
     // The levels of halving.
