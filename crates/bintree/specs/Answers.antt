@@ -8,17 +8,20 @@ use lib.ListN.{length, take, drop}
 use Rattle.universe.specs.declared.Universe.{Universe}
 use Rattle.universe.specs.Refusals.{unless, firstRefusal}
 use Rattle.universe.specs.Universe.{universeRefusal}
-use Rattle.universe.specs.Voxel.{voxelRefusal}
+use Rattle.universe.specs.Voxel.{voxelRefusal, windowRefusal}
 use Rattle.bintree.specs.declared.Colour.the-variants.{White}
 use Rattle.bintree.specs.declared.Counted.{Counted}
 use Rattle.bintree.specs.declared.Coloured.{Coloured}
+use Rattle.bintree.specs.declared.Judged.{Judged}
 use Rattle.bintree.specs.declared.Placed.{Placed}
+use Rattle.bintree.specs.declared.Verdict.the-variants.{Clear}
 use Rattle.bintree.specs.declared.Written.{Written}
 use Rattle.bintree.specs.Shape.{Shape, symbols, size}
 use Rattle.bintree.specs.Reading.{Reading, none, read, expression, expressionRefusal}
 use Rattle.bintree.specs.Merging.{merged}
 use Rattle.bintree.specs.Counts.{volume}
 use Rattle.bintree.specs.Parts.{part, partStart, pathRefusal, colourAt}
+use Rattle.bintree.specs.Verdicts.{verdict}
 
 -- of the shape that is read, or what stands for it where there is none
 abbrev pub ofShape : {A : Type 0} → Reading → A → (Shape → A) → A
@@ -58,6 +61,14 @@ cutAt s place = take (place .length) (drop (place .start) s)
 
 unfoldable pub partAnswer : Universe → List ℕ → List ℕ → List ℕ
 partAnswer u s path = cutAt s (placeAnswer u s path)
+
+-- the verdict over a window: 9 comes after 7
+abbrev pub windowChecks : Universe → List ℕ → ℕ → ℕ → ℕ
+windowChecks u s first last = firstRefusal (universeRefusal u ∷ expressionRefusal u s ∷ windowRefusal u first last ∷ [])
+
+unfoldable pub verdictAnswer : Universe → List ℕ → ℕ → ℕ → Judged
+verdictAnswer u s first last =
+    record { refusal = windowChecks u s first last; verdict = cond (eqb (windowChecks u s first last) 0) (ofShape (expression u s) Clear (λ a. verdict u a first last)) Clear }
 
 -- number 6 where what is needed exceeds the room lent
 abbrev pub roomRefusal : ℕ → ℕ → ℕ

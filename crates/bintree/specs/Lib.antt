@@ -6,4 +6,5 @@ pub mod Parts
 pub mod Counts
 pub mod Verdicts
 pub mod Walks
+pub mod Windows
 pub mod Answers

@@ -3,6 +3,7 @@ mod count;
 mod lay;
 mod place;
 mod voxel;
+mod window;
 
 pub use count::volume;
 pub use count::well_formed;
@@ -14,6 +15,7 @@ pub use place::part;
 pub use place::part_place;
 pub use place::part_refusal;
 pub use voxel::colour_at;
+pub use window::verdict_of;
 
 // The two colours of a voxel.
 pub enum Colour {
@@ -57,4 +59,10 @@ pub struct Placed {
     pub refusal: u64,
     pub start: u64,
     pub length: u64,
+}
+
+// What `verdict_of` answers: a refusal and Clear, or 0 and the verdict.
+pub struct Judged {
+    pub refusal: u64,
+    pub verdict: Verdict,
 }

@@ -1,0 +1,348 @@
+-- The contact that a walk finds is the verdict's. `Tells first last g k`: the contact k tells of a window in which frame c has g c black voxels; a
+-- black block's frames joined to it tell of the block's voxels too, and block by block so do all of the shape.
+use mathlib.Core.Path.{_≡_, refl, sym, ap, _∙_}
+use mathlib.Core.Bool.{Bool, true, false, cond, _&&_}
+use Prim.Native.Nat.{ℕ, zero, suc, _+_, _-_, _*_, _/_, _%_, _≤_, _<_, min, max}
+use native.Mathlib.Nat.{div-eq-of-lt-le}
+use native.Mathlib.Decide.{ℕ-discrete, decLe, decLt}
+use native.Mathlib.Omega.{arith}
+use borrow.Author.Tests.{eq-eqb, ne-eqb, le-leb, lt-leb, lt-ltb, le-ltb}
+use lib.Dec.{leb, ltb, eqb}
+use Rattle.lemmas.specs.Sums.{sum, product}
+use Rattle.lemmas.proofs.Sums.{sum-cong, sum-add, sum-zero, sum-part, product-positive}
+use Rattle.universe.specs.declared.Universe.{Universe}
+use Rattle.universe.specs.Universe.{levels, axisAt, frameAxis, frameCount, blockSide}
+use Rattle.universe.proofs.Universes.{side-first, side-halved, side-kept, side-positive}
+use Rattle.bintree.specs.declared.Colour.the-variants.{White, Black}
+use Rattle.bintree.specs.declared.Contact.{Contact}
+use Rattle.bintree.specs.declared.Verdict.{Verdict}
+use Rattle.bintree.specs.declared.Verdict.the-variants.{Clear, Hit}
+use Rattle.bintree.specs.Shape.{Shape, leaf, halved, depth}
+use Rattle.bintree.specs.Counts.{ofHalves, voxelsFrom, voxelsAt}
+use Rattle.bintree.specs.Verdicts.{windowLength, verdict}
+use Rattle.bintree.specs.Windows.{noContact, joined, touched, contactFrom, verdictOf}
+use Rattle.bintree.proofs.Counts.{level-below, low-fits, high-fits}
+use Rattle.bintree.proofs.Verdicts.{HitIn, clear-none, hit-is}
+
+-- f at the n frames from `frame` on, and 0 elsewhere
+inside : ℕ → ℕ → (ℕ → ℕ) → ℕ → ℕ
+inside frame n f c = cond (leb frame c && ltb c (frame + n)) (f c) 0
+
+module _ (frame n : ℕ) (f : ℕ → ℕ) (c : ℕ) where
+  inside-at : frame ≤ c → c < frame + n → inside frame n f c ≡ f c
+  unfolding inside
+  inside-at h k = rw (inside, le-leb frame c h, lt-ltb c (frame + n) k)
+
+  before-at : c < frame → inside frame n f c ≡ 0
+  unfolding inside
+  before-at h = rw (inside, lt-leb frame c h)
+
+  after-at : frame + n ≤ c → inside frame n f c ≡ 0
+  unfolding inside
+  after-at h = rw (inside, le-leb frame c (omega arith), le-ltb c (frame + n) h)
+
+  outside-at : (frame ≤ c → c < frame + n → ⊥) → inside frame n f c ≡ 0
+  outside-at h = go (decLe frame c)
+    where
+      go : Dec (frame ≤ c) → inside frame n f c ≡ 0
+      go (yes k) = after-at (omega (arith, h k))
+      go (no k) = before-at (omega arith)
+
+none-inside : (frame n c : ℕ) → inside frame n (λ e. 0) c ≡ 0
+unfolding inside
+none-inside frame n c = go (leb frame c && ltb c (frame + n))
+  where
+    go : (b : Bool) → _≡_ {A = ℕ} (cond b 0 0) 0
+    go true = refl
+    go false = refl
+
+same-inside : (frame n : ℕ) (f g : ℕ → ℕ) (c : ℕ) → f c ≡ g c → inside frame n f c ≡ inside frame n g c
+unfolding inside
+same-inside frame n f g c e = ap (λ x. cond (leb frame c && ltb c (frame + n)) x 0) e
+
+-- two halves with the same frames, and two whose frames follow each other: of the latter a frame's half is the one that holds it
+both-inside : (frame n : ℕ) (low high : ℕ → ℕ) (c : ℕ) → inside frame n low c + inside frame n high c ≡ inside frame n (λ e. low e + high e) c
+both-inside frame n low high c = go (decLe frame c) (decLt c (frame + n))
+  where
+    go : Dec (frame ≤ c) → Dec (c < frame + n) → inside frame n low c + inside frame n high c ≡ inside frame n (λ e. low e + high e) c
+    go (yes h) (yes k) = rw (inside-at frame n low c h k, inside-at frame n high c h k, inside-at frame n (λ e. low e + high e) c h k)
+    go (yes h) (no k) = let l : frame + n ≤ c = omega arith in rw (after-at frame n low c l, after-at frame n high c l, after-at frame n (λ e. low e + high e) c l)
+    go (no h) k = let l : c < frame = omega arith in rw (before-at frame n low c l, before-at frame n high c l, before-at frame n (λ e. low e + high e) c l)
+
+lower-frame : (n m c : ℕ) → m * (2 * n) ≤ c → c < m * (2 * n) + n → c / n % 2 ≡ 0
+lower-frame n m c h k = let e : c / n ≡ 2 * m = div-eq-of-lt-le n (omega arith) (omega arith) in omega arith
+
+upper-frame : (n m c : ℕ) → m * (2 * n) + n ≤ c → c < m * (2 * n) + 2 * n → c / n % 2 ≡ 1
+upper-frame n m c h k = let e : c / n ≡ 2 * m + 1 = div-eq-of-lt-le n (omega arith) (omega arith) in omega arith
+
+halves-inside : (n m : ℕ) (low high : ℕ → ℕ) (c : ℕ) → inside (m * (2 * n)) n low c + inside (m * (2 * n) + n) n high c ≡ inside (m * (2 * n)) (2 * n) (λ e. ofHalves true (eqb (e / n % 2) 0) (low e) (high e)) c
+halves-inside n m low high c = go (decLe frame c) (decLt c (frame + n)) (decLt c (frame + 2 * n))
+  where
+    frame : ℕ
+    frame = m * (2 * n)
+
+    both : ℕ → ℕ
+    both e = ofHalves true (eqb (e / n % 2) 0) (low e) (high e)
+
+    go : Dec (frame ≤ c) → Dec (c < frame + n) → Dec (c < frame + 2 * n) → inside frame n low c + inside (frame + n) n high c ≡ inside frame (2 * n) both c
+    go (no h) k l = rw (before-at frame n low c (omega arith), before-at (frame + n) n high c (omega arith), before-at frame (2 * n) both c (omega arith))
+    go (yes h) (yes k) l = rw (inside-at frame n low c h k, before-at (frame + n) n high c k, inside-at frame (2 * n) both c h (omega arith), lower-frame n m c h k) (omega arith)
+    go (yes h) (no k) (yes l) = rw (after-at frame n low c (omega arith), inside-at (frame + n) n high c (omega arith) (omega arith), inside-at frame (2 * n) both c h l, upper-frame n m c (omega arith) l) (omega arith)
+    go (yes h) (no k) (no l) = rw (after-at frame n low c (omega arith), after-at (frame + n) n high c (omega arith), after-at frame (2 * n) both c (omega arith))
+
+-- the same with numbers of their own
+follow-inside : (n m frame wide next : ℕ) → wide ≡ 2 * n → frame ≡ m * wide → next ≡ frame + (wide - n) → (low high : ℕ → ℕ) (c : ℕ) → inside frame n low c + inside next n high c ≡ inside frame wide (λ e. ofHalves true (eqb (e / n % 2) 0) (low e) (high e)) c
+follow-inside n m frame wide next e f g low high c =
+    let p : frame ≡ m * (2 * n) = f ∙ ap (λ (x : ℕ). m * x) e in
+    let q : next ≡ m * (2 * n) + n = omega arith in
+    rw (p, q, e) (halves-inside n m low high c)
+
+-- frames with as many voxels each, summed over a window
+frames-sum : (first each frame n w : ℕ) → sum w (λ c. inside frame n (λ e. each) (first + c)) ≡ (min (frame + n) (first + w) - max frame first) * each
+unfolding sum
+frames-sum first each frame n zero = let e : min (frame + n) (first + 0) - max frame first ≡ 0 = omega arith in rw e (omega arith)
+frames-sum first each frame n (suc w) = go (decLe frame (first + w)) (decLt (first + w) (frame + n)) (frames-sum first each frame n w)
+  where
+    now : ℕ
+    now = min (frame + n) (first + w) - max frame first
+
+    next : ℕ
+    next = min (frame + n) (first + suc w) - max frame first
+
+    go : Dec (frame ≤ first + w) → Dec (first + w < frame + n) → sum w (λ c. inside frame n (λ e. each) (first + c)) ≡ now * each → sum w (λ c. inside frame n (λ e. each) (first + c)) + inside frame n (λ e. each) (first + w) ≡ next * each
+    go (yes h) (yes k) ih =
+        let e : next ≡ suc now = omega arith in
+        rw (e, ih, inside-at frame n (λ e. each) (first + w) h k) (omega arith)
+    go (yes h) (no k) ih =
+        let e : next ≡ now = omega arith in
+        rw (e, ih, after-at frame n (λ e. each) (first + w) (omega arith)) (omega arith)
+    go (no h) k ih =
+        let e : next ≡ now = omega arith in
+        rw (e, ih, before-at frame n (λ e. each) (first + w) (omega arith)) (omega arith)
+
+module _ (first last : ℕ) where
+  -- what a contact tells of a window whose frame c has g c black voxels
+  pub record Tells (g : ℕ → ℕ) (k : Contact) : Type 0 where
+    pub count : k .voxels ≡ sum (windowLength first last) (λ c. g (first + c))
+    pub first-from : first ≤ k .first
+    pub first-to : k .first ≤ last
+    pub none-before : (c : ℕ) → first ≤ c → c < k .first → g c ≡ 0
+    pub first-black : k .first < last → 0 < g (k .first)
+    pub last-from : first ≤ k .last
+    pub last-to : k .last ≤ last
+    pub none-after : (c : ℕ) → k .last < c → c ≤ last → g c ≡ 0
+    pub last-black : first < k .last → 0 < g (k .last)
+
+  -- nothing yet
+  nothing-tells : first ≤ last → Tells (λ c. 0) (noContact first last)
+  nothing-tells h =
+      record {
+        count = sym (sum-zero (windowLength first last) (λ c. 0) (λ c k. refl));
+        first-from = h;
+        first-to = omega arith;
+        none-before = λ c i j. refl;
+        first-black = λ i. absurd (omega arith);
+        last-from = omega arith;
+        last-to = h;
+        none-after = λ c i j. refl;
+        last-black = λ i. absurd (omega arith);
+      }
+
+  -- the same voxels at each frame of the window
+  same-tells : {g h : ℕ → ℕ} {k : Contact} → ((c : ℕ) → first ≤ c → c ≤ last → g c ≡ h c) → Tells g k → Tells h k
+  same-tells {g} {h} {k} e t =
+      record {
+        count = t .count ∙ sum-cong (windowLength first last) (λ c. g (first + c)) (λ c. h (first + c)) (λ c i. e (first + c) (omega arith) (omega arith));
+        first-from = t .first-from;
+        first-to = t .first-to;
+        none-before = λ c i j. sym (e c i (omega (arith, t .first-to))) ∙ t .none-before c i j;
+        first-black = λ i. rw (← e (k .first) (t .first-from) (t .first-to)) (t .first-black i);
+        last-from = t .last-from;
+        last-to = t .last-to;
+        none-after = λ c i j. sym (e c (omega (arith, t .last-from)) j) ∙ t .none-after c i j;
+        last-black = λ i. rw (← e (k .last) (t .last-from) (t .last-to)) (t .last-black i);
+      }
+
+  -- frames `from` to `to` of the window joined, where m counts as many voxels in each of them and none elsewhere
+  module _ (from to each : ℕ) (begins : first ≤ from) (some : from ≤ to) (ends : to ≤ last) (black : 0 < each) (g m : ℕ → ℕ) where
+    joined-tells : (k : Contact) → Tells g k → ((c : ℕ) → from ≤ c → c ≤ to → m c ≡ each) → ((c : ℕ) → first ≤ c → c < from → m c ≡ 0) → ((c : ℕ) → to < c → c ≤ last → m c ≡ 0) → sum (windowLength first last) (λ c. m (first + c)) ≡ windowLength from to * each → Tells (λ c. g c + m c) (joined k from to each)
+    joined-tells k t at before after whole =
+        record {
+          count = omega (arith, t .count, whole, sum-add (windowLength first last) (λ c. g (first + c)) (λ c. m (first + c)));
+          first-from = omega (arith, t .first-from);
+          first-to = omega (arith, t .first-to);
+          none-before = λ c i j. omega (arith, t .none-before c i (omega arith), before c i (omega arith));
+          first-black = λ i. least (decLe (k .first) from) i;
+          last-from = omega (arith, t .last-from);
+          last-to = omega (arith, t .last-to);
+          none-after = λ c i j. omega (arith, t .none-after c (omega arith) j, after c (omega arith) j);
+          last-black = λ i. greatest (decLe to (k .last)) i;
+        }
+      where
+        least : Dec (k .first ≤ from) → min (k .first) from < last → 0 < g (min (k .first) from) + m (min (k .first) from)
+        least (yes d) i = let e : min (k .first) from ≡ k .first = omega arith in rw e (omega (arith, t .first-black (omega arith)))
+        least (no d) i = let e : min (k .first) from ≡ from = omega arith in rw e (omega (arith, at from (omega arith) some))
+
+        greatest : Dec (to ≤ k .last) → first < max (k .last) to → 0 < g (max (k .last) to) + m (max (k .last) to)
+        greatest (yes d) i = let e : max (k .last) to ≡ k .last = omega arith in rw e (omega (arith, t .last-black (omega arith)))
+        greatest (no d) i = let e : max (k .last) to ≡ to = omega arith in rw e (omega (arith, at to some (omega arith)))
+
+  -- a black block's frames, as far as they lie in the window
+  touched-tells : (frame n each : ℕ) → first ≤ last → 0 < n → 0 < each → (g : ℕ → ℕ) (k : Contact) → Tells g k → Tells (λ c. g c + inside frame n (λ e. each) c) (touched k first last frame n each)
+  unfolding touched
+  touched-tells frame n each h some black g k t = go (decLe (max frame first) (min (frame + (n - 1)) last))
+    where
+      from : ℕ
+      from = max frame first
+
+      to : ℕ
+      to = min (frame + (n - 1)) last
+
+      m : ℕ → ℕ
+      m = inside frame n (λ e. each)
+
+      whole : from ≤ to → sum (windowLength first last) (λ c. m (first + c)) ≡ windowLength from to * each
+      whole i =
+          let d : first + windowLength first last ≡ suc last = omega arith in
+          let e : min (frame + n) (suc last) ≡ suc to = omega arith in
+          frames-sum first each frame n (windowLength first last) ∙ rw (d, e)
+
+      go : Dec (from ≤ to) → Tells (λ c. g c + m c) (cond (leb from to) (joined k from to each) k)
+      go (yes i) =
+          rw (le-leb from to i)
+          (joined-tells from to each (omega arith) i (omega arith) black g m k t
+          (λ c a b. inside-at frame n (λ e. each) c (omega arith) (omega arith))
+          (λ c a b. outside-at frame n (λ e. each) c (λ x y. omega arith))
+          (λ c a b. after-at frame n (λ e. each) c (omega arith))
+          (whole i))
+      go (no i) =
+          rw (lt-leb from to (omega arith))
+          (same-tells (λ c a b. omega (arith, outside-at frame n (λ e. each) c (λ x y. omega arith))) t)
+
+-- a shape joined block by block: what it tells at the frames of its block, which begin at a multiple of their number
+module _ (u : Universe) (some : 0 < u .axes) (first last : ℕ) (order : first ≤ last) where
+  frames : ℕ → ℕ
+  frames l = blockSide u l (frameAxis u)
+
+  Joins : ℕ → Shape → Type 0
+  Joins l s = (m frame : ℕ) → frame ≡ m * frames l → (g : ℕ → ℕ) (k : Contact) → Tells first last g k → Tells first last (λ c. g c + inside frame (frames l) (voxelsFrom u l s) c) (contactFrom u first last l frame s k)
+
+  across-at : (l : ℕ) (a b : Shape) → axisAt u l ≡ frameAxis u → (c : ℕ) → ofHalves true (eqb (c / frames (suc l) % 2) 0) (voxelsFrom u (suc l) a c) (voxelsFrom u (suc l) b c) ≡ voxelsFrom u l (halved a b) c
+  unfolding voxelsFrom frames
+  across-at l a b e c = rw (eq-eqb (axisAt u l) (frameAxis u) e, e)
+
+  along-at : (l : ℕ) (a b : Shape) → (axisAt u l ≡ frameAxis u → ⊥) → (c : ℕ) → voxelsFrom u (suc l) a c + voxelsFrom u (suc l) b c ≡ voxelsFrom u l (halved a b) c
+  unfolding voxelsFrom
+  along-at l a b n c = rw (ne-eqb (axisAt u l) (frameAxis u) n)
+
+  across-joins : (l : ℕ) (a b : Shape) → l < levels u → axisAt u l ≡ frameAxis u → Joins (suc l) a → Joins (suc l) b → Joins l (halved a b)
+  unfolding Joins frames contactFrom
+  across-joins l a b h e x y m frame f g k t = same-tells first last at (y (2 * m + 1) next after (λ c. g c + inside frame n low c) (contactFrom u first last (suc l) frame a k) (x (2 * m) frame before g k t))
+    where
+      n : ℕ
+      n = frames (suc l)
+
+      low : ℕ → ℕ
+      low = voxelsFrom u (suc l) a
+
+      high : ℕ → ℕ
+      high = voxelsFrom u (suc l) b
+
+      next : ℕ
+      next = frame + (frames l - n)
+
+      wide : frames l ≡ 2 * n
+      wide = rw e at (side-halved u some l h)
+
+      before : frame ≡ 2 * m * n
+      before = f ∙ ap (λ (z : ℕ). m * z) wide ∙ omega arith
+
+      after : next ≡ (2 * m + 1) * n
+      after = let d = before in let w = wide in omega arith
+
+      at : (c : ℕ) → first ≤ c → c ≤ last → g c + inside frame n low c + inside next n high c ≡ g c + inside frame (frames l) (voxelsFrom u l (halved a b)) c
+      at c i j =
+          omega (
+            arith,
+            follow-inside n m frame (frames l) next wide f refl low high c,
+            same-inside frame (frames l) (λ d. ofHalves true (eqb (d / n % 2) 0) (low d) (high d)) (voxelsFrom u l (halved a b)) c (across-at l a b e c),
+          )
+
+  along-joins : (l : ℕ) (a b : Shape) → (axisAt u l ≡ frameAxis u → ⊥) → Joins (suc l) a → Joins (suc l) b → Joins l (halved a b)
+  unfolding Joins frames contactFrom
+  along-joins l a b n x y m frame f g k t = rw (next, same) (same-tells first last at (y m frame f′ (λ c. g c + inside frame (frames (suc l)) low c) (contactFrom u first last (suc l) frame a k) (x m frame f′ g k t)))
+    where
+      low : ℕ → ℕ
+      low = voxelsFrom u (suc l) a
+
+      high : ℕ → ℕ
+      high = voxelsFrom u (suc l) b
+
+      same : frames l ≡ frames (suc l)
+      same = sym (side-kept u l (frameAxis u) n)
+
+      next : frame + (frames l - frames (suc l)) ≡ frame
+      next = let e = same in omega arith
+
+      f′ : frame ≡ m * frames (suc l)
+      f′ = f ∙ ap (λ (z : ℕ). m * z) same
+
+      at : (c : ℕ) → first ≤ c → c ≤ last → g c + inside frame (frames (suc l)) low c + inside frame (frames (suc l)) high c ≡ g c + inside frame (frames (suc l)) (voxelsFrom u l (halved a b)) c
+      at c i j =
+          omega (
+            arith,
+            both-inside frame (frames (suc l)) low high c,
+            same-inside frame (frames (suc l)) (λ d. low d + high d) (voxelsFrom u l (halved a b)) c (along-at l a b n c),
+          )
+
+  shape-joins : (l : ℕ) (s : Shape) → l + depth s ≤ levels u → Joins l s
+  unfolding Joins frames contactFrom voxelsFrom
+  shape-joins l (leaf Black) h = λ m frame f g k t. touched-tells first last frame (frames l) (product (frameAxis u) (blockSide u l)) order (side-positive u l (frameAxis u)) (product-positive (frameAxis u) (blockSide u l) (λ i j. side-positive u l i)) g k t
+  shape-joins l (leaf White) h = λ m frame f g k t. same-tells first last (λ c i j. omega (arith, none-inside frame (frames l) c)) t
+  shape-joins l (halved a b) h = go (ℕ-discrete (axisAt u l) (frameAxis u)) (shape-joins (suc l) a (low-fits u l a b h)) (shape-joins (suc l) b (high-fits u l a b h))
+    where
+      go : Dec (axisAt u l ≡ frameAxis u) → Joins (suc l) a → Joins (suc l) b → Joins l (halved a b)
+      go (yes e) x y = across-joins l a b (level-below u l a b h) e x y
+      go (no n) x y = along-joins l a b n x y
+
+  -- all of the shape, from its whole universe on
+  pub contact-tells : (s : Shape) → depth s ≤ levels u → last < frameCount u → Tells first last (voxelsAt u s) (contactFrom u first last 0 0 s (noContact first last))
+  unfolding Joins frames
+  contact-tells s h k =
+      same-tells first last
+      (λ c i j. omega (arith, inside-at 0 (frames 0) (voxelsFrom u 0 s) c (omega arith) (omega (arith, side-first u (frameAxis u)))))
+      (shape-joins 0 s (omega arith) 0 0 (omega arith) (λ c. 0) (noContact first last) (nothing-tells first last order))
+
+-- THEOREM: a contact that tells of a shape's black voxels is the shape's verdict: Clear where it counts none, else Hit with it
+module _ (u : Universe) (s : Shape) (first last : ℕ) (order : first ≤ last) (k : Contact) (t : Tells first last (voxelsAt u s) k) where
+  same-contact : (contact : Contact) → HitIn u s first last contact → contact ≡ k
+  same-contact contact w = λ i. record { first = least (ℕ-discrete (contact .first) (k .first)) i; last = greatest (ℕ-discrete (contact .last) (k .last)) i; voxels = (w .count ∙ sym (t .count)) i }
+    where
+      least : Dec (contact .first ≡ k .first) → contact .first ≡ k .first
+      least (yes e) = e
+      least (no n) = go (decLt (contact .first) (k .first))
+        where
+          go : Dec (contact .first < k .first) → contact .first ≡ k .first
+          go (yes d) = absurd (omega (arith, t .none-before (contact .first) (w .first-from) d, w .first-black))
+          go (no d) = absurd (omega (arith, t .first-black (omega (arith, w .first-to)), w .none-before (k .first) (t .first-from) (omega arith)))
+
+      greatest : Dec (contact .last ≡ k .last) → contact .last ≡ k .last
+      greatest (yes e) = e
+      greatest (no n) = go (decLt (k .last) (contact .last))
+        where
+          go : Dec (k .last < contact .last) → contact .last ≡ k .last
+          go (yes d) = absurd (omega (arith, t .none-after (contact .last) d (w .last-to), w .last-black))
+          go (no d) = absurd (omega (arith, t .last-black (omega (arith, w .last-from)), w .none-after (k .last) (omega arith) (t .last-to)))
+
+  pub verdict-is : verdict u s first last ≡ verdictOf k
+  verdict-is = go (verdict u s first last) refl
+    where
+      go : (v : Verdict) → verdict u s first last ≡ v → v ≡ verdictOf k
+      go Clear e =
+          let z = sum-zero (windowLength first last) (λ c. voxelsAt u s (first + c)) (λ c i. clear-none u s first last e (first + c) (omega arith) (omega arith)) in
+          rw (eq-eqb (k .voxels) 0 (t .count ∙ z))
+      go (Hit contact) e =
+          let w = hit-is u s first last contact e in
+          let q : first + (contact .first - first) ≡ contact .first = omega (arith, w .first-from) in
+          let p = rw q at (sum-part (windowLength first last) (λ c. voxelsAt u s (first + c)) (contact .first - first) (omega (arith, w .first-from, w .first-to))) in
+          rw (ne-eqb (k .voxels) 0 (λ z. omega (arith, t .count, w .first-black))) (ap Hit (same-contact contact w))
