@@ -1,0 +1,49 @@
+-- Document 01, "Expressions": "A reader over a lent expression holds it and its place, and can stop at any symbol and continue. Past the last symbol it
+-- answers End, each time."
+use Prim.Native.Nat.{ℕ, _+_}
+use mathlib.Core.Path.{_≡_}
+use mathlib.Core.Bool.{cond}
+use mathlib.Core.List.{List, []}
+use denote.Ref.{RefT, now}
+use lib.Dec.{eqb}
+use lib.ListN.{getD}
+use Rattle.universe.specs.declared.Universe.{Universe}
+use Rattle.bintree.specs.declared.Colour.the-variants as colour
+use Rattle.bintree.specs.Shape.{openSymbol, symbolOf}
+use Rattle.bintree.specs.Answers.{expressionChecks}
+use Rattle.reader.specs.declared.Symbol.{Symbol}
+use Rattle.reader.specs.declared.Symbol.the-variants.{Halved, Black, White, End}
+
+-- document 01's byte for each answer: `(` for a halved block, `B`, `W`; End is no byte of an expression, and 0 stands past its end
+abbrev pub byteOf : Symbol → ℕ
+byteOf Halved = openSymbol
+byteOf Black = symbolOf colour.Black
+byteOf White = symbolOf colour.White
+byteOf End = 0
+
+-- the answer for a byte: the symbol it is, or End
+unfoldable pub symbolOfByte : ℕ → Symbol
+symbolOfByte x = cond (eqb x (byteOf Halved)) Halved (cond (eqb x (byteOf Black)) Black (cond (eqb x (byteOf White)) White End))
+
+-- the answer at a place; past the end stands 0
+unfoldable pub symbolAt : List ℕ → ℕ → Symbol
+symbolAt s p = symbolOfByte (getD s p 0)
+
+-- a reader moves on by one symbol, and stays at End
+abbrev pub movedOn : Symbol → ℕ → ℕ
+movedOn Halved p = p + 1
+movedOn Black p = p + 1
+movedOn White p = p + 1
+movedOn End p = p
+
+unfoldable pub placeAfter : List ℕ → ℕ → ℕ
+placeAfter s p = movedOn (symbolAt s p) p
+
+-- "Opened with d or k that is refused 2, or on an expression refused 7, it holds nothing"
+unfoldable pub heldSymbols : Universe → List ℕ → List ℕ
+heldSymbols u s = cond (eqb (expressionChecks u s) 0) s []
+
+-- what a reader holds that was opened: those symbols, and where nothing is refused the lent expression itself
+pub record Holds (u : Universe) (lent held : RefT (List ℕ)) : Type 0 where
+  pub symbols : now held ≡ heldSymbols u (now lent)
+  pub itself : expressionChecks u (now lent) ≡ 0 → held ≡ lent
