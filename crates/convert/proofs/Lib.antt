@@ -8,3 +8,4 @@ pub mod Pieces
 pub mod Answers
 pub mod MergedAnswers
 pub mod OneTree
+pub mod Clearances

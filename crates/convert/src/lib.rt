@@ -5,8 +5,11 @@ mod check;
 mod judge;
 mod merged;
 mod raw;
+mod verdict;
 
 pub use merged::merged_of_one;
 pub use merged::merged_of_two;
 pub use raw::raw_of_one;
 pub use raw::raw_of_two;
+pub use verdict::Clearance;
+pub use verdict::verdict_of_two;
