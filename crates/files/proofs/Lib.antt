@@ -1,0 +1,10 @@
+-- Laws of the definitions; those of checks one after the other first.
+pub mod Refusals
+pub mod Numbers
+pub mod Lent
+pub mod Scenes
+pub mod Accepted
+pub mod Measuring
+pub mod Shapes
+pub mod RoundTrip
+pub mod Examples

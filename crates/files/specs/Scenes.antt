@@ -1,0 +1,106 @@
+-- Document 01, "Files": the scene. `sceneHeader`, by `isScene` and `headerOf`, alone knows its version and its places.
+use Prim.Native.Nat.{ℕ, _+_, _*_}
+use mathlib.Core.Bool.{Bool, cond, _&&_}
+use mathlib.Core.List.{List, [], _∷_}
+use lib.Dec.{leb, eqb}
+use lib.IntN.{ℤ}
+use lib.ListN.{length, getD}
+use Rattle.universe.specs.Refusals.{firstRefusal}
+use Rattle.universe.specs.Universe.{universeRefusal}
+use Rattle.universe.specs.Voxel.{windowRefusal}
+use Rattle.csg.specs.Halfspace.{rowLength, rowsRefusal}
+use Rattle.csg.specs.Words.{treeRefusal}
+use Rattle.files.specs.declared.Scene.{Scene}
+use Rattle.files.specs.declared.SceneHeader.{SceneHeader}
+use Rattle.files.specs.Lent.{overwritten}
+use Rattle.files.specs.Numbers.{u16At, i64sAt, u16sAt, isMarked}
+
+-- "18 + 40·H + 2·(W1 + W2) bytes": the length of the header, and that of the file by its "counts u16: halfspaces, words of tree 1, of tree 2"
+abbrev pub sceneHeaderLength : ℕ
+sceneHeaderLength = 18
+
+abbrev pub sceneLength : List ℕ → ℕ
+sceneLength bytes = sceneHeaderLength + 40 * u16At bytes 8 + 2 * (u16At bytes 10 + u16At bytes 12)
+
+-- "`HSC`, version u16 = 1, d, k, a zero byte"; and the file is as long as its counts say
+unfoldable pub isScene : List ℕ → Bool
+isScene bytes =
+    leb sceneHeaderLength (length bytes)
+    && isMarked bytes 72 83 67
+    && eqb (u16At bytes 3) 1
+    && eqb (getD bytes 7 0) 0
+    && eqb (length bytes) (sceneLength bytes)
+
+-- "All other fields of a refused answer are zero"
+abbrev pub refusedScene : ℕ → Scene
+refusedScene n =
+    record {
+      refusal = n;
+      universe = record { axes = 0; bits = 0 };
+      counts = record { rows = 0; first = 0; second = 0 };
+      window = record { first = 0; last = 0 };
+    }
+
+-- what the header says of the scene, and where the rows, the words of tree 1 and those of tree 2 begin
+abbrev pub headerOf : List ℕ → SceneHeader
+headerOf bytes =
+    record {
+      scene =
+          record {
+            refusal = 0;
+            universe = record { axes = getD bytes 5 0; bits = getD bytes 6 0 };
+            counts = record { rows = u16At bytes 8; first = u16At bytes 10; second = u16At bytes 12 };
+            window = record { first = u16At bytes 14; last = u16At bytes 16 };
+          };
+      places =
+          record {
+            rows = sceneHeaderLength;
+            first = sceneHeaderLength + 40 * u16At bytes 8;
+            second = sceneHeaderLength + 40 * u16At bytes 8 + 2 * u16At bytes 10;
+          };
+    }
+
+-- number 1 where the file is no scene
+abbrev pub noHeader : SceneHeader
+noHeader = record { scene = refusedScene 1; places = record { rows = 0; first = 0; second = 0 } }
+
+unfoldable pub sceneHeader : List ℕ → SceneHeader
+sceneHeader bytes = cond (isScene bytes) (headerOf bytes) noHeader
+
+-- "halfspaces, five i64 each; words u16"
+abbrev pub rowsOf : List ℕ → SceneHeader → List ℤ
+rowsOf bytes h = i64sAt bytes (h .places .rows) (rowLength * h .scene .counts .rows)
+
+abbrev pub firstWordsOf : List ℕ → SceneHeader → List ℕ
+firstWordsOf bytes h = u16sAt bytes (h .places .first) (h .scene .counts .first)
+
+abbrev pub secondWordsOf : List ℕ → SceneHeader → List ℕ
+secondWordsOf bytes h = u16sAt bytes (h .places .second) (h .scene .counts .second)
+
+-- "Order for scenes and conversions: 1, 2, 3, trees one after the other, 9"
+abbrev pub sceneChecks : List ℕ → SceneHeader → List ℕ
+sceneChecks bytes h =
+    h .scene .refusal
+    ∷ universeRefusal (h .scene .universe)
+    ∷ rowsRefusal (h .scene .universe) (rowsOf bytes h)
+    ∷ treeRefusal (h .scene .counts .rows) (firstWordsOf bytes h)
+    ∷ treeRefusal (h .scene .counts .rows) (secondWordsOf bytes h)
+    ∷ windowRefusal (h .scene .universe) (h .scene .window .first) (h .scene .window .last)
+    ∷ []
+
+unfoldable pub sceneRefusal : List ℕ → ℕ
+sceneRefusal bytes = firstRefusal (sceneChecks bytes (sceneHeader bytes))
+
+-- what reading a scene answers
+unfoldable pub sceneAnswer : List ℕ → Scene
+sceneAnswer bytes = cond (eqb (sceneRefusal bytes) 0) (sceneHeader bytes .scene) (refusedScene (sceneRefusal bytes))
+
+-- what the lent arrays hold afterwards
+abbrev pub rowsAfter : List ℕ → List ℤ → List ℤ
+rowsAfter bytes = overwritten (sceneRefusal bytes) (rowsOf bytes (sceneHeader bytes))
+
+abbrev pub firstWordsAfter : List ℕ → List ℕ → List ℕ
+firstWordsAfter bytes = overwritten (sceneRefusal bytes) (firstWordsOf bytes (sceneHeader bytes))
+
+abbrev pub secondWordsAfter : List ℕ → List ℕ → List ℕ
+secondWordsAfter bytes = overwritten (sceneRefusal bytes) (secondWordsOf bytes (sceneHeader bytes))

@@ -1,0 +1,102 @@
+// Numbers in bytes, little-endian.
+ghost use mathlib.Core.Path.{_≡_};
+ghost use mathlib.Core.List.{_++_};
+ghost use Prim.Native.Nat.{_+_, _*_, _≤_, _<_};
+ghost use lib.ListN.{length, getD, drop};
+ghost use lib.Seq.{paste};
+ghost use Rattle.files.specs.Numbers.{u16At, u32At, u64At, signed, i64sAt, u16sAt, isMarked};
+
+// Whether bytes begin with the three of a mark.
+pub(crate) fn is_marked(bytes: &[u8], first: u8, second: u8, third: u8) -> bool
+    requires { ⌜ 3 ≤ length (now bytes) ⌝ }
+    ensures { λ r. ⌜ r ≡ isMarked (now (bytes .entry)) first second third ⌝ }
+{
+    if bytes[0] == first {
+        if bytes[1] == second {
+            return bytes[2] == third;
+        }
+    }
+    false
+}
+
+// The byte at a place.
+pub(crate) fn byte_at(bytes: &[u8], at: usize) -> u64
+    requires { ⌜ at < length (now bytes) ⌝ }
+    ensures { λ r. ⌜ r ≡ getD (now (bytes .entry)) at 0 ⌝ }
+{
+    bytes[at] as u64
+}
+
+// The unsigned number of two bytes at a place.
+pub(crate) fn u16_at(bytes: &[u8], at: usize) -> u16
+    requires { ⌜ at + 2 ≤ length (now bytes) ⌝ }
+    ensures { λ r. ⌜ r ≡ u16At (now (bytes .entry)) at ⌝ }
+{
+    let low = bytes[at] as u16;
+    let high = bytes[at + 1] as u16;
+    low + 256 * high
+}
+
+// The unsigned number of four bytes at a place.
+pub(crate) fn u32_at(bytes: &[u8], at: usize) -> u32
+    requires { ⌜ at + 4 ≤ length (now bytes) ⌝ }
+    ensures { λ r. ⌜ r ≡ u32At (now (bytes .entry)) at ⌝ }
+{
+    u16_at(bytes, at) as u32 + 65_536 * (u16_at(bytes, at + 2) as u32)
+}
+
+// The unsigned number of eight bytes at a place.
+fn u64_at(bytes: &[u8], at: usize) -> u64
+    requires { ⌜ at + 8 ≤ length (now bytes) ⌝ }
+    ensures { λ r. ⌜ r ≡ u64At (now (bytes .entry)) at ⌝ }
+{
+    u32_at(bytes, at) as u64 + 4_294_967_296 * (u32_at(bytes, at + 4) as u64)
+}
+
+// 64 bits as a whole number: from 2^63 on they are those of a negative one.
+fn as_signed(bits: u64) -> i64
+    ensures { λ r. ⌜ r ≡ signed bits ⌝ }
+{
+    if bits < 9_223_372_036_854_775_808 {
+        return bits as i64;
+    }
+    -1 - (18_446_744_073_709_551_615 - bits) as i64
+}
+
+// Reads `count` numbers of eight bytes that begin at `at` into the front of `out`.
+pub(crate) fn read_numbers(bytes: &[u8], at: usize, count: usize, out: &mut [i64])
+    requires { ⌜ at + 8 * count ≤ length (now bytes) ⌝ }
+    requires { ⌜ count ≤ length (now out) ⌝ }
+    ensures { λ _. ⌜ now (out .exit) ≡ i64sAt (now (bytes .entry)) at count ++ drop count (now (out .entry)) ⌝ }
+{
+    let mut i: usize = 0;
+    while i < count {
+        out[i] = as_signed(u64_at(bytes, at + 8 * i));
+        i += 1;
+    }
+}
+
+// Reads `count` numbers of two bytes that begin at `at` into the front of `out`.
+pub(crate) fn read_words(bytes: &[u8], at: usize, count: usize, out: &mut [u16])
+    requires { ⌜ at + 2 * count ≤ length (now bytes) ⌝ }
+    requires { ⌜ count ≤ length (now out) ⌝ }
+    ensures { λ _. ⌜ now (out .exit) ≡ u16sAt (now (bytes .entry)) at count ++ drop count (now (out .entry)) ⌝ }
+{
+    let mut i: usize = 0;
+    while i < count {
+        out[i] = u16_at(bytes, at + 2 * i);
+        i += 1;
+    }
+}
+
+// Copies bytes to a place of `out`.
+pub(crate) fn copy(bytes: &[u8], out: &mut [u8], at: usize)
+    requires { ⌜ at + length (now bytes) ≤ length (now out) ⌝ }
+    ensures { λ _. ⌜ now (out .exit) ≡ paste (now (out .entry)) at (now (bytes .entry)) (length (now (bytes .entry))) ⌝ }
+{
+    let mut i: usize = 0;
+    while i < bytes.len() {
+        out[at + i] = bytes[i];
+        i += 1;
+    }
+}

@@ -1,0 +1,216 @@
+// Scene files: the header, the refusal, and the rows and words into lent arrays.
+ghost use mathlib.Core.Path.{_≡_};
+ghost use Prim.Native.Nat.{_+_, _*_, _≤_};
+ghost use lib.Dec.{eqb};
+ghost use lib.ListN.{length};
+ghost use Rattle.csg.specs.Halfspace.{rowLength, rowsRefusal};
+ghost use Rattle.csg.specs.Words.{treeRefusal};
+ghost use Rattle.files.specs.Numbers.{i64sAt, u16sAt};
+ghost use Rattle.files.specs.Scenes.{sceneHeaderLength, sceneLength, isScene, headerOf, sceneHeader, refusedScene, sceneRefusal, sceneAnswer, rowsAfter, firstWordsAfter, secondWordsAfter};
+use crate::Counts;
+use crate::Places;
+use crate::Scene;
+use crate::SceneHeader;
+use crate::Window;
+use crate::decode::byte_at;
+use crate::decode::is_marked;
+use crate::decode::read_numbers;
+use crate::decode::read_words;
+use crate::decode::u16_at;
+use csg::MOST_ROWS;
+use csg::MOST_WORDS;
+use csg::ROW_LENGTH;
+use csg::check_rows;
+use csg::check_tree;
+use universe::Universe;
+
+// The numbers of all rows of a scene.
+pub const MOST_NUMBERS: usize = MOST_ROWS * ROW_LENGTH;
+
+// The length of a scene file's header.
+const HEADER_LENGTH: usize = 18;
+
+// The bytes of one row, and of one word.
+const ROW_BYTES: usize = 40;
+
+const WORD_BYTES: usize = 2;
+
+// Whether the bytes are as long as their header says.
+fn is_whole(bytes: &[u8]) -> bool
+    requires { ⌜ sceneHeaderLength ≤ length (now bytes) ⌝ }
+    ensures { λ r. ⌜ r ≡ eqb (length (now (bytes .entry))) (sceneLength (now (bytes .entry))) ⌝ }
+{
+    let rows = u16_at(bytes, 8) as usize;
+    let first = u16_at(bytes, 10) as usize;
+    let second = u16_at(bytes, 12) as usize;
+    bytes.len() == HEADER_LENGTH + ROW_BYTES * rows + WORD_BYTES * (first + second)
+}
+
+// Whether the bytes are a scene file by mark, version, zero byte and length.
+fn is_scene(bytes: &[u8]) -> bool
+    ensures { λ r. ⌜ r ≡ isScene (now (bytes .entry)) ⌝ }
+{
+    if bytes.len() < HEADER_LENGTH {
+        return false;
+    }
+    if !is_marked(bytes, b'H', b'S', b'C') {
+        return false;
+    }
+    if u16_at(bytes, 3) != 1 {
+        return false;
+    }
+    if byte_at(bytes, 7) != 0 {
+        return false;
+    }
+    is_whole(bytes)
+}
+
+// The scene that a refusal answers.
+fn refused(refusal: u64) -> Scene
+    ensures { λ r. ⌜ r ≡ refusedScene refusal ⌝ }
+{
+    Scene {
+        refusal: refusal,
+        universe: Universe { axes: 0, bits: 0 },
+        counts: Counts {
+            rows: 0,
+            first: 0,
+            second: 0,
+        },
+        window: Window { first: 0, last: 0 },
+    }
+}
+
+// What the header of a scene file says.
+fn header_of(bytes: &[u8]) -> SceneHeader
+    requires { ⌜ sceneHeaderLength ≤ length (now bytes) ⌝ }
+    ensures { λ r. ⌜ r ≡ headerOf (now (bytes .entry)) ⌝ }
+{
+    let rows = u16_at(bytes, 8) as u64;
+    let first = u16_at(bytes, 10) as u64;
+    let after_rows = HEADER_LENGTH + ROW_BYTES * rows as usize;
+    SceneHeader {
+        scene: Scene {
+            refusal: 0,
+            universe: Universe {
+                axes: byte_at(bytes, 5),
+                bits: byte_at(bytes, 6),
+            },
+            counts: Counts {
+                rows: rows,
+                first: first,
+                second: u16_at(bytes, 12) as u64,
+            },
+            window: Window {
+                first: u16_at(bytes, 14) as u64,
+                last: u16_at(bytes, 16) as u64,
+            },
+        },
+        places: Places {
+            rows: HEADER_LENGTH,
+            first: after_rows,
+            second: after_rows + WORD_BYTES * first as usize,
+        },
+    }
+}
+
+// The header of a scene file, or number 1.
+fn scene_header(bytes: &[u8]) -> SceneHeader
+    ensures { λ r. ⌜ r ≡ sceneHeader (now (bytes .entry)) ⌝ }
+{
+    if is_scene(bytes) {
+        return header_of(bytes);
+    }
+    SceneHeader {
+        scene: refused(1),
+        places: Places {
+            rows: 0,
+            first: 0,
+            second: 0,
+        },
+    }
+}
+
+// 3 where the rows of a scene are refused, else 0.
+fn rows_refusal(universe: Universe, bytes: &[u8], at: usize, count: usize) -> u64
+    requires { ⌜ at + 40 * count ≤ length (now bytes) ⌝ }
+    ensures { λ r. ⌜ r ≡ rowsRefusal universe (i64sAt (now (bytes .entry)) at (rowLength * count)) ⌝ }
+{
+    if MOST_ROWS < count {
+        return 3;
+    }
+    let mut rows = [0i64; MOST_NUMBERS];
+    let length = ROW_LENGTH * count;
+    read_numbers(bytes, at, length, &mut rows);
+    check_rows(universe, &rows[..length])
+}
+
+// 4 or 5 where the words of a tree are refused, else 0.
+fn words_refusal(rows: u64, bytes: &[u8], at: usize, count: usize) -> u64
+    requires { ⌜ at + 2 * count ≤ length (now bytes) ⌝ }
+    ensures { λ r. ⌜ r ≡ treeRefusal rows (u16sAt (now (bytes .entry)) at count) ⌝ }
+{
+    if MOST_WORDS < count {
+        return 5;
+    }
+    let mut words = [0u16; MOST_WORDS];
+    read_words(bytes, at, count, &mut words);
+    check_tree(rows, &words[..count])
+}
+
+// The number that refuses a scene with this header, or 0.
+fn scene_refusal(bytes: &[u8], header: SceneHeader) -> u64
+    requires { ⌜ header ≡ sceneHeader (now bytes) ⌝ }
+    ensures { λ r. ⌜ r ≡ sceneRefusal (now (bytes .entry)) ⌝ }
+{
+    let scene = header.scene;
+    if scene.refusal != 0 {
+        return scene.refusal;
+    }
+    let outside = scene.universe.refusal();
+    if outside != 0 {
+        return outside;
+    }
+    let counts = scene.counts;
+    let places = header.places;
+    let rows = rows_refusal(scene.universe, bytes, places.rows, counts.rows as usize);
+    if rows != 0 {
+        return rows;
+    }
+    let first = words_refusal(counts.rows, bytes, places.first, counts.first as usize);
+    if first != 0 {
+        return first;
+    }
+    let second = words_refusal(counts.rows, bytes, places.second, counts.second as usize);
+    if second != 0 {
+        return second;
+    }
+    let window = scene.window;
+    scene.universe.window_refusal(window.first, window.last)
+}
+
+// Reads a scene: its rows and the words of its two trees go to the front of the lent arrays; where it is refused, nothing does.
+pub fn read_scene(
+    bytes: &[u8],
+    rows: &mut [i64; MOST_NUMBERS],
+    first: &mut [u16; MOST_WORDS],
+    second: &mut [u16; MOST_WORDS],
+) -> Scene
+    ensures { λ r. ⌜ r ≡ sceneAnswer (now (bytes .entry)) ⌝ }
+    ensures { λ _. ⌜ now (rows .exit) ≡ rowsAfter (now (bytes .entry)) (now (rows .entry)) ⌝ }
+    ensures { λ _. ⌜ now (first .exit) ≡ firstWordsAfter (now (bytes .entry)) (now (first .entry)) ⌝ }
+    ensures { λ _. ⌜ now (second .exit) ≡ secondWordsAfter (now (bytes .entry)) (now (second .entry)) ⌝ }
+{
+    let header = scene_header(bytes);
+    let refusal = scene_refusal(bytes, header);
+    if refusal != 0 {
+        return refused(refusal);
+    }
+    let scene = header.scene;
+    let counts = scene.counts;
+    let places = header.places;
+    read_numbers(bytes, places.rows, ROW_LENGTH * counts.rows as usize, rows);
+    read_words(bytes, places.first, counts.first as usize, first);
+    read_words(bytes, places.second, counts.second as usize, second);
+    scene
+}

@@ -1,0 +1,186 @@
+// Shape files: the header, the refusal, writing and reading through lent room.
+ghost use mathlib.Core.Path.{_≡_};
+ghost use Prim.Native.Nat.{_≤_};
+ghost use lib.ListN.{length};
+ghost use Rattle.universe.specs.Universe.{universeRefusal};
+ghost use Rattle.files.specs.Shapes.{shapeHeaderLength, mostSymbols, symbolsRefusal, shapeHeaderBytes, writeAnswer, writeBuffer, isShape, refusedShape, shapeHeaderOf, shapeHeader, shapeRefusal, readAnswer, readBuffer};
+use crate::ShapeHeader;
+use crate::ShapeRead;
+use crate::decode::byte_at;
+use crate::decode::copy;
+use crate::decode::is_marked;
+use crate::decode::u16_at;
+use crate::decode::u32_at;
+use bintree::Written;
+use bintree::merge;
+use universe::Universe;
+
+// The length of a shape file's header.
+const HEADER_LENGTH: usize = 11;
+
+// The most symbols that a shape file counts.
+const MOST_SYMBOLS: usize = 4_294_967_295;
+
+// 0 where an expression is merged, else 2, 7 or 8: merging it is measured, and leaves its length only where there is nothing to merge.
+fn symbols_refusal(universe: Universe, expression: &[u8]) -> u64
+    ensures { λ r. ⌜ r ≡ symbolsRefusal universe (now (expression .entry)) ⌝ }
+{
+    let mut nothing = [0u8; 0];
+    let measured = merge(universe, expression, &mut nothing);
+    if measured.refusal != 6 {
+        return measured.refusal;
+    }
+    if measured.length == expression.len() as u64 {
+        return 0;
+    }
+    8
+}
+
+// The header of a shape file.
+fn header_bytes(universe: Universe, count: usize) -> [u8; HEADER_LENGTH]
+    requires { ⌜ universeRefusal universe ≡ 0 ⌝ }
+    requires { ⌜ count ≤ mostSymbols ⌝ }
+    ensures { λ r. ⌜ r ≡ shapeHeaderBytes universe count ⌝ }
+{
+    [
+        b'B',
+        b'N',
+        b'T',
+        1,
+        0,
+        universe.axes as u8,
+        universe.bits as u8,
+        (count % 256) as u8,
+        (count / 256 % 256) as u8,
+        (count / 65_536 % 256) as u8,
+        (count / 16_777_216 % 256) as u8,
+    ]
+}
+
+// Writes the shape file of a merged expression into lent room; where it is refused or does not fit, nothing.
+pub fn write_shape(universe: Universe, expression: &[u8], out: &mut [u8]) -> Written
+    ensures { λ r. ⌜ r ≡ writeAnswer universe (now (expression .entry)) (now (out .entry)) ⌝ }
+    ensures { λ _. ⌜ now (out .exit) ≡ writeBuffer universe (now (expression .entry)) (now (out .entry)) ⌝ }
+{
+    let refusal = symbols_refusal(universe, expression);
+    if refusal != 0 {
+        return Written {
+            refusal: refusal,
+            length: 0,
+        };
+    }
+    let count = expression.len();
+    let needed = HEADER_LENGTH + count;
+    if MOST_SYMBOLS < count {
+        return Written {
+            refusal: 6,
+            length: needed as u64,
+        };
+    }
+    if out.len() < needed {
+        return Written {
+            refusal: 6,
+            length: needed as u64,
+        };
+    }
+    let header = header_bytes(universe, count);
+    copy(&header, out, 0);
+    copy(expression, out, HEADER_LENGTH);
+    Written {
+        refusal: 0,
+        length: needed as u64,
+    }
+}
+
+// Whether the bytes are a shape file by mark, version and length.
+fn is_shape(bytes: &[u8]) -> bool
+    ensures { λ r. ⌜ r ≡ isShape (now (bytes .entry)) ⌝ }
+{
+    if bytes.len() < HEADER_LENGTH {
+        return false;
+    }
+    if !is_marked(bytes, b'B', b'N', b'T') {
+        return false;
+    }
+    if u16_at(bytes, 3) != 1 {
+        return false;
+    }
+    bytes.len() == HEADER_LENGTH + u32_at(bytes, 7) as usize
+}
+
+// The answer of a refusal.
+fn refused(refusal: u64, needed: u64) -> ShapeRead
+    ensures { λ r. ⌜ r ≡ refusedShape refusal needed ⌝ }
+{
+    ShapeRead {
+        refusal: refusal,
+        universe: Universe { axes: 0, bits: 0 },
+        length: needed,
+    }
+}
+
+// What the header of a shape file says.
+fn header_of(bytes: &[u8]) -> ShapeHeader
+    requires { ⌜ shapeHeaderLength ≤ length (now bytes) ⌝ }
+    ensures { λ r. ⌜ r ≡ shapeHeaderOf (now (bytes .entry)) ⌝ }
+{
+    ShapeHeader {
+        shape: ShapeRead {
+            refusal: 0,
+            universe: Universe {
+                axes: byte_at(bytes, 5),
+                bits: byte_at(bytes, 6),
+            },
+            length: u32_at(bytes, 7) as u64,
+        },
+        place: HEADER_LENGTH,
+    }
+}
+
+// The header of a shape file, or number 1.
+fn shape_header(bytes: &[u8]) -> ShapeHeader
+    ensures { λ r. ⌜ r ≡ shapeHeader (now (bytes .entry)) ⌝ }
+{
+    if is_shape(bytes) {
+        return header_of(bytes);
+    }
+    ShapeHeader {
+        shape: refused(1, 0),
+        place: 0,
+    }
+}
+
+// The number that refuses a shape file with this header, or 0.
+fn shape_refusal(bytes: &[u8], header: ShapeHeader) -> u64
+    requires { ⌜ header ≡ shapeHeader (now bytes) ⌝ }
+    ensures { λ r. ⌜ r ≡ shapeRefusal (now (bytes .entry)) ⌝ }
+{
+    let shape = header.shape;
+    if shape.refusal != 0 {
+        return shape.refusal;
+    }
+    let start = header.place;
+    let end = start + shape.length as usize;
+    symbols_refusal(shape.universe, &bytes[start..end])
+}
+
+// Reads a shape file: its symbols go to the front of the lent room; where it is refused or they do not fit, nothing does.
+pub fn read_shape(bytes: &[u8], out: &mut [u8]) -> ShapeRead
+    ensures { λ r. ⌜ r ≡ readAnswer (now (bytes .entry)) (now (out .entry)) ⌝ }
+    ensures { λ _. ⌜ now (out .exit) ≡ readBuffer (now (bytes .entry)) (now (out .entry)) ⌝ }
+{
+    let header = shape_header(bytes);
+    let refusal = shape_refusal(bytes, header);
+    if refusal != 0 {
+        return refused(refusal, 0);
+    }
+    let shape = header.shape;
+    let count = shape.length as usize;
+    if out.len() < count {
+        return refused(6, shape.length);
+    }
+    let start = header.place;
+    let end = start + count;
+    copy(&bytes[start..end], out, 0);
+    shape
+}
