@@ -1,0 +1,264 @@
+// Document 01's cases run through the entry points: a line for each answer, with the refusal first and every byte of the lent room, so that what was
+// not to be written shows as the `.` it was.
+use bintree::Verdict;
+use bintree::Written;
+use convert::Clearance;
+use libc::STDOUT_FILENO;
+use universe::Universe;
+
+const LENT: usize = 20;
+
+// d 2, k 2.
+fn square() -> Universe {
+    Universe { axes: 2, bits: 2 }
+}
+
+fn say(text: &[u8]) {
+    io::write_all(STDOUT_FILENO, text);
+}
+
+fn number(n: u64) {
+    io::print_decimal(STDOUT_FILENO, n);
+}
+
+// The front of the room that is lent.
+fn show(label: &[u8], refusal: u64, length: u64, room: &[u8]) {
+    say(label);
+    say(b" ");
+    number(refusal);
+    say(b" ");
+    number(length);
+    say(b" ");
+    say(room);
+    say(b"\n");
+}
+
+fn written(label: &[u8], answer: Written, room: &[u8]) {
+    show(label, answer.refusal, answer.length, room);
+}
+
+// One tree, raw and merged.
+fn one_tree(label: &[u8], rows: &[i64], words: &[u16]) {
+    say(label);
+    say(b"\n");
+    let mut room = [b'.'; LENT];
+    let answer = convert::raw_of_one(square(), rows, words, &mut room);
+    written(b"raw", answer, &room);
+    let mut room = [b'.'; LENT];
+    let answer = convert::merged_of_one(square(), rows, words, &mut room);
+    written(b"merged", answer, &room);
+}
+
+// Two trees, raw, in the room lent.
+fn two_trees(label: &[u8], rows: &[i64], first: &[u16], second: &[u16], room: &mut [u8]) {
+    let answer = convert::raw_of_two(square(), rows, first, second, room);
+    written(label, answer, room);
+}
+
+fn verdict(answer: Clearance, room: &[u8]) {
+    let refusal = answer.refusal;
+    let length = answer.length;
+    let verdict = answer.verdict;
+    match verdict {
+        Verdict::Clear => say(b"clear"),
+        Verdict::Hit(contact) => {
+            say(b"hit ");
+            number(contact.first);
+            say(b" ");
+            number(contact.last);
+            say(b" ");
+            number(contact.voxels);
+        }
+    }
+    show(b"", refusal, length, room);
+}
+
+// The program's scene over a window, in the room lent.
+fn window(first_frame: u64, last_frame: u64, room: &mut [u8]) {
+    let rows = [
+        0i64,
+        1,
+        -1,
+        0,
+        0,
+        1,
+        -1,
+        1,
+        0,
+        0,
+        -2,
+        1,
+        0,
+        0,
+        0,
+        3,
+        -1,
+        0,
+        0,
+        0,
+    ];
+    let first = [256u16, 257, 3];
+    let second = [258u16, 259, 3];
+    say(b"window ");
+    number(first_frame);
+    say(b" ");
+    number(last_frame);
+    say(b" ");
+    let answer = convert::verdict_of_two(
+        square(),
+        &rows,
+        &first,
+        &second,
+        first_frame,
+        last_frame,
+        room,
+    );
+    verdict(answer, room);
+}
+
+// The questions over an expression: well-formed, volume, the colour at (3, 2) and at (3, 3), merged, the part for a path.
+fn questions(expression: &[u8], path: &[u8]) {
+    say(expression);
+    say(b" well-formed ");
+    number(bintree::well_formed(square(), expression));
+    let counted = bintree::volume(square(), expression);
+    say(b" volume ");
+    number(counted.refusal);
+    say(b" ");
+    number(counted.voxels);
+    colour(expression, [3, 2, 0, 0]);
+    colour(expression, [3, 3, 0, 0]);
+    colour(expression, [4, 0, 0, 0]);
+    colour(expression, [0, 0, 1, 0]);
+    say(b" part ");
+    number(bintree::part_refusal(square(), expression, path));
+    say(b" ");
+    say(bintree::part(square(), expression, path));
+    say(b"\n");
+    let mut room = [b'.'; LENT];
+    let answer = bintree::merge(square(), expression, &mut room);
+    written(b"  merge", answer, &room);
+}
+
+fn colour(expression: &[u8], voxel: [u64; 4]) {
+    let answer = bintree::colour_at(square(), expression, voxel);
+    let refusal = answer.refusal;
+    let colour = answer.colour;
+    say(b" colour ");
+    number(refusal);
+    match colour {
+        bintree::Colour::Black => say(b" BLACK"),
+        bintree::Colour::White => say(b" WHITE"),
+    }
+}
+
+// Room for so many leaves.
+fn room_for(axes: u64, bits: u64, leaves: u64) {
+    let answer = Universe {
+        axes: axes,
+        bits: bits,
+    }.room(leaves);
+    say(b"room ");
+    number(answer.refusal);
+    say(b" ");
+    number(answer.symbols);
+    say(b"\n");
+}
+
+// Cases 1, 2, 4, 6 and 10: conversions.
+fn conversions() {
+    one_tree(b"case 1", &[-2, 2, -1, 0, 0], &[256]);
+    one_tree(
+        b"case 2",
+        &[-2, 1, 0, 0, 0, -2, 0, 1, 0, 0, 6, -1, -1, 0, 0],
+        &[256, 257, 258, 3, 3],
+    );
+    one_tree(b"case 6", &[0, 0, 0, 0, 0], &[256]);
+    let rows = [
+        0i64,
+        1,
+        -1,
+        0,
+        0,
+        1,
+        -1,
+        1,
+        0,
+        0,
+        -2,
+        1,
+        0,
+        0,
+        0,
+        3,
+        -1,
+        0,
+        0,
+        0,
+    ];
+    let first = [256u16, 257, 3];
+    let second = [258u16, 259, 3];
+    two_trees(b"case 4", &rows, &first, &second, &mut [b'.'; LENT]);
+    two_trees(b"case 10, 13 lent", &rows, &first, &second, &mut [b'.'; 13]);
+    two_trees(b"case 10, 12 lent", &rows, &first, &second, &mut [b'.'; 12]);
+    two_trees(b"none lent", &rows, &first, &second, &mut []);
+}
+
+// Cases 3, 5, 9 and 11: questions and verdicts.
+fn readings() {
+    questions(b"(W(W((BB(BW", &[1, 1]);
+    questions(b"(W(W(B(BW", &[1, 1, 1, 0]);
+    questions(b"(BB", &[]);
+    questions(b"(BB", &[2]);
+    questions(b"", &[]);
+    questions(b"(B", &[]);
+    questions(b"BB", &[]);
+    questions(b"B", &[0, 1, 0, 1]);
+    questions(b"B", &[0, 1, 0, 1, 0]);
+    window(0, 3, &mut [b'.'; LENT]);
+    window(0, 0, &mut [b'.'; LENT]);
+    window(1, 1, &mut [b'.'; LENT]);
+    window(2, 2, &mut [b'.'; LENT]);
+    window(3, 3, &mut [b'.'; LENT]);
+    window(0, 4, &mut [b'.'; LENT]);
+    window(2, 1, &mut [b'.'; LENT]);
+    window(0, 3, &mut [b'.'; 12]);
+    window(0, 4, &mut [b'.'; 12]);
+}
+
+// Refusals of what is converted, in their order.
+fn refusals() {
+    one_tree(b"a number short of fives", &[0, 0, 0, 0], &[9]);
+    one_tree(b"nonzero above d", &[0, 0, 0, 1, 0], &[9]);
+    one_tree(b"a0 at its limit", &[1_099_511_627_776, 0, 0, 0, 0], &[256]);
+    one_tree(b"a0 one over", &[-1_099_511_627_777, 0, 0, 0, 0], &[256]);
+    one_tree(b"a1 at its limit", &[0, -16_777_216, 0, 0, 0], &[256]);
+    one_tree(b"a1 one over", &[0, 16_777_217, 0, 0, 0], &[256]);
+    one_tree(
+        b"the least i64",
+        &[-9_223_372_036_854_775_808, 0, 0, 0, 0],
+        &[256],
+    );
+    one_tree(b"no words", &[], &[]);
+    one_tree(b"an unknown word", &[], &[5]);
+    one_tree(b"an index past the rows", &[0, 0, 0, 0, 0], &[257]);
+    one_tree(b"an operator with one pending", &[], &[1, 2]);
+    one_tree(b"two left", &[], &[1, 1]);
+    one_tree(b"WHITE less BLACK", &[], &[0, 1, 4]);
+    one_tree(b"BLACK less WHITE", &[], &[1, 0, 4]);
+}
+
+fn main() {
+    conversions();
+    readings();
+    refusals();
+    room_for(2, 2, 1);
+    room_for(2, 2, 2);
+    room_for(2, 1, 1);
+    room_for(4, 10, 0);
+    room_for(4, 0, 9);
+    room_for(4, 10, 18_446_744_073_709_551_615);
+    room_for(5, 10, 1);
+    room_for(4, 11, 1);
+    room_for(0, 0, 1);
+}
