@@ -1,0 +1,81 @@
+-- What the face for C and Rust hands over as plain numbers: a universe and a proxy made of them, and an answer's fields in the order of its array.
+-- An answer's refusal is the number that a function returns; the array holds the other fields.
+use Prim.Native.Nat.{ℕ}
+use mathlib.Core.List.{List, [], _∷_}
+use lib.Ieee.{Float}
+use Rattle.universe.specs.declared.Universe.{Universe}
+use Rattle.universe.specs.declared.room.RoomAnswer.{RoomAnswer}
+use Rattle.bintree.specs.declared.Colour.{Colour}
+use Rattle.bintree.specs.declared.Colour.the-variants.{White, Black}
+use Rattle.bintree.specs.declared.Verdict.{Verdict}
+use Rattle.bintree.specs.declared.Verdict.the-variants.{Clear, Hit}
+use Rattle.bintree.specs.declared.Written.{Written}
+use Rattle.bintree.specs.declared.Counted.{Counted}
+use Rattle.bintree.specs.declared.Coloured.{Coloured}
+use Rattle.bintree.specs.declared.Placed.{Placed}
+use Rattle.convert.specs.declared.verdict.Clearance.{Clearance}
+use Rattle.files.specs.declared.Scene.{Scene}
+use Rattle.files.specs.declared.ShapeRead.{ShapeRead}
+use Rattle.standin.specs.declared.Triple.{Triple}
+use Rattle.standin.specs.declared.Corners.{Corners}
+use Rattle.standin.specs.declared.Plane.{Plane}
+use Rattle.standin.specs.declared.Solid.the-variants.{Box, Cut}
+use Rattle.standin.specs.declared.Proxy.{Proxy}
+
+-- a universe of its two numbers
+abbrev pub universeOf : ℕ → ℕ → Universe
+universeOf axes bits = record { axes = axes; bits = bits }
+
+-- room in symbols
+abbrev pub roomArray : RoomAnswer → List ℕ
+roomArray a = a .symbols ∷ []
+
+-- the length written, or needed on 6
+abbrev pub lengthArray : Written → List ℕ
+lengthArray a = a .length ∷ []
+
+-- a verdict as hit (0 Clear, 1 Hit), first frame, last frame and voxels; then the length of the raw expression, needed on 6
+abbrev pub verdictArray : Verdict → ℕ → List ℕ
+verdictArray Clear length = 0 ∷ 0 ∷ 0 ∷ 0 ∷ length ∷ []
+verdictArray (Hit contact) length = 1 ∷ contact .first ∷ contact .last ∷ contact .voxels ∷ length ∷ []
+
+abbrev pub clearanceArray : Clearance → List ℕ
+clearanceArray a = verdictArray (a .verdict) (a .length)
+
+-- the black voxels
+abbrev pub voxelsArray : Counted → List ℕ
+voxelsArray a = a .voxels ∷ []
+
+-- 0 WHITE, 1 BLACK
+abbrev pub colourNumber : Colour → ℕ
+colourNumber White = 0
+colourNumber Black = 1
+
+abbrev pub colourArray : Coloured → List ℕ
+colourArray a = colourNumber (a .colour) ∷ []
+
+-- where a part starts, and its length
+abbrev pub placeArray : Placed → List ℕ
+placeArray a = a .start ∷ a .length ∷ []
+
+-- a scene's axes, bits, rows, words of tree 1 and of tree 2, first frame and last frame
+abbrev pub sceneArray : Scene → List ℕ
+sceneArray a =
+    a .universe .axes ∷ a .universe .bits
+    ∷ a .counts .rows ∷ a .counts .first ∷ a .counts .second
+    ∷ a .window .first ∷ a .window .last ∷ []
+
+-- a shape's axes, bits and length, needed on 6
+abbrev pub shapeArray : ShapeRead → List ℕ
+shapeArray a = a .universe .axes ∷ a .universe .bits ∷ a .length ∷ []
+
+-- three floats to a corner, normal or displacement
+abbrev pub tripleOf : Float → Float → Float → Triple
+tripleOf x y z = record { x = x; y = y; z = z }
+
+-- a Box of its two corners, a Cut of its normal and its offset, each with its displacement
+abbrev pub boxOf : Triple → Triple → Triple → Proxy
+boxOf near far displacement = record { solid = Box (record { near = near; far = far }); displacement = displacement }
+
+abbrev pub cutOf : Triple → Float → Triple → Proxy
+cutOf normal offset displacement = record { solid = Cut (record { normal = normal; offset = offset }); displacement = displacement }

@@ -1,0 +1,2 @@
+-- The face for C and Rust: answers as numbers and arrays.
+pub mod Arrays

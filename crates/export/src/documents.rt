@@ -1,0 +1,74 @@
+// Scene files are read, shape files are read and written.
+use csg::MOST_WORDS;
+use files::MOST_NUMBERS;
+use universe::Universe;
+ghost use mathlib.Core.Path.{_≡_};
+ghost use Rattle.files.specs.Scenes.{sceneAnswer, rowsAfter, firstWordsAfter, secondWordsAfter};
+ghost use Rattle.files.specs.Shapes.{readAnswer, readBuffer, writeAnswer, writeBuffer};
+ghost use Rattle.export.specs.Arrays.{universeOf, lengthArray, sceneArray, shapeArray};
+
+// Reads a scene: its rows and the words of its two trees go to the front of the lent arrays.
+#[no_mangle]
+pub extern "C" fn durbizhan_scene(
+    bytes: &[u8],
+    rows: &mut [i64; MOST_NUMBERS],
+    first: &mut [u16; MOST_WORDS],
+    second: &mut [u16; MOST_WORDS],
+    answer: &mut [u64; 7],
+) -> u64
+    ensures { λ r. ⌜ r ≡ sceneAnswer (now (bytes .entry)) .refusal ⌝ }
+    ensures { λ _. ⌜ now (answer .exit) ≡ sceneArray (sceneAnswer (now (bytes .entry))) ⌝ }
+    ensures { λ _. ⌜ now (rows .exit) ≡ rowsAfter (now (bytes .entry)) (now (rows .entry)) ⌝ }
+    ensures { λ _. ⌜ now (first .exit) ≡ firstWordsAfter (now (bytes .entry)) (now (first .entry)) ⌝ }
+    ensures { λ _. ⌜ now (second .exit) ≡ secondWordsAfter (now (bytes .entry)) (now (second .entry)) ⌝ }
+{
+    let scene = files::read_scene(bytes, rows, first, second);
+    let universe = scene.universe;
+    let counts = scene.counts;
+    let window = scene.window;
+    *answer = [
+        universe.axes,
+        universe.bits,
+        counts.rows,
+        counts.first,
+        counts.second,
+        window.first,
+        window.last,
+    ];
+    scene.refusal
+}
+
+// Reads a shape file: its symbols go to the front of the lent room.
+#[no_mangle]
+pub extern "C" fn durbizhan_shape_read(bytes: &[u8], out: &mut [u8], answer: &mut [u64; 3]) -> u64
+    ensures { λ r. ⌜ r ≡ readAnswer (now (bytes .entry)) (now (out .entry)) .refusal ⌝ }
+    ensures { λ _. ⌜ now (answer .exit) ≡ shapeArray (readAnswer (now (bytes .entry)) (now (out .entry))) ⌝ }
+    ensures { λ _. ⌜ now (out .exit) ≡ readBuffer (now (bytes .entry)) (now (out .entry)) ⌝ }
+{
+    let shape = files::read_shape(bytes, out);
+    let universe = shape.universe;
+    *answer = [universe.axes, universe.bits, shape.length];
+    shape.refusal
+}
+
+// Writes the shape file of a merged expression.
+#[no_mangle]
+pub extern "C" fn durbizhan_shape_write(
+    axes: u64,
+    bits: u64,
+    expression: &[u8],
+    out: &mut [u8],
+    answer: &mut [u64; 1],
+) -> u64
+    ensures { λ r. ⌜ r ≡ writeAnswer (universeOf axes bits) (now (expression .entry)) (now (out .entry)) .refusal ⌝ }
+    ensures { λ _. ⌜ now (answer .exit) ≡ lengthArray (writeAnswer (universeOf axes bits) (now (expression .entry)) (now (out .entry))) ⌝ }
+    ensures { λ _. ⌜ now (out .exit) ≡ writeBuffer (universeOf axes bits) (now (expression .entry)) (now (out .entry)) ⌝ }
+{
+    let universe = Universe {
+        axes: axes,
+        bits: bits,
+    };
+    let written = files::write_shape(universe, expression, out);
+    *answer = [written.length];
+    written.refusal
+}

@@ -1,0 +1,59 @@
+/* Document 01's example scene, converted and judged from C. At the repository's top, on x86-64:
+ *
+ *   rt staticlib export
+ *   gcc -std=c11 -Wall -Wextra -Iinclude examples/c/clear.c target/staticlib/libexport.a -o target/clear-c && target/clear-c
+ *
+ * It prints
+ *
+ *   axes 2 bits 2
+ *   leaves 4 raw 13 room 31
+ *   hit first 1 last 2 voxels 2
+ */
+#include <inttypes.h>
+#include <stdio.h>
+
+#include "durbizhan.h"
+
+enum { AXES = 2, BITS = 2, FIRST_FRAME = 0, LAST_FRAME = 3 };
+
+/* Two stand-ins of two halfspaces each: one that moves a voxel a frame, and one that stands from 2 to 3. */
+static const int64_t rows[] = {
+    0, 1, -1, 0, 0,
+    1, -1, 1, 0, 0,
+    -2, 1, 0, 0, 0,
+    3, -1, 0, 0, 0,
+};
+static const uint16_t first[] = {256, 257, 3};
+static const uint16_t second[] = {258, 259, 3};
+
+#define COUNT(array) (sizeof(array) / sizeof((array)[0]))
+
+static int refused(uint64_t number)
+{
+    printf("refused %" PRIu64 "\n", number);
+    return 1;
+}
+
+int main(void)
+{
+    uint8_t out[32];
+    uint64_t room[1], verdict[5];
+
+    uint64_t leaves = durbizhan_leaves(first, COUNT(first)) + durbizhan_leaves(second, COUNT(second));
+    uint64_t number = durbizhan_room(AXES, BITS, leaves, room);
+    if (number != 0) return refused(number);
+    if (room[0] > sizeof out) return refused(6);
+
+    /* The number is read first: a refused verdict is Clear. */
+    number = durbizhan_verdict(AXES, BITS, rows, COUNT(rows), first, COUNT(first), second, COUNT(second),
+                               FIRST_FRAME, LAST_FRAME, out, sizeof out, verdict);
+    if (number != 0) return refused(number);
+
+    printf("axes %d bits %d\n", AXES, BITS);
+    printf("leaves %" PRIu64 " raw %" PRIu64 " room %" PRIu64 "\n", leaves, verdict[4], room[0]);
+    if (verdict[0] == 0)
+        printf("clear\n");
+    else
+        printf("hit first %" PRIu64 " last %" PRIu64 " voxels %" PRIu64 "\n", verdict[1], verdict[2], verdict[3]);
+    return 0;
+}

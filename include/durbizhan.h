@@ -1,0 +1,141 @@
+/* Durbizhan: a clearance checker for animated shots. The face for C.
+ *
+ * Every function returns the number of its refusal, 0 where it accepts; durbizhan_leaves alone returns a count.
+ * READ THE NUMBER FIRST. All other fields of a refused answer are zero: a refused verdict is Clear, a refused colour
+ * is WHITE, and neither says anything about the shapes.
+ *
+ *   1  file: short of its header, mark, version, zero byte, or length wrong
+ *   2  axes or bits outside their range (axes 1 to 4, bits 0 to 10)
+ *   3  rows not in fives, over 256 of them, a coefficient outside its limit, or nonzero above the axes
+ *   4  tree empty, unknown word, index past the rows, operator with under two pending, not one left
+ *   5  over 255 words, or a 33rd shape pending
+ *   6  symbols (or file bytes) needed exceed the room lent; the length needed is in the answer
+ *   7  expression not well-formed
+ *   8  shape file's expression not merged
+ *   9  voxel, path or window outside the universe, a nonzero place above the axes, or first > last
+ *  10  proxy number not a finite multiple of 1/16 within its limit, or near > far
+ *
+ * A lent buffer is a pointer and the number of its elements. It is not written to where the call is refused, nor past
+ * what is written where it is not; `answer`, and the rows of a proxy, are always written, whole. What the caller owes:
+ * each pointer is aligned and points to as many elements as are said, no pointer is NULL, that of an empty buffer
+ * neither, and what a call writes to overlaps nothing else of that call. No function keeps a pointer or allocates.
+ *
+ * rows: five numbers a0 to a4 to a halfspace, which holds where a0 + a1*x1 + .. + a4*x4 >= 0.
+ * words: a tree in postfix order: 0 WHITE, 1 BLACK, 2 UNION, 3 INTERSECTION, 4 MINUS, 256 + i halfspace i.
+ * expressions: one byte a symbol, '(' then the low and the high half, 'B' or 'W'.
+ */
+#ifndef DURBIZHAN_H
+#define DURBIZHAN_H
+
+#include <stddef.h>
+#include <stdint.h>
+
+#ifdef __cplusplus
+extern "C" {
+#endif
+
+/* How many words of one tree name a halfspace. Of a run with two trees, N is the sum. This is a count, not a refusal. */
+uint64_t durbizhan_leaves(const uint16_t *words, size_t words_count);
+
+/* answer[0]: how many symbols an expression takes at the most, for N = leaves. A buffer this long is never refused 6. */
+uint64_t durbizhan_room(uint64_t axes, uint64_t bits, uint64_t leaves, uint64_t answer[1]);
+
+/* The raw expression of one tree, and of two intersected, into out. answer[0]: the length written, or needed on 6. */
+uint64_t durbizhan_raw_one(uint64_t axes, uint64_t bits,
+                           const int64_t *rows, size_t rows_count,
+                           const uint16_t *words, size_t words_count,
+                           uint8_t *out, size_t out_count,
+                           uint64_t answer[1]);
+
+uint64_t durbizhan_raw_two(uint64_t axes, uint64_t bits,
+                           const int64_t *rows, size_t rows_count,
+                           const uint16_t *first, size_t first_count,
+                           const uint16_t *second, size_t second_count,
+                           uint8_t *out, size_t out_count,
+                           uint64_t answer[1]);
+
+/* The merged expression of one tree, and of two intersected, into out. answer[0]: the length written, or needed on 6. */
+uint64_t durbizhan_merged_one(uint64_t axes, uint64_t bits,
+                              const int64_t *rows, size_t rows_count,
+                              const uint16_t *words, size_t words_count,
+                              uint8_t *out, size_t out_count,
+                              uint64_t answer[1]);
+
+uint64_t durbizhan_merged_two(uint64_t axes, uint64_t bits,
+                              const int64_t *rows, size_t rows_count,
+                              const uint16_t *first, size_t first_count,
+                              const uint16_t *second, size_t second_count,
+                              uint8_t *out, size_t out_count,
+                              uint64_t answer[1]);
+
+/* Whether two trees share space in frames first_frame to last_frame, both ends in; their raw expression goes into out.
+ * answer: hit (0 Clear, 1 Hit), first frame, last frame, black voxels, raw length (needed on 6). Read the number first:
+ * a refused verdict is Clear. */
+uint64_t durbizhan_verdict(uint64_t axes, uint64_t bits,
+                           const int64_t *rows, size_t rows_count,
+                           const uint16_t *first, size_t first_count,
+                           const uint16_t *second, size_t second_count,
+                           uint64_t first_frame, uint64_t last_frame,
+                           uint8_t *out, size_t out_count,
+                           uint64_t answer[5]);
+
+/* Whether an expression is well-formed: 0, or 2 or 7. */
+uint64_t durbizhan_well_formed(uint64_t axes, uint64_t bits, const uint8_t *expression, size_t expression_count);
+
+/* answer[0]: the black voxels of an expression. */
+uint64_t durbizhan_volume(uint64_t axes, uint64_t bits,
+                          const uint8_t *expression, size_t expression_count,
+                          uint64_t answer[1]);
+
+/* answer[0]: the colour at a voxel, 0 WHITE or 1 BLACK. Places above the axes are 0; the last axis is the frame. */
+uint64_t durbizhan_colour(uint64_t axes, uint64_t bits,
+                          const uint8_t *expression, size_t expression_count,
+                          uint64_t x, uint64_t y, uint64_t z, uint64_t t,
+                          uint64_t answer[1]);
+
+/* The part of an expression for one block, by a path of bytes, 0 low and 1 high. answer: start, length. */
+uint64_t durbizhan_part(uint64_t axes, uint64_t bits,
+                        const uint8_t *expression, size_t expression_count,
+                        const uint8_t *path, size_t path_count,
+                        uint64_t answer[2]);
+
+/* The merged expression of a raw or merged one, into out. answer[0]: the length written, or needed on 6. */
+uint64_t durbizhan_merge(uint64_t axes, uint64_t bits,
+                         const uint8_t *expression, size_t expression_count,
+                         uint8_t *out, size_t out_count,
+                         uint64_t answer[1]);
+
+/* Reads a scene file; its rows and the words of its two trees go to the front of the lent arrays.
+ * answer: axes, bits, rows, words of tree 1, words of tree 2, first frame, last frame. A row is five numbers. */
+uint64_t durbizhan_scene(const uint8_t *bytes, size_t bytes_count,
+                         int64_t rows[1280], uint16_t first[255], uint16_t second[255],
+                         uint64_t answer[7]);
+
+/* Reads a shape file; its symbols go to the front of out. answer: axes, bits, length; on 6 axes and bits are 0 and the
+ * length is the one needed. */
+uint64_t durbizhan_shape_read(const uint8_t *bytes, size_t bytes_count,
+                              uint8_t *out, size_t out_count,
+                              uint64_t answer[3]);
+
+/* Writes the shape file of a merged expression into out. answer[0]: the bytes written, or needed on 6. */
+uint64_t durbizhan_shape_write(uint64_t axes, uint64_t bits,
+                               const uint8_t *expression, size_t expression_count,
+                               uint8_t *out, size_t out_count,
+                               uint64_t answer[1]);
+
+/* The six rows of a stand-in Box for axes 4, x near, x far, then y, then z; the displacement is per frame. 0 or 10; on 10 all rows are zero. */
+uint64_t durbizhan_box(double near_x, double near_y, double near_z,
+                       double far_x, double far_y, double far_z,
+                       double displacement_x, double displacement_y, double displacement_z,
+                       int64_t rows[30]);
+
+/* The row of a stand-in Cut for axes 4, which holds where n.x + offset >= 0. 0 or 10; on 10 the row is zero. */
+uint64_t durbizhan_cut(double normal_x, double normal_y, double normal_z, double offset,
+                       double displacement_x, double displacement_y, double displacement_z,
+                       int64_t row[5]);
+
+#ifdef __cplusplus
+}
+#endif
+
+#endif
