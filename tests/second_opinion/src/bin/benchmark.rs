@@ -1,0 +1,338 @@
+//! benchmark: how long the library takes against the plain fast converter, on generated polyhedra. Both are
+//! compiled for this machine, both check what they are given, both answers are compared before anything is timed.
+//! The table is in Markdown; times are the best of several runs, in nanoseconds per block examined and word of
+//! the trees (for the volume: per symbol).
+
+#[allow(dead_code)]
+#[path = "../face.rs"]
+mod face;
+
+use second_opinion::fast::{plain_merged_fast, plain_raw_fast, plain_verdict_fast, plain_volume_fast, Run};
+use second_opinion::generate::Random;
+use std::hint::black_box;
+use std::time::Instant;
+
+struct Case {
+    name: String,
+    axes: u64,
+    bits: u64,
+    rows: Vec<i64>,
+    first: Vec<u16>,
+    second: Vec<u16>,
+}
+
+/// The halfspace of a plane that touches a ball, the ball inside; the centre is in halves.
+fn touching(normal: [f64; 4], twice_centre: [f64; 4], radius: f64, axes: usize) -> [i64; 5] {
+    let length = normal[..axes].iter().map(|n| n * n).sum::<f64>().sqrt();
+    let mut row = [0; 5];
+    let mut free = radius * 1000.0;
+    for axis in 0..axes {
+        let scaled = (normal[axis] / length * 1000.0).round();
+        row[axis + 1] = -(scaled as i64);
+        free += scaled * twice_centre[axis] / 2.0;
+    }
+    row[0] = free.round() as i64;
+    row
+}
+
+fn direction(random: &mut Random) -> [f64; 4] {
+    loop {
+        let normal = [0; 4].map(|_: i32| random.between(-1000, 1000) as f64);
+        let square: f64 = normal.iter().map(|n| n * n).sum();
+        if (10_000.0..1_000_000.0).contains(&square) {
+            return normal;
+        }
+    }
+}
+
+/// The intersection of so many halfspaces that touch a ball.
+fn convex(random: &mut Random, rows: &mut Vec<i64>, leaves: usize, centre: f64, case: (u64, u64)) -> Vec<u16> {
+    let side = (1u64 << case.1) as f64;
+    let mut words = Vec::new();
+    for leaf in 0..leaves {
+        let normal = direction(random);
+        words.push(256 + (rows.len() / 5) as u16);
+        rows.extend(touching(normal, [2.0 * centre * side; 4], 0.4 * side, case.0 as usize));
+        if leaf > 0 {
+            words.push(3);
+        }
+    }
+    words
+}
+
+/// A union of intersections of four halfspaces each, about different centres.
+fn clusters(random: &mut Random, rows: &mut Vec<i64>, leaves: usize, case: (u64, u64)) -> Vec<u16> {
+    let side = (1u64 << case.1) as f64;
+    let mut words = Vec::new();
+    let mut begun = 0;
+    while begun < leaves {
+        let size = (leaves - begun).min(4);
+        let centre = [0; 4].map(|_: i32| 2.0 * side * random.between(200, 800) as f64 / 1000.0);
+        for leaf in 0..size {
+            let normal = direction(random);
+            words.push(256 + (rows.len() / 5) as u16);
+            rows.extend(touching(normal, centre, 0.25 * side, case.0 as usize));
+            if leaf > 0 {
+                words.push(3);
+            }
+        }
+        if begun > 0 {
+            words.push(2);
+        }
+        begun += size;
+    }
+    words
+}
+
+/// The icosahedron: its face normals are the corners of a dodecahedron.
+fn icosahedron(rows: &mut Vec<i64>, centre: [f64; 4], radius: f64) -> Vec<u16> {
+    let golden = (1.0 + 5f64.sqrt()) / 2.0;
+    let signs = [1.0, -1.0];
+    let mut normals = Vec::new();
+    for a in signs {
+        for b in signs {
+            for c in signs {
+                normals.push([a, b, c, 0.0]);
+            }
+            normals.push([0.0, a / golden, b * golden, 0.0]);
+            normals.push([a / golden, b * golden, 0.0, 0.0]);
+            normals.push([a * golden, 0.0, b / golden, 0.0]);
+        }
+    }
+    assert_eq!(normals.len(), 20);
+    let mut words = Vec::new();
+    for (place, normal) in normals.into_iter().enumerate() {
+        words.push(256 + (rows.len() / 5) as u16);
+        rows.extend(touching(normal, centre.map(|c| 2.0 * c), radius, 3));
+        if place > 0 {
+            words.push(3);
+        }
+    }
+    words
+}
+
+fn cases() -> Vec<Case> {
+    let mut random = Random::new(2024);
+    let mut cases = Vec::new();
+    let sizes: [(&str, usize, usize); 5] =
+        [("two planes", 1, 1), ("convex and convex", 4, 4), ("convex and union", 10, 10), ("convex and union", 32, 32), ("union and convex", 60, 66)];
+    for (axes, bits) in [(2, 6), (2, 10), (3, 4), (3, 6), (4, 3), (4, 4)] {
+        for (name, one, two) in sizes {
+            let mut rows = Vec::new();
+            let (first, second) = match name {
+                "convex and union" => (
+                    convex(&mut random, &mut rows, one, 0.5, (axes, bits)),
+                    clusters(&mut random, &mut rows, two, (axes, bits)),
+                ),
+                "union and convex" => (
+                    clusters(&mut random, &mut rows, one, (axes, bits)),
+                    convex(&mut random, &mut rows, two, 0.5, (axes, bits)),
+                ),
+                _ => (
+                    convex(&mut random, &mut rows, one, 0.45, (axes, bits)),
+                    convex(&mut random, &mut rows, two, 0.55, (axes, bits)),
+                ),
+            };
+            cases.push(Case { name: name.to_string(), axes, bits, rows, first, second });
+        }
+        if axes == 3 {
+            let side = (1u64 << bits) as f64;
+            let mut rows = Vec::new();
+            let first = icosahedron(&mut rows, [side / 2.0; 4], 0.4 * side);
+            cases.push(Case { name: "icosahedron".into(), axes, bits, rows: rows.clone(), first: first.clone(), second: vec![1] });
+            let second = icosahedron(&mut rows, [0.6 * side, 0.55 * side, 0.5 * side, 0.0], 0.3 * side);
+            cases.push(Case { name: "two icosahedra".into(), axes, bits, rows, first, second });
+        }
+    }
+    cases
+}
+
+/// The best times of one call to each of two, run in turn so that both meet the same disturbances.
+fn best(mut library: impl FnMut(), mut plain: impl FnMut()) -> (f64, f64) {
+    fn timed(calls: u32, call: &mut impl FnMut()) -> f64 {
+        let began = Instant::now();
+        for _ in 0..calls {
+            call();
+        }
+        began.elapsed().as_secs_f64() / calls as f64
+    }
+    let once = timed(1, &mut library).max(timed(1, &mut plain)).max(1e-8);
+    let calls = (0.001 / once).clamp(1.0, 100_000.0) as u32;
+    // many short runs: the least of them meets no disturbance
+    let runs = (0.1 / (once * calls as f64)).clamp(5.0, 30.0) as u32;
+    let (mut by_library, mut by_plain) = (f64::INFINITY, f64::INFINITY);
+    for _ in 0..runs {
+        by_library = by_library.min(timed(calls, &mut library));
+        by_plain = by_plain.min(timed(calls, &mut plain));
+    }
+    (by_library, by_plain)
+}
+
+struct Table {
+    ratios: Vec<f64>,
+}
+
+impl Table {
+    fn new(title: &str) -> Table {
+        println!("\n## {title}\n");
+        println!("| case | blocks examined | words | library ns | plain ns | ratio |");
+        println!("|---|---:|---:|---:|---:|---:|");
+        Table { ratios: Vec::new() }
+    }
+
+    fn row(&mut self, case: &Case, blocks: usize, words: usize, (library, plain): (f64, f64)) {
+        let unit = 1e9 / (blocks as f64 * words as f64);
+        println!(
+            "| d {} k {} {} | {blocks} | {words} | {:.2} | {:.2} | {:.2} |",
+            case.axes, case.bits, case.name, library * unit, plain * unit, library / plain,
+        );
+        self.ratios.push(library / plain);
+    }
+
+    fn end(self) {
+        let mean = (self.ratios.iter().map(|ratio| ratio.ln()).sum::<f64>() / self.ratios.len() as f64).exp();
+        let worst = self.ratios.iter().copied().fold(0.0, f64::max);
+        println!("\nGeometric mean of the ratios {mean:.2}, greatest {worst:.2}.");
+    }
+}
+
+/// The plain side begins where the library does: with the checks.
+fn checked(case: &Case) -> Run {
+    Run::checked(case.axes, case.bits, &case.rows, &[&case.first, &case.second]).expect("in order")
+}
+
+fn words(case: &Case) -> usize {
+    case.first.len() + case.second.len()
+}
+
+fn raw(cases: &[Case], raws: &[Vec<u8>], title: &str, exact: bool) {
+    let mut table = Table::new(title);
+    for (case, raw) in cases.iter().zip(raws) {
+        let lent = if exact { raw.len() } else { checked(case).room() as usize };
+        let (mut out, mut plain_out) = (vec![0; lent], vec![0; lent]);
+        let times = best(
+            || {
+                let mut length = [0];
+                let number =
+                    face::raw_two(case.axes, case.bits, &case.rows, &case.first, &case.second, &mut out, &mut length);
+                assert_eq!((number, length[0] as usize), (0, raw.len()));
+                black_box(&out);
+            },
+            || {
+                assert_eq!(plain_raw_fast(&checked(case), &mut plain_out), Ok(raw.len()));
+                black_box(&plain_out);
+            },
+        );
+        assert!(out == plain_out, "the expressions differ");
+        table.row(case, raw.len(), words(case), times);
+    }
+    table.end();
+}
+
+fn merged(cases: &[Case], raws: &[Vec<u8>], merged: &[Vec<u8>], title: &str, exact: bool) {
+    let mut table = Table::new(title);
+    for ((case, raw), merged) in cases.iter().zip(raws).zip(merged) {
+        let lent = if exact { merged.len() } else { checked(case).room() as usize };
+        let (mut out, mut plain_out) = (vec![0; lent], vec![0; lent]);
+        let times = best(
+            || {
+                let mut length = [0];
+                let number =
+                    face::merged_two(case.axes, case.bits, &case.rows, &case.first, &case.second, &mut out, &mut length);
+                assert_eq!((number, length[0] as usize), (0, merged.len()));
+                black_box(&out);
+            },
+            || {
+                assert_eq!(plain_merged_fast(&checked(case), &mut plain_out), Ok(merged.len()));
+                black_box(&plain_out);
+            },
+        );
+        assert!(out == plain_out, "the expressions differ");
+        table.row(case, raw.len(), words(case), times);
+    }
+    table.end();
+}
+
+fn volume(cases: &[Case], expressions: &[Vec<u8>], title: &str) {
+    let mut table = Table::new(title);
+    for (case, symbols) in cases.iter().zip(expressions) {
+        if symbols.len() < 200 {
+            continue;
+        }
+        let black = plain_volume_fast(case.axes, case.bits, symbols);
+        let times = best(
+            || {
+                let mut answer = [0];
+                let number = face::volume(case.axes, case.bits, black_box(symbols), &mut answer);
+                assert_eq!((number, Some(answer[0])), (0, black));
+            },
+            || assert_eq!(plain_volume_fast(case.axes, case.bits, black_box(symbols)), black),
+        );
+        table.row(case, symbols.len(), 1, times);
+    }
+    table.end();
+}
+
+fn verdict(cases: &[Case], raws: &[Vec<u8>], title: &str, exact: bool) {
+    let mut table = Table::new(title);
+    for (case, raw) in cases.iter().zip(raws) {
+        let side = 1u64 << case.bits;
+        let (from, to) = (side / 4, 3 * side / 4);
+        let lent = if exact { raw.len() } else { checked(case).room() as usize };
+        let (mut out, mut plain_out) = (vec![0; lent], vec![0; lent]);
+        let fields = plain_verdict_fast(&checked(case), from, to, &mut plain_out).expect("it fits");
+        let times = best(
+            || {
+                let mut answer = [0; 5];
+                let number = face::verdict(
+                    case.axes, case.bits, &case.rows, &case.first, &case.second, from, to, &mut out, &mut answer,
+                );
+                assert_eq!((number, answer), (0, fields));
+                black_box(&out);
+            },
+            || {
+                assert_eq!(plain_verdict_fast(&checked(case), from, to, &mut plain_out), Ok(fields));
+                black_box(&plain_out);
+            },
+        );
+        assert!(out == plain_out, "the expressions differ");
+        table.row(case, raw.len(), words(case), times);
+    }
+    table.end();
+}
+
+fn main() {
+    let cases = cases();
+    println!("# Library against plain Rust");
+    println!("\nTimes are nanoseconds per block examined and word of the trees, the best of several runs; ratio is library / plain.");
+    println!("Two trees are intersected. Plain Rust evaluates the full tree in every block, once: where the room lent may not");
+    println!("suffice it gathers the symbols in memory of its own and copies them, and the library has no memory of its own.");
+    let raws: Vec<Vec<u8>> = cases
+        .iter()
+        .map(|case| {
+            let run = checked(case);
+            let mut out = vec![0; run.room() as usize];
+            let length = plain_raw_fast(&run, &mut out).expect("the formula's room suffices");
+            out.truncate(length);
+            out
+        })
+        .collect();
+    let short: Vec<Vec<u8>> = cases
+        .iter()
+        .zip(&raws)
+        .map(|(case, raw)| {
+            let mut out = vec![0; raw.len()];
+            let length = plain_merged_fast(&checked(case), &mut out).expect("no longer than raw");
+            out.truncate(length);
+            out
+        })
+        .collect();
+    raw(&cases, &raws, "Raw, room lent at the formula's size", false);
+    raw(&cases, &raws, "Raw, room lent for exactly the symbols", true);
+    merged(&cases, &raws, &short, "Merged, room lent at the formula's size", false);
+    merged(&cases, &raws, &short, "Merged, room lent for exactly the symbols", true);
+    volume(&cases, &raws, "Volume of the raw expression (per symbol)");
+    volume(&cases, &short, "Volume of the merged expression (per symbol)");
+    verdict(&cases, &raws, "Verdict on the middle half of the frames, room lent at the formula's size", false);
+    verdict(&cases, &raws, "Verdict on the middle half of the frames, room lent for exactly the symbols", true);
+}

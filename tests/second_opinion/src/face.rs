@@ -1,0 +1,198 @@
+//! The C face of the library (crate `export`), and safe wrappers with the parameters of `plain`'s entry points.
+//! A slice is a pointer and a length; an array is a pointer. Each function returns the refusal number, but for
+//! `durbizhan_leaves`, which returns a count.
+
+mod c {
+    extern "C" {
+        pub fn durbizhan_room(axes: u64, bits: u64, leaves: u64, answer: *mut u64) -> u64;
+        pub fn durbizhan_leaves(words: *const u16, words_len: usize) -> u64;
+        pub fn durbizhan_raw_one(
+            axes: u64, bits: u64, rows: *const i64, rows_len: usize, words: *const u16, words_len: usize,
+            out: *mut u8, out_len: usize, answer: *mut u64,
+        ) -> u64;
+        pub fn durbizhan_raw_two(
+            axes: u64, bits: u64, rows: *const i64, rows_len: usize, first: *const u16, first_len: usize,
+            second: *const u16, second_len: usize, out: *mut u8, out_len: usize, answer: *mut u64,
+        ) -> u64;
+        pub fn durbizhan_merged_one(
+            axes: u64, bits: u64, rows: *const i64, rows_len: usize, words: *const u16, words_len: usize,
+            out: *mut u8, out_len: usize, answer: *mut u64,
+        ) -> u64;
+        pub fn durbizhan_merged_two(
+            axes: u64, bits: u64, rows: *const i64, rows_len: usize, first: *const u16, first_len: usize,
+            second: *const u16, second_len: usize, out: *mut u8, out_len: usize, answer: *mut u64,
+        ) -> u64;
+        pub fn durbizhan_verdict(
+            axes: u64, bits: u64, rows: *const i64, rows_len: usize, first: *const u16, first_len: usize,
+            second: *const u16, second_len: usize, first_frame: u64, last_frame: u64, out: *mut u8,
+            out_len: usize, answer: *mut u64,
+        ) -> u64;
+        pub fn durbizhan_well_formed(axes: u64, bits: u64, expression: *const u8, expression_len: usize) -> u64;
+        pub fn durbizhan_volume(
+            axes: u64, bits: u64, expression: *const u8, expression_len: usize, answer: *mut u64,
+        ) -> u64;
+        pub fn durbizhan_colour(
+            axes: u64, bits: u64, expression: *const u8, expression_len: usize, x: u64, y: u64, z: u64, t: u64,
+            answer: *mut u64,
+        ) -> u64;
+        pub fn durbizhan_part(
+            axes: u64, bits: u64, expression: *const u8, expression_len: usize, path: *const u8,
+            path_len: usize, answer: *mut u64,
+        ) -> u64;
+        pub fn durbizhan_merge(
+            axes: u64, bits: u64, expression: *const u8, expression_len: usize, out: *mut u8, out_len: usize,
+            answer: *mut u64,
+        ) -> u64;
+        pub fn durbizhan_scene(
+            bytes: *const u8, bytes_len: usize, rows: *mut i64, first: *mut u16, second: *mut u16,
+            answer: *mut u64,
+        ) -> u64;
+        pub fn durbizhan_shape_read(
+            bytes: *const u8, bytes_len: usize, out: *mut u8, out_len: usize, answer: *mut u64,
+        ) -> u64;
+        pub fn durbizhan_shape_write(
+            axes: u64, bits: u64, expression: *const u8, expression_len: usize, out: *mut u8, out_len: usize,
+            answer: *mut u64,
+        ) -> u64;
+        pub fn durbizhan_box(
+            near_x: f64, near_y: f64, near_z: f64, far_x: f64, far_y: f64, far_z: f64, step_x: f64,
+            step_y: f64, step_z: f64, rows: *mut i64,
+        ) -> u64;
+        pub fn durbizhan_cut(
+            normal_x: f64, normal_y: f64, normal_z: f64, offset: f64, step_x: f64, step_y: f64, step_z: f64,
+            row: *mut i64,
+        ) -> u64;
+    }
+}
+
+// SAFETY, for every wrapper below: each pointer comes from a Rust reference together with its own length, lent
+// buffers are unique for the call, and the library keeps none of them.
+
+pub fn room(axes: u64, bits: u64, leaves: u64, answer: &mut [u64; 1]) -> u64 {
+    unsafe { c::durbizhan_room(axes, bits, leaves, answer.as_mut_ptr()) }
+}
+
+pub fn leaves(words: &[u16]) -> u64 {
+    unsafe { c::durbizhan_leaves(words.as_ptr(), words.len()) }
+}
+
+pub fn raw_one(axes: u64, bits: u64, rows: &[i64], words: &[u16], out: &mut [u8], answer: &mut [u64; 1]) -> u64 {
+    unsafe {
+        c::durbizhan_raw_one(
+            axes, bits, rows.as_ptr(), rows.len(), words.as_ptr(), words.len(), out.as_mut_ptr(), out.len(),
+            answer.as_mut_ptr(),
+        )
+    }
+}
+
+pub fn raw_two(
+    axes: u64, bits: u64, rows: &[i64], first: &[u16], second: &[u16], out: &mut [u8], answer: &mut [u64; 1],
+) -> u64 {
+    unsafe {
+        c::durbizhan_raw_two(
+            axes, bits, rows.as_ptr(), rows.len(), first.as_ptr(), first.len(), second.as_ptr(), second.len(),
+            out.as_mut_ptr(), out.len(), answer.as_mut_ptr(),
+        )
+    }
+}
+
+pub fn merged_one(axes: u64, bits: u64, rows: &[i64], words: &[u16], out: &mut [u8], answer: &mut [u64; 1]) -> u64 {
+    unsafe {
+        c::durbizhan_merged_one(
+            axes, bits, rows.as_ptr(), rows.len(), words.as_ptr(), words.len(), out.as_mut_ptr(), out.len(),
+            answer.as_mut_ptr(),
+        )
+    }
+}
+
+pub fn merged_two(
+    axes: u64, bits: u64, rows: &[i64], first: &[u16], second: &[u16], out: &mut [u8], answer: &mut [u64; 1],
+) -> u64 {
+    unsafe {
+        c::durbizhan_merged_two(
+            axes, bits, rows.as_ptr(), rows.len(), first.as_ptr(), first.len(), second.as_ptr(), second.len(),
+            out.as_mut_ptr(), out.len(), answer.as_mut_ptr(),
+        )
+    }
+}
+
+#[allow(clippy::too_many_arguments)]
+pub fn verdict(
+    axes: u64, bits: u64, rows: &[i64], first: &[u16], second: &[u16], first_frame: u64, last_frame: u64,
+    out: &mut [u8], answer: &mut [u64; 5],
+) -> u64 {
+    unsafe {
+        c::durbizhan_verdict(
+            axes, bits, rows.as_ptr(), rows.len(), first.as_ptr(), first.len(), second.as_ptr(), second.len(),
+            first_frame, last_frame, out.as_mut_ptr(), out.len(), answer.as_mut_ptr(),
+        )
+    }
+}
+
+pub fn well_formed(axes: u64, bits: u64, expression: &[u8]) -> u64 {
+    unsafe { c::durbizhan_well_formed(axes, bits, expression.as_ptr(), expression.len()) }
+}
+
+pub fn volume(axes: u64, bits: u64, expression: &[u8], answer: &mut [u64; 1]) -> u64 {
+    unsafe { c::durbizhan_volume(axes, bits, expression.as_ptr(), expression.len(), answer.as_mut_ptr()) }
+}
+
+#[allow(clippy::too_many_arguments)]
+pub fn colour(
+    axes: u64, bits: u64, expression: &[u8], x: u64, y: u64, z: u64, t: u64, answer: &mut [u64; 1],
+) -> u64 {
+    unsafe {
+        c::durbizhan_colour(axes, bits, expression.as_ptr(), expression.len(), x, y, z, t, answer.as_mut_ptr())
+    }
+}
+
+pub fn part(axes: u64, bits: u64, expression: &[u8], path: &[u8], answer: &mut [u64; 2]) -> u64 {
+    unsafe {
+        c::durbizhan_part(
+            axes, bits, expression.as_ptr(), expression.len(), path.as_ptr(), path.len(), answer.as_mut_ptr(),
+        )
+    }
+}
+
+pub fn merge(axes: u64, bits: u64, expression: &[u8], out: &mut [u8], answer: &mut [u64; 1]) -> u64 {
+    unsafe {
+        c::durbizhan_merge(
+            axes, bits, expression.as_ptr(), expression.len(), out.as_mut_ptr(), out.len(), answer.as_mut_ptr(),
+        )
+    }
+}
+
+pub fn scene(
+    bytes: &[u8], rows: &mut [i64; 1280], first: &mut [u16; 255], second: &mut [u16; 255], answer: &mut [u64; 7],
+) -> u64 {
+    unsafe {
+        c::durbizhan_scene(
+            bytes.as_ptr(), bytes.len(), rows.as_mut_ptr(), first.as_mut_ptr(), second.as_mut_ptr(),
+            answer.as_mut_ptr(),
+        )
+    }
+}
+
+pub fn shape_read(bytes: &[u8], out: &mut [u8], answer: &mut [u64; 3]) -> u64 {
+    unsafe {
+        c::durbizhan_shape_read(bytes.as_ptr(), bytes.len(), out.as_mut_ptr(), out.len(), answer.as_mut_ptr())
+    }
+}
+
+pub fn shape_write(axes: u64, bits: u64, expression: &[u8], out: &mut [u8], answer: &mut [u64; 1]) -> u64 {
+    unsafe {
+        c::durbizhan_shape_write(
+            axes, bits, expression.as_ptr(), expression.len(), out.as_mut_ptr(), out.len(), answer.as_mut_ptr(),
+        )
+    }
+}
+
+pub fn box_proxy(near: [f64; 3], far: [f64; 3], step: [f64; 3], rows: &mut [i64; 30]) -> u64 {
+    let ([a, b, c], [d, e, f], [g, h, i]) = (near, far, step);
+    unsafe { self::c::durbizhan_box(a, b, c, d, e, f, g, h, i, rows.as_mut_ptr()) }
+}
+
+pub fn cut_proxy(normal: [f64; 3], offset: f64, step: [f64; 3], row: &mut [i64; 5]) -> u64 {
+    let ([a, b, c], [d, e, f]) = (normal, step);
+    unsafe { self::c::durbizhan_cut(a, b, c, offset, d, e, f, row.as_mut_ptr()) }
+}

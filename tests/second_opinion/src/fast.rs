@@ -1,0 +1,368 @@
+//! A plain fast converter: it evaluates the full tree in every block, with slices and no allocation per block.
+//! The benchmark measures the library against it; the unit tests hold it to the slow one of `plain`.
+
+use crate::plain::{room_of, run_checked, Answer, Tree, Universe};
+
+/// A mark as two bits; 0 is undecided.
+const BLACK: u8 = 1;
+const WHITE: u8 = 2;
+
+#[derive(Clone, Copy)]
+enum Word {
+    Leaf([i64; 5]),
+    Colour(u8),
+    Union,
+    Intersection,
+}
+
+/// The trees of a run, joined and made ready: postfix words with the reversals worked in.
+pub struct Run {
+    universe: Universe,
+    words: Vec<Word>,
+    room: u64,
+}
+
+fn flatten(tree: &Tree, words: &mut Vec<Word>) {
+    match tree {
+        Tree::White => words.push(Word::Colour(WHITE)),
+        Tree::Black => words.push(Word::Colour(BLACK)),
+        Tree::Halfspace(row) => words.push(Word::Leaf(*row)),
+        Tree::Union(a, b) => {
+            flatten(a, words);
+            flatten(b, words);
+            words.push(Word::Union);
+        }
+        Tree::Intersection(a, b) => {
+            flatten(a, words);
+            flatten(b, words);
+            words.push(Word::Intersection);
+        }
+        Tree::Minus(..) => unreachable!("no MINUS is left"),
+    }
+}
+
+/// Takes the marks of a postfix tree together. At most 33 shapes are pending: 32, and the first of two trees.
+#[inline(always)]
+fn fold(words: &[Word], leaf: impl Fn(&[i64; 5]) -> u8) -> u8 {
+    let mut stack = [0u8; 64];
+    let mut top = 0usize;
+    for word in words {
+        match word {
+            Word::Leaf(row) => {
+                stack[top & 63] = leaf(row);
+                top += 1;
+            }
+            Word::Colour(mark) => {
+                stack[top & 63] = *mark;
+                top += 1;
+            }
+            Word::Union => {
+                top -= 1;
+                let (a, b) = (stack[(top - 1) & 63], stack[top & 63]);
+                stack[(top - 1) & 63] = (a | b) & BLACK | a & b & WHITE;
+            }
+            Word::Intersection => {
+                top -= 1;
+                let (a, b) = (stack[(top - 1) & 63], stack[top & 63]);
+                stack[(top - 1) & 63] = (a | b) & WHITE | a & b & BLACK;
+            }
+        }
+    }
+    stack[0]
+}
+
+#[inline(always)]
+fn mark_over<const D: usize>(words: &[Word], low: &[i64; D], size: &[i64; D]) -> u8 {
+    fold(words, |row| {
+        let (mut min, mut max) = (row[0], row[0]);
+        for axis in 0..D {
+            let near = row[axis + 1] * low[axis];
+            let far = near + row[axis + 1] * size[axis];
+            min += near.min(far);
+            max += near.max(far);
+        }
+        if min >= 0 {
+            BLACK
+        } else if max <= 0 {
+            WHITE
+        } else {
+            0
+        }
+    })
+}
+
+#[inline(always)]
+fn mark_at_centre<const D: usize>(words: &[Word], low: &[i64; D]) -> u8 {
+    fold(words, |row| {
+        let mut sum = 2 * row[0];
+        for axis in 0..D {
+            sum += row[axis + 1] * (2 * low[axis] + 1);
+        }
+        if sum >= 0 {
+            BLACK
+        } else {
+            WHITE
+        }
+    })
+}
+
+/// What becomes of the blocks examined.
+trait Sink<const D: usize> {
+    /// A block is halved; `false` stops the whole conversion.
+    fn halved(&mut self) -> bool;
+    fn decided(&mut self, symbol: u8, low: &[i64; D], size: &[i64; D]);
+    /// Both halves are done of the block whose `(` was written at `begun`.
+    fn closed(&mut self, _begun: usize) {}
+    fn length(&self) -> usize;
+}
+
+fn examine<const D: usize, S: Sink<D>>(
+    words: &[Word], low: [i64; D], size: [i64; D], left: u32, axis: usize, sink: &mut S,
+) -> bool {
+    let mut mark = mark_over(words, &low, &size);
+    if mark == 0 && left == 0 {
+        mark = mark_at_centre(words, &low);
+    }
+    if mark != 0 {
+        sink.decided(if mark & BLACK != 0 { b'B' } else { b'W' }, &low, &size);
+        return true;
+    }
+    let begun = sink.length();
+    if !sink.halved() {
+        return false;
+    }
+    let next = if axis + 1 == D { 0 } else { axis + 1 };
+    let (mut half, mut high) = (size, low);
+    half[axis] /= 2;
+    high[axis] += half[axis];
+    if !examine(words, low, half, left - 1, next, sink) || !examine(words, high, half, left - 1, next, sink) {
+        return false;
+    }
+    sink.closed(begun);
+    true
+}
+
+/// Symbols written straight into lent room that is known to suffice.
+struct Straight<'a> {
+    out: &'a mut [u8],
+    length: usize,
+}
+
+impl<const D: usize> Sink<D> for Straight<'_> {
+    fn halved(&mut self) -> bool {
+        self.out[self.length] = b'(';
+        self.length += 1;
+        true
+    }
+    fn decided(&mut self, symbol: u8, _: &[i64; D], _: &[i64; D]) {
+        self.out[self.length] = symbol;
+        self.length += 1;
+    }
+    fn length(&self) -> usize {
+        self.length
+    }
+}
+
+/// Symbols gathered, for room that may not suffice.
+struct Gathered(Vec<u8>);
+
+impl<const D: usize> Sink<D> for Gathered {
+    fn halved(&mut self) -> bool {
+        self.0.push(b'(');
+        true
+    }
+    fn decided(&mut self, symbol: u8, _: &[i64; D], _: &[i64; D]) {
+        self.0.push(symbol);
+    }
+    fn length(&self) -> usize {
+        self.0.len()
+    }
+}
+
+/// Symbols gathered and merged on the way.
+struct Merging(Vec<u8>);
+
+impl<const D: usize> Sink<D> for Merging {
+    fn halved(&mut self) -> bool {
+        self.0.push(b'(');
+        true
+    }
+    fn decided(&mut self, symbol: u8, _: &[i64; D], _: &[i64; D]) {
+        self.0.push(symbol);
+    }
+    fn closed(&mut self, begun: usize) {
+        if self.0.len() == begun + 3 && self.0[begun + 1] == self.0[begun + 2] {
+            self.0[begun] = self.0[begun + 1];
+            self.0.truncate(begun + 1);
+        }
+    }
+    fn length(&self) -> usize {
+        self.0.len()
+    }
+}
+
+/// Counts blocks and stops at a bound.
+struct Counting {
+    blocks: u64,
+    most: u64,
+}
+
+impl<const D: usize> Sink<D> for Counting {
+    fn halved(&mut self) -> bool {
+        self.blocks += 1;
+        self.blocks <= self.most
+    }
+    fn decided(&mut self, _: u8, _: &[i64; D], _: &[i64; D]) {
+        self.blocks += 1;
+    }
+    fn length(&self) -> usize {
+        0
+    }
+}
+
+/// Gathers and judges: the black voxels of a window of frames.
+struct Judging {
+    symbols: Vec<u8>,
+    window: (i64, i64),
+    first: i64,
+    last: i64,
+    voxels: u64,
+}
+
+impl<const D: usize> Sink<D> for Judging {
+    fn halved(&mut self) -> bool {
+        self.symbols.push(b'(');
+        true
+    }
+    fn decided(&mut self, symbol: u8, low: &[i64; D], size: &[i64; D]) {
+        self.symbols.push(symbol);
+        if symbol == b'B' {
+            let from = low[D - 1].max(self.window.0);
+            let end = (low[D - 1] + size[D - 1]).min(self.window.1 + 1);
+            if from < end {
+                self.first = self.first.min(from);
+                self.last = self.last.max(end - 1);
+                self.voxels += (size[..D - 1].iter().product::<i64>() * (end - from)) as u64;
+            }
+        }
+    }
+    fn length(&self) -> usize {
+        self.symbols.len()
+    }
+}
+
+impl Run {
+    /// Checks and makes ready. The refusals are those of the conversions.
+    pub fn checked(axes: u64, bits: u64, rows: &[i64], trees: &[&[u16]]) -> Answer<Run> {
+        let (universe, read) = run_checked(axes, bits, rows, trees)?;
+        let mut words = Vec::new();
+        for tree in &read {
+            flatten(tree, &mut words);
+        }
+        if read.len() == 2 {
+            words.push(Word::Intersection);
+        }
+        let leaves = words.iter().filter(|word| matches!(word, Word::Leaf(_))).count() as u64;
+        let room = room_of(&universe, leaves);
+        Ok(Run { universe, words, room })
+    }
+
+    pub fn words(&self) -> usize {
+        self.words.len()
+    }
+
+    pub fn room(&self) -> u64 {
+        self.room
+    }
+
+    fn go<S: Sink<1> + Sink<2> + Sink<3> + Sink<4>>(&self, sink: &mut S) -> bool {
+        let (words, side, left) = (&self.words[..], self.universe.side(), self.universe.levels() as u32);
+        match self.universe.axes {
+            1 => examine(words, [0; 1], [side; 1], left, 0, sink),
+            2 => examine(words, [0; 2], [side; 2], left, 0, sink),
+            3 => examine(words, [0; 3], [side; 3], left, 0, sink),
+            _ => examine(words, [0; 4], [side; 4], left, 0, sink),
+        }
+    }
+
+    /// The number of blocks examined, if it is at most `most`.
+    pub fn blocks_within(&self, most: u64) -> Option<u64> {
+        let mut counting = Counting { blocks: 0, most };
+        self.go(&mut counting);
+        (counting.blocks <= most).then_some(counting.blocks)
+    }
+}
+
+fn delivered(symbols: &[u8], out: &mut [u8]) -> Result<usize, usize> {
+    match out.get_mut(..symbols.len()) {
+        Some(place) => {
+            place.copy_from_slice(symbols);
+            Ok(symbols.len())
+        }
+        None => Err(symbols.len()),
+    }
+}
+
+/// The raw expression: the length written, or the length needed. Where the room lent has the formula's size, the
+/// symbols are written straight into it; otherwise they are gathered once, and copied if they fit.
+pub fn plain_raw_fast(run: &Run, out: &mut [u8]) -> Result<usize, usize> {
+    if out.len() as u64 >= run.room {
+        let mut sink = Straight { out, length: 0 };
+        run.go(&mut sink);
+        return Ok(sink.length);
+    }
+    let mut sink = Gathered(Vec::with_capacity(out.len()));
+    run.go(&mut sink);
+    delivered(&sink.0, out)
+}
+
+/// The merged expression: the length written, or the length needed.
+pub fn plain_merged_fast(run: &Run, out: &mut [u8]) -> Result<usize, usize> {
+    let mut sink = Merging(Vec::with_capacity(out.len()));
+    run.go(&mut sink);
+    delivered(&sink.0, out)
+}
+
+/// The verdict with the raw expression: hit, first frame, last frame, voxels, raw length; or the length needed.
+/// The window must be one that is taken.
+pub fn plain_verdict_fast(run: &Run, first: u64, last: u64, out: &mut [u8]) -> Result<[u64; 5], usize> {
+    let window = (first as i64, last as i64);
+    let symbols = Vec::with_capacity(out.len());
+    let mut sink = Judging { symbols, window, first: i64::MAX, last: i64::MIN, voxels: 0 };
+    run.go(&mut sink);
+    let length = delivered(&sink.symbols, out)? as u64;
+    Ok(match sink.voxels {
+        0 => [0, 0, 0, 0, length],
+        voxels => [1, sink.first as u64, sink.last as u64, voxels, length],
+    })
+}
+
+/// The volume of an expression, or nothing where it is not well-formed.
+pub fn plain_volume_fast(axes: u64, bits: u64, expression: &[u8]) -> Option<u64> {
+    let levels = (axes * bits) as usize;
+    // the levels of the high halves still to come
+    let mut coming = [0usize; 64];
+    let (mut top, mut level, mut volume) = (0usize, 0usize, 0u64);
+    let mut symbols = expression.iter();
+    loop {
+        match symbols.next()? {
+            b'(' => {
+                if level == levels {
+                    return None;
+                }
+                level += 1;
+                coming[top & 63] = level;
+                top += 1;
+                continue;
+            }
+            b'B' => volume += 1 << (levels - level),
+            b'W' => {}
+            _ => return None,
+        }
+        if top == 0 {
+            return symbols.next().is_none().then_some(volume);
+        }
+        top -= 1;
+        level = coming[top & 63];
+    }
+}

@@ -1,0 +1,685 @@
+//! Cases for the comparison, from a small deterministic generator. Small universes dominate; limits are met on
+//! both sides; what is damaged is damaged in one place or two, so that every refusal number is hit often and the
+//! order of the refusals shows. Whether a damaged thing is refused is for `plain` to say, not for this file.
+
+use crate::plain::{self, scene_bytes, shape_bytes, Scene, AXIS_LIMIT, FREE_LIMIT};
+
+/// xorshift64*.
+#[derive(Clone)]
+pub struct Random(u64);
+
+impl Random {
+    pub fn new(seed: u64) -> Random {
+        let mut random = Random(seed.wrapping_mul(0x9e37_79b9_7f4a_7c15) ^ 0x2545_f491_4f6c_dd1d);
+        if random.0 == 0 {
+            random.0 = 1;
+        }
+        for _ in 0..8 {
+            random.next();
+        }
+        random
+    }
+
+    pub fn next(&mut self) -> u64 {
+        self.0 ^= self.0 >> 12;
+        self.0 ^= self.0 << 25;
+        self.0 ^= self.0 >> 27;
+        self.0.wrapping_mul(0x2545_f491_4f6c_dd1d)
+    }
+
+    /// 0 to n − 1.
+    pub fn below(&mut self, n: u64) -> u64 {
+        ((self.next() >> 11) as u128 * n as u128 >> 53) as u64
+    }
+
+    pub fn between(&mut self, low: i64, high: i64) -> i64 {
+        low + self.below((high - low + 1) as u64) as i64
+    }
+
+    pub fn chance(&mut self, percent: u64) -> bool {
+        self.below(100) < percent
+    }
+
+    pub fn pick<T: Copy>(&mut self, list: &[T]) -> T {
+        list[self.below(list.len() as u64) as usize]
+    }
+
+    fn place(&mut self, length: usize) -> usize {
+        self.below(length as u64) as usize
+    }
+}
+
+// ------------------------------------------------------------------------------------------------- universes
+
+/// A universe in range with at most so many levels.
+pub fn small_universe(random: &mut Random, most: u64) -> (u64, u64) {
+    let axes = random.pick(&[1, 2, 2, 2, 3, 3, 4, 4]);
+    let greatest = (most / axes).min(10);
+    let bits = if greatest == 0 || random.chance(6) { 0 } else { 1 + random.below(greatest) };
+    (axes, bits)
+}
+
+/// Mostly small, at times of any size in range.
+pub fn good_universe(random: &mut Random) -> (u64, u64) {
+    match random.below(100) {
+        0..=54 => small_universe(random, 6),
+        55..=84 => small_universe(random, 8),
+        85..=91 => small_universe(random, 12),
+        _ => (1 + random.below(4), random.below(11)),
+    }
+}
+
+pub fn bad_universe(random: &mut Random, universe: (u64, u64)) -> (u64, u64) {
+    let axes = random.pick(&[0, 5, 6, 7, 255, 256, 257, 258, (1 << 32) + 2, (1 << 63) + 2, u64::MAX]);
+    let bits = random.pick(&[11, 12, 13, 63, 64, 255, 256, 258, (1 << 32) + 2, (1 << 63) + 1, u64::MAX]);
+    match random.below(3) {
+        0 => (axes, universe.1),
+        1 => (universe.0, bits),
+        _ => (axes, bits),
+    }
+}
+
+pub fn universe(random: &mut Random, bad: u64) -> (u64, u64) {
+    let good = good_universe(random);
+    if random.chance(bad) {
+        bad_universe(random, good)
+    } else {
+        good
+    }
+}
+
+/// Numbers in range, near those that are not: for making rows and words that fit.
+fn in_range(universe: (u64, u64)) -> (u64, u64) {
+    (universe.0.clamp(1, 4), universe.1.min(10))
+}
+
+// ------------------------------------------------------------------------------------------------------ rows
+
+fn row(random: &mut Random, axes: u64, bits: u64) -> [i64; 5] {
+    let axes = axes as usize;
+    let side = 1i64 << bits;
+    let mut row = [0; 5];
+    let large = axes as u64 * bits > 12;
+    match random.below(100) {
+        // the whole and the empty halfspace, and those at the limits
+        0 | 1 => {}
+        2 | 3 => row[0] = random.pick(&[1, -1, FREE_LIMIT, -FREE_LIMIT, FREE_LIMIT - 1, 1 - FREE_LIMIT]),
+        4 | 5 => {
+            for number in &mut row[1..=axes] {
+                *number = random.pick(&[AXIS_LIMIT, -AXIS_LIMIT, 0, 1, AXIS_LIMIT - 1]);
+            }
+            row[0] = random.pick(&[FREE_LIMIT, -FREE_LIMIT, 0, 1, -1, AXIS_LIMIT, -AXIS_LIMIT]);
+        }
+        // a corner of the universe cut off, or all but the corner
+        6..=21 => {
+            row[0] = random.between(0, 6);
+            let scale = random.pick(&[1, 1, 1, 2, 1000, AXIS_LIMIT / 3]);
+            for axis in 1..=axes {
+                let weight = random.between(1, 3);
+                if random.chance(50) {
+                    row[axis] = -weight;
+                } else {
+                    row[axis] = weight;
+                    row[0] -= weight * side;
+                }
+            }
+            let sign = random.pick(&[scale, -scale]);
+            row = row.map(|number| number * sign);
+        }
+        // across one axis
+        22..=37 => {
+            let axis = random.below(axes as u64) as usize;
+            let scale = random.pick(&[1, 1, -1, -1, 3, -2, 7, AXIS_LIMIT, -AXIS_LIMIT]);
+            let at = if large { side / 4 * random.between(0, 4) } else { random.between(-1, side + 1) };
+            row[axis + 1] = scale;
+            row[0] = -scale * at;
+            if !large && random.chance(40) {
+                row[0] += scale.signum() * random.between(-1, 1);
+            }
+        }
+        // through a point of the universe
+        kind => {
+            let reach = match kind {
+                38..=75 => 3,
+                76..=87 => 20,
+                88..=93 => 1000,
+                _ => AXIS_LIMIT,
+            };
+            let mut at = 0;
+            for number in &mut row[1..=axes] {
+                *number = random.between(-reach, reach);
+                at += *number * random.between(side / 2, 2 * side - side / 2);
+            }
+            row[0] = (-at).div_euclid(2) + random.between(-1, 1);
+        }
+    }
+    row
+}
+
+/// Rows that are in order for the universe.
+pub fn rows(random: &mut Random, axes: u64, bits: u64) -> Vec<i64> {
+    let count = match random.below(100) {
+        0..=3 => 0,
+        4..=84 => 1 + random.below(6),
+        85..=96 => 7 + random.below(30),
+        _ => random.pick(&[128, 255, 256, 256]),
+    };
+    (0..count).flat_map(|_| row(random, axes, bits)).collect()
+}
+
+/// Damages rows in one place.
+pub fn damage_rows(random: &mut Random, axes: u64, rows: &mut Vec<i64>) {
+    match random.below(8) {
+        0 => rows.truncate(rows.len().saturating_sub(1 + random.place(4))),
+        1 => rows.extend(std::iter::repeat(0).take(1 + random.place(4))),
+        2 => rows.resize(random.pick(&[256, 257, 257, 258, 300]) * 5 + random.pick(&[0, 0, 1]), 0),
+        kind => {
+            if rows.is_empty() {
+                rows.extend([0; 5]);
+            }
+            let base = random.place(rows.len() / 5 + (rows.len() < 5) as usize) * 5;
+            let column = match kind {
+                3 | 4 if axes < 4 => axes as usize + 1 + random.place(4 - axes as usize),
+                _ => random.place(5),
+            };
+            let limit = if column == 0 { FREE_LIMIT } else { AXIS_LIMIT };
+            let number = match kind {
+                3 | 4 if axes < 4 => random.pick(&[1, -1, 2, limit, -limit, 1 << 32, i64::MIN]),
+                _ => random.pick(&[limit + 1, -limit - 1, limit + 1, -limit - 1, i64::MIN, i64::MAX, i64::MIN + 1, 1 << 48, -(1 << 33)]),
+            };
+            if let Some(place) = rows.get_mut(base + column) {
+                *place = number;
+            }
+        }
+    }
+}
+
+// ----------------------------------------------------------------------------------------------------- trees
+
+fn leaf(random: &mut Random, count: usize) -> u16 {
+    if count == 0 || random.chance(6) {
+        random.pick(&[0, 1])
+    } else {
+        256 + random.place(count.min(256)) as u16
+    }
+}
+
+/// A postfix tree of so many leaves, with at most so many pending.
+fn tree_of(random: &mut Random, count: usize, leaves: usize, most: usize, minus: u64) -> Vec<u16> {
+    let mut words = Vec::new();
+    let (mut left, mut pending) = (leaves, 0);
+    let eager = random.pick(&[30, 50, 70, 100]);
+    let union = random.pick(&[20, 50, 80, 80]);
+    while left > 0 || pending > 1 {
+        let push = left > 0 && (pending < 2 || (pending < most && random.chance(eager)));
+        if push {
+            words.push(leaf(random, count));
+            left -= 1;
+            pending += 1;
+        } else {
+            let word = if random.chance(union) { 2 } else { 3 };
+            words.push(if random.chance(minus) { 4 } else { word });
+            pending -= 1;
+        }
+    }
+    words
+}
+
+/// A tree that is in order over so many rows: 1 to 255 words, at most 32 pending.
+pub fn tree(random: &mut Random, count: usize) -> Vec<u16> {
+    let minus = random.pick(&[0, 15, 33, 80]);
+    let leaves = match random.below(100) {
+        0..=14 => 1,
+        15..=79 => 2 + random.place(5),
+        80..=95 => 7 + random.place(26),
+        96 | 97 => 33 + random.place(95),
+        _ => 128,
+    };
+    let most = random.pick(&[2, 3, 8, 31, 32, 32]);
+    tree_of(random, count, leaves, most, minus)
+}
+
+/// Damages a tree in one place.
+pub fn damage_tree(random: &mut Random, count: usize, words: &mut Vec<u16>) {
+    let unknown = random.pick(&[5, 6, 7, 128, 254, 255, 512, 513, 767, 768, 65535, 0x8100]);
+    let past = 256 + (count + random.pick(&[0, 0, 1, 5])).min(255) as u16;
+    match random.below(16) {
+        0 => words.clear(),
+        1 => {
+            let place = random.place(words.len());
+            words[place] = unknown;
+        }
+        2 => {
+            let place = random.place(words.len());
+            words[place] = past;
+        }
+        3 => {
+            // a leaf becomes an operator, or an operator a leaf
+            let place = random.place(words.len());
+            words[place] = if (2..=4).contains(&words[place]) { 1 } else { random.pick(&[2, 3, 4]) };
+        }
+        4 => words.insert(0, random.pick(&[2, 3, 4])),
+        5 => words.push(leaf(random, count)),
+        6 => words.push(random.pick(&[2, 3, 4])),
+        7 => {
+            words.pop();
+        }
+        8 => {
+            let place = random.place(words.len());
+            words.remove(place);
+        }
+        // 33 pending, at times with a word that is worse than that
+        9 | 10 => {
+            let leaves = 33 + random.place(20);
+            *words = tree_of(random, count, leaves, 60, 10);
+            words.sort_by_key(|&word| (2..=4).contains(&word));
+            let place = random.pick(&[31, 32, 32, 33]);
+            match random.below(5) {
+                0 => words[place.min(leaves - 1)] = unknown,
+                1 => words[place.min(leaves - 1)] = past,
+                2 => words[place.min(leaves - 1)] = random.pick(&[2, 3, 4]),
+                _ => {}
+            }
+        }
+        // exactly 32 pending, and one thing more
+        11 => {
+            *words = (0..32).map(|_| leaf(random, count)).collect();
+            words.push(random.pick(&[unknown, past, 0, 1, 2, 3, 4]));
+            words.extend((0..random.pick(&[30, 31, 32])).map(|_| 3));
+        }
+        // 256 words and more, whatever they are
+        12 | 13 => {
+            let length = random.pick(&[256, 256, 257, 300, 512, 1000]);
+            let good = tree_of(random, count, 129, 8, 20);
+            *words = good.into_iter().chain(std::iter::repeat(unknown)).take(length).collect();
+            if random.chance(30) {
+                words[0] = unknown;
+            }
+        }
+        // 255 words that are not in order
+        14 => {
+            words.resize(255, leaf(random, count));
+        }
+        _ => {
+            let (one, two) = (random.place(words.len()), random.place(words.len()));
+            words.swap(one, two);
+        }
+    }
+}
+
+/// Any words: for counting.
+pub fn any_words(random: &mut Random) -> Vec<u16> {
+    let length = match random.below(10) {
+        0 => 0,
+        1..=7 => random.below(20),
+        _ => random.below(600),
+    };
+    (0..length)
+        .map(|_| match random.below(4) {
+            0 => random.pick(&[0, 1, 2, 3, 4, 5, 254, 255, 256, 257, 510, 511, 512, 513, 767, 768, 65535]),
+            1 => random.next() as u16,
+            _ => 256 + random.below(256) as u16,
+        })
+        .collect()
+}
+
+// ------------------------------------------------------------------------------------------------------ runs
+
+/// What a conversion is called with: what a scene says.
+pub use crate::plain::Scene as RunCase;
+
+/// A run, damaged in no place, in one, or in several.
+pub fn run(random: &mut Random) -> RunCase {
+    let (axes, bits) = universe(random, 5);
+    run_in(random, axes, bits)
+}
+
+fn run_in(random: &mut Random, axes: u64, bits: u64) -> RunCase {
+    let (near_axes, near_bits) = in_range((axes, bits));
+    let mut rows = rows(random, near_axes, near_bits);
+    let count = rows.len() / 5;
+    let (mut first, mut second) = (tree(random, count), tree(random, count));
+    if random.chance(9) {
+        damage_rows(random, near_axes, &mut rows);
+    }
+    if random.chance(13) {
+        damage_tree(random, count, &mut first);
+    }
+    if random.chance(11) {
+        damage_tree(random, count, &mut second);
+    }
+    let (first_frame, last_frame) = window(random, near_bits);
+    RunCase { axes, bits, rows, first, second, first_frame, last_frame }
+}
+
+pub fn window(random: &mut Random, bits: u64) -> (u64, u64) {
+    let side = 1u64 << bits;
+    match random.below(24) {
+        0..=6 => (0, side - 1),
+        7..=10 => {
+            let frame = random.below(side);
+            (frame, frame)
+        }
+        11..=16 => {
+            let first = random.below(side);
+            (first, first + random.below(side - first))
+        }
+        17 => (side - 1, side - 1),
+        18 => (random.below(side), side),
+        19 => (side, side),
+        20 => {
+            let last = random.below(side);
+            (last + 1 + random.below(2), last)
+        }
+        21 => (random.below(side), random.pick(&[side + 1, 256 + side, (1 << 32) + side - 1, u64::MAX])),
+        22 => (random.pick(&[1 << 16, 1 << 32, u64::MAX]), random.below(side)),
+        _ => (random.below(side + 1), random.below(side + 1)),
+    }
+}
+
+/// A room for so many symbols: exact, one less, one more, none, or large.
+pub fn room(random: &mut Random, needed: u64) -> usize {
+    let needed = needed as usize;
+    match random.below(16) {
+        0..=3 => needed,
+        4 | 5 => needed.saturating_sub(1),
+        6 | 7 => needed + 1,
+        8 => 0,
+        9 => random.place(needed + 1),
+        10 => needed / 2,
+        11 | 12 => needed + random.place(20),
+        13 => needed + 100,
+        _ => 2 * needed + random.place(200),
+    }
+}
+
+// ----------------------------------------------------------------------------------------------- expressions
+
+fn grow(random: &mut Random, left: usize, halve: u64, black: u64, budget: &mut usize, symbols: &mut Vec<u8>) {
+    if left > 0 && *budget > 0 && random.chance(halve) {
+        *budget -= 1;
+        symbols.push(b'(');
+        grow(random, left - 1, halve, black, budget, symbols);
+        grow(random, left - 1, halve, black, budget, symbols);
+    } else {
+        symbols.push(if random.chance(black) { b'B' } else { b'W' });
+    }
+}
+
+/// A well-formed expression, raw or merged, of at most so many levels.
+pub fn expression(random: &mut Random, levels: usize) -> Vec<u8> {
+    let halve = random.pick(&[30, 60, 75, 90, 97, 100]);
+    let black = random.pick(&[0, 15, 50, 50, 50, 85, 100]);
+    let mut budget = random.pick(&[1, 2, 3, 5, 10, 20, 50, 150]);
+    let mut symbols = Vec::new();
+    grow(random, levels, halve, black, &mut budget, &mut symbols);
+    if random.chance(40) {
+        symbols = plain::merged_by_replacement(&symbols);
+    }
+    symbols
+}
+
+pub fn damage_expression(random: &mut Random, levels: usize, symbols: &mut Vec<u8>) {
+    match random.below(8) {
+        0 => {
+            symbols.pop();
+        }
+        1 => symbols.truncate(random.place(symbols.len() + 1)),
+        2 => symbols.push(random.pick(b"BW(\0")),
+        3 => symbols.extend(expression(random, levels)),
+        4 => {
+            let place = random.place(symbols.len());
+            symbols[place] = random.pick(&[b'b', b'w', b')', b' ', 0, 1, b'\n', 255, b'A', b'C', b'V', b'X', 0xc2]);
+        }
+        5 => {
+            let place = random.place(symbols.len());
+            symbols[place] = random.pick(b"(BW");
+        }
+        // one level too deep, and no deeper
+        6 => {
+            let depth = levels + random.pick(&[1, 1, 1, 2]);
+            symbols.clear();
+            symbols.extend(std::iter::repeat(b'(').take(depth));
+            symbols.extend((0..=depth).map(|_| random.pick(b"BW")));
+        }
+        _ => *symbols = expression(random, levels + 1),
+    }
+}
+
+/// What a reading question is called with.
+#[derive(Clone, Debug)]
+pub struct ReadingCase {
+    pub axes: u64,
+    pub bits: u64,
+    pub expression: Vec<u8>,
+}
+
+pub fn reading(random: &mut Random) -> ReadingCase {
+    let (axes, bits) = universe(random, 8);
+    let levels = {
+        let (axes, bits) = in_range((axes, bits));
+        (axes * bits) as usize
+    };
+    let mut symbols = expression(random, levels);
+    if random.chance(25) {
+        damage_expression(random, levels, &mut symbols);
+    }
+    ReadingCase { axes, bits, expression: symbols }
+}
+
+/// A path in the universe.
+pub fn path(random: &mut Random, levels: usize) -> Vec<u8> {
+    let length = if random.chance(20) { levels } else { random.place(levels + 1) };
+    let high = random.pick(&[0, 10, 50, 50, 100]);
+    (0..length).map(|_| random.chance(high) as u8).collect()
+}
+
+pub fn any_path(random: &mut Random, levels: usize) -> Vec<u8> {
+    let mut path = path(random, levels);
+    if random.chance(20) {
+        match random.below(4) {
+            0 => path.resize(levels + 1, 0),
+            1 => path.resize(levels + random.pick(&[1, 2, 30, 300]), 1),
+            _ if path.is_empty() => path.push(2),
+            _ => {
+                let place = random.place(path.len());
+                path[place] = random.pick(&[2, 3, b'0', b'1', b'(', 128, 255, 254]);
+            }
+        }
+    }
+    path
+}
+
+pub fn voxel(random: &mut Random, axes: u64, bits: u64) -> [u64; 4] {
+    let (axes, bits) = in_range((axes, bits));
+    let side = 1u64 << bits;
+    let mut voxel = [0; 4];
+    for place in &mut voxel[..axes as usize] {
+        *place = random.below(side);
+    }
+    if random.chance(25) {
+        let axis = random.place(4);
+        voxel[axis] = random.pick(&[
+            0, 1, side - 1, side - 1, side, side, side + 1, 1 << 10, (1 << 32) + 1, 1 << 32, 1 << 63, u64::MAX,
+        ]);
+    }
+    voxel
+}
+
+// ------------------------------------------------------------------------------------------------------ room
+
+pub fn leaf_count(random: &mut Random) -> u64 {
+    match random.below(8) {
+        0 => random.pick(&[0, 1, u64::MAX, u64::MAX - 1, 1 << 63, 1 << 32, (1 << 32) - 1, 510, 512]),
+        1 | 2 => random.below(600),
+        3 => random.next(),
+        4 | 5 => {
+            let power = 1u64 << random.below(64);
+            power.wrapping_add(random.below(3)).wrapping_sub(1)
+        }
+        _ => random.below(20),
+    }
+}
+
+// ----------------------------------------------------------------------------------------------------- files
+
+fn damage_file(random: &mut Random, header: usize, bytes: &mut Vec<u8>) {
+    match random.below(8) {
+        0..=2 => {
+            // the mark, the version, d and k, the zero byte, the counts
+            let place = random.place(header.min(bytes.len()));
+            bytes[place] = match random.below(4) {
+                0 => bytes[place].wrapping_add(1),
+                1 => bytes[place].wrapping_sub(1),
+                2 => bytes[place] ^ 0x20,
+                _ => random.next() as u8,
+            };
+        }
+        3 => {
+            bytes.pop();
+        }
+        4 => bytes.push(random.pick(&[b'\n', 0, b'B', 255])),
+        5 => bytes.truncate(random.place(bytes.len() + 1)),
+        6 => bytes.truncate(random.place(header + 2)),
+        _ => {
+            // a count goes up or down and the rest stays
+            let place = 8 + 2 * random.place(3);
+            if let Some(low) = bytes.get_mut(place) {
+                *low = low.wrapping_add(random.pick(&[1, 255]));
+            }
+        }
+    }
+}
+
+pub fn scene_file(random: &mut Random) -> Vec<u8> {
+    let (mut axes, mut bits) = good_universe(random);
+    if random.chance(5) {
+        (axes, bits) = random.pick(&[(0, bits), (5, bits), (255, bits), (axes, 11), (axes, 255), (axes, 16), (0, 11)]);
+    }
+    let case = run_in(random, axes, bits);
+    let mut rows = case.rows;
+    // a file counts its rows in fives
+    rows.truncate(rows.len() / 5 * 5);
+    if random.below(400) == 0 {
+        rows.resize(5 * random.pick(&[1000, 2000, 65_535]), 0);
+    }
+    let clip = |frame: u64| frame.min(65_535);
+    let scene = Scene {
+        axes,
+        bits,
+        rows,
+        first: case.first,
+        second: case.second,
+        first_frame: clip(case.first_frame),
+        last_frame: clip(case.last_frame),
+    };
+    let mut bytes = scene_bytes(&scene);
+    if random.chance(25) {
+        damage_file(random, 18, &mut bytes);
+    }
+    bytes
+}
+
+/// A scene for the program: as above, at times about 65,536 bytes long, at times with more than 32,768 symbols.
+pub fn program_file(random: &mut Random) -> Vec<u8> {
+    match random.below(12) {
+        0 => {
+            let mut scene = Scene {
+                axes: 2,
+                bits: 2,
+                rows: vec![0; 5 * 1637],
+                first: vec![1; 10],
+                second: vec![1; 9],
+                first_frame: 0,
+                last_frame: 0,
+            };
+            scene.first.resize(random.pick(&[9, 10, 10, 11]), 1);
+            let mut bytes = scene_bytes(&scene);
+            if random.chance(30) {
+                bytes.push(0);
+            }
+            bytes
+        }
+        1 | 2 => {
+            let axes = 2 + random.below(3);
+            let bits = random.pick(&[[9, 10, 10], [5, 6, 7], [3, 4, 5]][axes as usize - 2]);
+            let rows: Vec<i64> = (0..4).flat_map(|_| row(random, axes, bits)).collect();
+            let (first, second) = (tree(random, 4), tree(random, 4));
+            scene_bytes(&Scene { axes, bits, rows, first, second, first_frame: 0, last_frame: (1 << bits) - 1 })
+        }
+        _ => scene_file(random),
+    }
+}
+
+pub fn shape_file(random: &mut Random) -> Vec<u8> {
+    let (mut axes, mut bits) = good_universe(random);
+    let levels = (axes * bits) as usize;
+    let mut symbols = expression(random, levels);
+    if random.chance(60) {
+        symbols = plain::merged_by_replacement(&symbols);
+    }
+    if random.chance(20) {
+        damage_expression(random, levels, &mut symbols);
+    }
+    if random.chance(8) {
+        (axes, bits) = random.pick(&[(0, bits), (5, bits), (255, bits), (axes, 11), (axes, 255), (axes, 16), (0, 11)]);
+    }
+    let mut bytes = shape_bytes(axes, bits, &symbols);
+    if random.chance(25) {
+        if random.chance(30) {
+            // the count alone, in any of its four bytes
+            let place = 7 + random.place(4);
+            bytes[place] = bytes[place].wrapping_add(random.pick(&[1, 255, 128]));
+        } else {
+            damage_file(random, 11, &mut bytes);
+        }
+    }
+    bytes
+}
+
+// ---------------------------------------------------------------------------------------------------- floats
+
+/// A float that is taken under a limit.
+pub fn good_float(random: &mut Random, limit: f64) -> f64 {
+    let most = (limit * 16.0) as i64;
+    match random.below(12) {
+        0 => random.pick(&[0.0, -0.0, limit, -limit, 0.0625, -0.0625, limit - 0.0625]),
+        1..=3 => random.between(-40, 40) as f64 / 16.0,
+        4 => random.between(-most / 16, most / 16) as f64,
+        _ => random.between(-most, most) as f64 / 16.0,
+    }
+}
+
+/// Any float, most of them refused or close to that.
+pub fn float(random: &mut Random, limit: f64) -> f64 {
+    let good = good_float(random, limit);
+    let sign = random.pick(&[1.0, -1.0]);
+    match random.below(14) {
+        0 => good,
+        1 => good + 1.0 / 32.0,
+        2 => f64::from_bits(good.to_bits().wrapping_add(random.pick(&[1, 2, u64::MAX]))),
+        3 => random.pick(&[f64::NAN, -f64::NAN, f64::from_bits(0x7ff0_0000_0000_0001), f64::from_bits(u64::MAX)]),
+        4 => sign * f64::INFINITY,
+        5 => sign * random.pick(&[5e-324, f64::MIN_POSITIVE, f64::from_bits(0x000f_ffff_ffff_ffff), 1e-300]),
+        6 => sign * (limit + 0.0625),
+        7 => sign * f64::from_bits(limit.to_bits() + random.pick(&[0, 1, 2]) - 1),
+        8 => sign * random.pick(&[1e300, f64::MAX, 2f64.powi(53), 2f64.powi(63), 2f64.powi(64), 65_536.0, 8192.0, 128.0, 4096.0]),
+        9 => f64::from_bits(random.next()),
+        10 => sign * limit,
+        11 => random.pick(&[0.0, -0.0]),
+        12 => random.between(-100, 100) as f64 / random.pick(&[3.0, 10.0, 32.0, 64.0, 24.0]),
+        _ => sign * random.pick(&[0.0625, 0.03125, 0.1, 0.062_500_000_000_000_01]),
+    }
+}
+
+/// So many floats under their limits, one of them at times any float at all.
+pub fn floats<const N: usize>(random: &mut Random, limits: [f64; N], bad: u64) -> [f64; N] {
+    let mut numbers = limits.map(|limit| good_float(random, limit));
+    if random.chance(bad) {
+        for _ in 0..random.pick(&[1, 1, 1, 2]) {
+            let place = random.place(N);
+            numbers[place] = float(random, limits[place]);
+        }
+    }
+    numbers
+}

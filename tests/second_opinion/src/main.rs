@@ -1,0 +1,503 @@
+//! second_opinion [seed] [rounds] [entry point]: the library and the plain implementation on generated cases,
+//! entry point by entry point. Refusal numbers, answers and buffers must be the same, byte for byte; buffers are
+//! lent with a pattern in them and with guards on both sides, and compared whole. The first difference is printed
+//! with its whole case, and the exit status is 1.
+//!   second_opinion --program COMMAND [seed] [rounds]: the program `clearance`, started as COMMAND, on generated scenes.
+
+#[allow(dead_code)]
+mod face;
+
+use second_opinion::fast::Run;
+use second_opinion::generate::{self, Random};
+use second_opinion::plain::{self, Universe};
+use std::fmt::Write;
+
+/// Conversions of more blocks than this are not compared: d 4, k 10 can have 2^41 − 1 of them.
+const MOST_BLOCKS: u64 = 8_400;
+
+const GUARD: usize = 24;
+
+/// A buffer to lend: a pattern, guards included.
+struct Lent<T> {
+    all: Vec<T>,
+}
+
+impl<T: Copy> Lent<T> {
+    fn new(length: usize, pattern: impl Fn(usize) -> T) -> Lent<T> {
+        Lent { all: (0..length + 2 * GUARD).map(pattern).collect() }
+    }
+
+    fn lent(&mut self) -> &mut [T] {
+        let end = self.all.len() - GUARD;
+        &mut self.all[GUARD..end]
+    }
+
+    fn array<const N: usize>(&mut self) -> &mut [T; N] {
+        self.lent().try_into().expect("lent with this length")
+    }
+}
+
+/// No symbol, no small number, and no two neighbours alike.
+fn bytes(length: usize) -> Lent<u8> {
+    Lent::new(length, |place| 0x80 | (place as u8).wrapping_mul(37))
+}
+
+fn longs(length: usize) -> Lent<u64> {
+    Lent::new(length, |place| 0xa5a5_0000_0000_0000 + place as u64)
+}
+
+fn rows_lent(length: usize) -> Lent<i64> {
+    Lent::new(length, |place| -0x5a5a_0000_0000_0000 - place as i64)
+}
+
+fn words_lent(length: usize) -> Lent<u16> {
+    Lent::new(length, |place| 0xb000 | place as u16)
+}
+
+/// All that a call gave.
+#[derive(PartialEq)]
+struct Outcome {
+    number: u64,
+    /// name and contents, guards included, of the answer and the lent buffers
+    contents: Vec<(&'static str, Contents)>,
+}
+
+#[derive(PartialEq)]
+enum Contents {
+    Count(u64),
+    Text(Vec<u8>),
+    Bytes(Vec<u8>),
+    Words(Vec<u16>),
+    Rows(Vec<i64>),
+    Longs(Vec<u64>),
+}
+
+impl From<Lent<u8>> for Contents {
+    fn from(lent: Lent<u8>) -> Contents {
+        Contents::Bytes(lent.all)
+    }
+}
+
+impl From<Lent<u16>> for Contents {
+    fn from(lent: Lent<u16>) -> Contents {
+        Contents::Words(lent.all)
+    }
+}
+
+impl From<Lent<i64>> for Contents {
+    fn from(lent: Lent<i64>) -> Contents {
+        Contents::Rows(lent.all)
+    }
+}
+
+impl From<Lent<u64>> for Contents {
+    fn from(lent: Lent<u64>) -> Contents {
+        Contents::Longs(lent.all)
+    }
+}
+
+impl Contents {
+    /// The contents without the guards and the tail that is as it was lent, and what became of those.
+    fn told(&self) -> String {
+        fn told<T: Copy + PartialEq + std::fmt::Debug>(all: &[T], fresh: &[T]) -> (Vec<T>, String) {
+            let end = all.len() - GUARD;
+            let (inner, same) = (&all[GUARD..end], &fresh[GUARD..end]);
+            let changed = (0..inner.len()).rev().find(|&place| inner[place] != same[place]).map_or(0, |place| place + 1);
+            let mut note = format!(", then {} as they were lent", inner.len() - changed);
+            if all[..GUARD] != fresh[..GUARD] || all[end..] != fresh[end..] {
+                let _ = write!(note, "; WRITTEN OUTSIDE: before it {:?}, after it {:?}", &all[..GUARD], &all[end..]);
+            }
+            (inner[..changed].to_vec(), note)
+        }
+        match self {
+            Contents::Count(count) => count.to_string(),
+            Contents::Text(text) => format!("\"{}\"", text.escape_ascii()),
+            Contents::Bytes(all) => {
+                let (inner, note) = told(all, &bytes(all.len() - 2 * GUARD).all);
+                format!("\"{}\"{note}", inner.escape_ascii())
+            }
+            Contents::Words(all) => {
+                let (inner, note) = told(all, &words_lent(all.len() - 2 * GUARD).all);
+                format!("{inner:?}{note}")
+            }
+            Contents::Rows(all) => {
+                let (inner, note) = told(all, &rows_lent(all.len() - 2 * GUARD).all);
+                format!("{inner:?}{note}")
+            }
+            Contents::Longs(all) => {
+                let (inner, note) = told(all, &longs(all.len() - 2 * GUARD).all);
+                format!("{inner:?}{note}")
+            }
+        }
+    }
+}
+
+/// One entry point's comparison.
+struct Line {
+    name: &'static str,
+    seed: u64,
+    cases: u64,
+    /// how many of each number, by the plain implementation
+    counts: [u64; 11],
+}
+
+impl Line {
+    fn compare(&mut self, plain: Outcome, library: Outcome, case: impl Fn() -> String) {
+        self.cases += 1;
+        self.counts[plain.number as usize] += 1;
+        if plain == library {
+            return;
+        }
+        println!("{}: the library and the plain implementation differ", self.name);
+        println!("seed {}, case {}", self.seed, self.cases);
+        println!("{}", case());
+        for (side, outcome) in [("plain", &plain), ("library", &library)] {
+            println!("{side}: returned {}", outcome.number);
+            for (name, contents) in &outcome.contents {
+                println!("{side}: {name} = {}", contents.told());
+            }
+        }
+        std::process::exit(1);
+    }
+
+    fn finish(&self) {
+        let mut text = format!("{}: {} cases;", self.name, self.cases);
+        for (number, &count) in self.counts.iter().enumerate() {
+            if count > 0 {
+                let _ = match number {
+                    0 => write!(text, " accepted {count}"),
+                    _ => write!(text, ", {number}: {count}"),
+                };
+            }
+        }
+        println!("{text}");
+    }
+}
+
+fn text_of(expression: &[u8]) -> String {
+    format!("b\"{}\"", expression.escape_ascii())
+}
+
+/// How many symbols a conversion needs, and the formula's room; nothing where it is too long to be compared.
+fn needed(case: &generate::RunCase, trees: &[&[u16]]) -> Option<(u64, u64)> {
+    match Run::checked(case.axes, case.bits, &case.rows, trees) {
+        Ok(run) => run.blocks_within(MOST_BLOCKS).map(|blocks| (blocks, run.room())),
+        Err(_) => Some((5, 5)),
+    }
+}
+
+/// The room to lend: around what is needed, at times around the formula's.
+fn lent_for(random: &mut Random, needed: u64, formula: u64) -> usize {
+    if formula < 1 << 16 && random.chance(12) {
+        formula as usize + random.pick(&[0, 0, 1]) - random.pick(&[0, 0, 1])
+    } else {
+        generate::room(random, needed)
+    }
+}
+
+fn run_text(case: &generate::RunCase, trees: usize, lent: usize) -> String {
+    let mut text = format!("axes = {}\nbits = {}\nrows = {:?}\nfirst = {:?}", case.axes, case.bits, case.rows, case.first);
+    if trees == 2 {
+        let _ = write!(text, "\nsecond = {:?}", case.second);
+    }
+    let _ = write!(text, "\nout: {lent} bytes lent");
+    text
+}
+
+type RawOne = fn(u64, u64, &[i64], &[u16], &mut [u8], &mut [u64; 1]) -> u64;
+type RawTwo = fn(u64, u64, &[i64], &[u16], &[u16], &mut [u8], &mut [u64; 1]) -> u64;
+type Verdict = fn(u64, u64, &[i64], &[u16], &[u16], u64, u64, &mut [u8], &mut [u64; 5]) -> u64;
+type Colour = fn(u64, u64, &[u8], u64, u64, u64, u64, &mut [u64; 1]) -> u64;
+type Part = fn(u64, u64, &[u8], &[u8], &mut [u64; 2]) -> u64;
+type Rewrite = fn(u64, u64, &[u8], &mut [u8], &mut [u64; 1]) -> u64;
+type SceneRead = fn(&[u8], &mut [i64; 1280], &mut [u16; 255], &mut [u16; 255], &mut [u64; 7]) -> u64;
+type ShapeRead = fn(&[u8], &mut [u8], &mut [u64; 3]) -> u64;
+type BoxRows = fn([f64; 3], [f64; 3], [f64; 3], &mut [i64; 30]) -> u64;
+type CutRow = fn([f64; 3], f64, [f64; 3], &mut [i64; 5]) -> u64;
+
+fn rooms(line: &mut Line, random: &mut Random) {
+    let (axes, bits) = if random.chance(60) { (1 + random.below(4), random.below(11)) } else { generate::universe(random, 50) };
+    let leaves = generate::leaf_count(random);
+    let [plain, library] = [plain::room as fn(u64, u64, u64, &mut [u64; 1]) -> u64, face::room].map(|room| {
+        let mut answer = longs(1);
+        let number = room(axes, bits, leaves, answer.array());
+        Outcome { number, contents: vec![("answer", answer.into())] }
+    });
+    line.compare(plain, library, || format!("axes = {axes}\nbits = {bits}\nleaves = {leaves}"));
+}
+
+fn leaves(line: &mut Line, random: &mut Random) {
+    let words = generate::any_words(random);
+    let (plain, library) = (plain::leaves(&words), face::leaves(&words));
+    let outcome = |count| Outcome { number: 0, contents: vec![("count", Contents::Count(count))] };
+    line.compare(outcome(plain), outcome(library), || format!("words = {words:?}"));
+}
+
+fn one_tree(line: &mut Line, random: &mut Random, plain: RawOne, library: RawOne, merged: bool) {
+    let case = generate::run(random);
+    let Some((blocks, formula)) = needed(&case, &[&case.first]) else { return };
+    let mut need = [blocks];
+    if merged && blocks > 1 {
+        // the room is chosen around the merged length
+        plain(case.axes, case.bits, &case.rows, &case.first, &mut [], &mut need);
+    }
+    let lent = lent_for(random, need[0], formula);
+    let [plain, library] = [plain, library].map(|convert| {
+        let (mut out, mut answer) = (bytes(lent), longs(1));
+        let number = convert(case.axes, case.bits, &case.rows, &case.first, out.lent(), answer.array());
+        Outcome { number, contents: vec![("answer", answer.into()), ("out", out.into())] }
+    });
+    line.compare(plain, library, || run_text(&case, 1, lent));
+}
+
+fn two_trees(line: &mut Line, random: &mut Random, plain: RawTwo, library: RawTwo, merged: bool) {
+    let case = generate::run(random);
+    let Some((blocks, formula)) = needed(&case, &[&case.first, &case.second]) else { return };
+    let mut need = [blocks];
+    if merged && blocks > 1 {
+        plain(case.axes, case.bits, &case.rows, &case.first, &case.second, &mut [], &mut need);
+    }
+    let lent = lent_for(random, need[0], formula);
+    let [plain, library] = [plain, library].map(|convert| {
+        let (mut out, mut answer) = (bytes(lent), longs(1));
+        let number = convert(case.axes, case.bits, &case.rows, &case.first, &case.second, out.lent(), answer.array());
+        Outcome { number, contents: vec![("answer", answer.into()), ("out", out.into())] }
+    });
+    line.compare(plain, library, || run_text(&case, 2, lent));
+}
+
+fn verdicts(line: &mut Line, random: &mut Random) {
+    let case = generate::run(random);
+    let Some((blocks, formula)) = needed(&case, &[&case.first, &case.second]) else { return };
+    let lent = lent_for(random, blocks, formula);
+    let [plain, library] = [plain::verdict as Verdict, face::verdict].map(|judge| {
+        let (mut out, mut answer) = (bytes(lent), longs(5));
+        let number = judge(
+            case.axes, case.bits, &case.rows, &case.first, &case.second, case.first_frame, case.last_frame,
+            out.lent(), answer.array(),
+        );
+        Outcome { number, contents: vec![("answer", answer.into()), ("out", out.into())] }
+    });
+    line.compare(plain, library, || {
+        format!("{}\nfirst_frame = {}\nlast_frame = {}", run_text(&case, 2, lent), case.first_frame, case.last_frame)
+    });
+}
+
+fn reading_text(case: &generate::ReadingCase) -> String {
+    format!("axes = {}\nbits = {}\nexpression = {}", case.axes, case.bits, text_of(&case.expression))
+}
+
+fn well_formed(line: &mut Line, random: &mut Random) {
+    let case = generate::reading(random);
+    let [plain, library] = [plain::well_formed as fn(u64, u64, &[u8]) -> u64, face::well_formed].map(|ask| {
+        Outcome { number: ask(case.axes, case.bits, &case.expression), contents: vec![] }
+    });
+    line.compare(plain, library, || reading_text(&case));
+}
+
+fn volumes(line: &mut Line, random: &mut Random) {
+    let case = generate::reading(random);
+    let [plain, library] = [plain::volume as fn(u64, u64, &[u8], &mut [u64; 1]) -> u64, face::volume].map(|ask| {
+        let mut answer = longs(1);
+        let number = ask(case.axes, case.bits, &case.expression, answer.array());
+        Outcome { number, contents: vec![("answer", answer.into())] }
+    });
+    line.compare(plain, library, || reading_text(&case));
+}
+
+fn colours(line: &mut Line, random: &mut Random) {
+    let case = generate::reading(random);
+    let [x, y, z, t] = generate::voxel(random, case.axes, case.bits);
+    let [plain, library] = [plain::colour as Colour, face::colour].map(|ask| {
+        let mut answer = longs(1);
+        let number = ask(case.axes, case.bits, &case.expression, x, y, z, t, answer.array());
+        Outcome { number, contents: vec![("answer", answer.into())] }
+    });
+    line.compare(plain, library, || format!("{}\nvoxel = {x} {y} {z} {t}", reading_text(&case)));
+}
+
+fn parts(line: &mut Line, random: &mut Random) {
+    let case = generate::reading(random);
+    let levels = Universe::checked(case.axes, case.bits).map_or(6, |universe| universe.levels());
+    let path = generate::any_path(random, levels);
+    let [plain, library] = [plain::part as Part, face::part].map(|ask| {
+        let mut answer = longs(2);
+        let number = ask(case.axes, case.bits, &case.expression, &path, answer.array());
+        Outcome { number, contents: vec![("answer", answer.into())] }
+    });
+    line.compare(plain, library, || format!("{}\npath = {path:?}", reading_text(&case)));
+}
+
+/// Merging and shape writing: an expression in, bytes out.
+fn rewriting(line: &mut Line, random: &mut Random, plain: Rewrite, library: Rewrite) {
+    let case = generate::reading(random);
+    let mut need = [0];
+    plain(case.axes, case.bits, &case.expression, &mut [], &mut need);
+    let lent = generate::room(random, need[0]);
+    let [plain, library] = [plain, library].map(|rewrite| {
+        let (mut out, mut answer) = (bytes(lent), longs(1));
+        let number = rewrite(case.axes, case.bits, &case.expression, out.lent(), answer.array());
+        Outcome { number, contents: vec![("answer", answer.into()), ("out", out.into())] }
+    });
+    line.compare(plain, library, || format!("{}\nout: {lent} bytes lent", reading_text(&case)));
+}
+
+fn scenes(line: &mut Line, random: &mut Random) {
+    let file = generate::scene_file(random);
+    let [plain, library] = [plain::scene as SceneRead, face::scene].map(|read| {
+        let (mut rows, mut first, mut second) = (rows_lent(1280), words_lent(255), words_lent(255));
+        let mut answer = longs(7);
+        let number = read(&file, rows.array(), first.array(), second.array(), answer.array());
+        let contents = vec![("answer", answer.into()), ("rows", rows.into()), ("first", first.into()), ("second", second.into())];
+        Outcome { number, contents }
+    });
+    line.compare(plain, library, || format!("bytes = {file:?}"));
+}
+
+fn shape_reads(line: &mut Line, random: &mut Random) {
+    let file = generate::shape_file(random);
+    let lent = generate::room(random, file.len().saturating_sub(11) as u64);
+    let [plain, library] = [plain::shape_read as ShapeRead, face::shape_read].map(|read| {
+        let (mut out, mut answer) = (bytes(lent), longs(3));
+        let number = read(&file, out.lent(), answer.array());
+        Outcome { number, contents: vec![("answer", answer.into()), ("out", out.into())] }
+    });
+    line.compare(plain, library, || format!("bytes = {file:?}\nout: {lent} bytes lent"));
+}
+
+fn boxes(line: &mut Line, random: &mut Random) {
+    let [a, b, c, d, e, f, g, h, i] =
+        generate::floats(random, [4096.0, 4096.0, 4096.0, 4096.0, 4096.0, 4096.0, 64.0, 64.0, 64.0], 45);
+    let (mut near, mut far, step) = ([a, b, c], [d, e, f], [g, h, i]);
+    let orderly = random.chance(85);
+    for axis in 0..3 {
+        if (orderly && near[axis] > far[axis]) || random.chance(2) {
+            (near[axis], far[axis]) = (far[axis], near[axis]);
+        }
+        if random.chance(10) {
+            far[axis] = near[axis];
+        } else if random.chance(3) {
+            far[axis] = near[axis] - 0.0625;
+        }
+    }
+    let [plain, library] = [plain::box_proxy as BoxRows, face::box_proxy].map(|make| {
+        let mut rows = rows_lent(30);
+        let number = make(near, far, step, rows.array());
+        Outcome { number, contents: vec![("rows", rows.into())] }
+    });
+    line.compare(plain, library, || {
+        let bits = |numbers: [f64; 3]| numbers.map(|number| format!("{number:?} (bits {:#018x})", number.to_bits())).join(", ");
+        format!("near = {}\nfar = {}\ndisplacement = {}", bits(near), bits(far), bits(step))
+    });
+}
+
+fn cuts(line: &mut Line, random: &mut Random) {
+    let [a, b, c, offset, d, e, f] = generate::floats(random, [64.0, 64.0, 64.0, 4096.0, 64.0, 64.0, 64.0], 50);
+    let (normal, step) = ([a, b, c], [d, e, f]);
+    let [plain, library] = [plain::cut_proxy as CutRow, face::cut_proxy].map(|make| {
+        let mut row = rows_lent(5);
+        let number = make(normal, offset, step, row.array());
+        Outcome { number, contents: vec![("row", row.into())] }
+    });
+    line.compare(plain, library, || {
+        let bits = |number: f64| format!("{number:?} (bits {:#018x})", number.to_bits());
+        format!("normal = {}\noffset = {}\ndisplacement = {}", normal.map(bits).join(", "), bits(offset), step.map(bits).join(", "))
+    });
+}
+
+type Compare = fn(&mut Line, &mut Random);
+
+/// Name, share of the rounds in percent, comparison.
+const ENTRY_POINTS: [(&str, u64, Compare); 17] = [
+    ("durbizhan_room", 100, rooms),
+    ("durbizhan_leaves", 100, leaves),
+    ("durbizhan_raw_one", 100, |line, random| one_tree(line, random, plain::raw_one, face::raw_one, false)),
+    ("durbizhan_raw_two", 100, |line, random| two_trees(line, random, plain::raw_two, face::raw_two, false)),
+    ("durbizhan_merged_one", 100, |line, random| one_tree(line, random, plain::merged_one, face::merged_one, true)),
+    ("durbizhan_merged_two", 100, |line, random| two_trees(line, random, plain::merged_two, face::merged_two, true)),
+    ("durbizhan_verdict", 100, verdicts),
+    ("durbizhan_well_formed", 200, well_formed),
+    ("durbizhan_volume", 100, volumes),
+    ("durbizhan_colour", 200, colours),
+    ("durbizhan_part", 200, parts),
+    ("durbizhan_merge", 200, |line, random| rewriting(line, random, plain::merge, face::merge)),
+    ("durbizhan_scene", 100, scenes),
+    ("durbizhan_shape_read", 200, shape_reads),
+    ("durbizhan_shape_write", 200, |line, random| rewriting(line, random, plain::shape_write, face::shape_write)),
+    ("durbizhan_box", 200, boxes),
+    ("durbizhan_cut", 200, cuts),
+];
+
+/// What a command writes, given this on its standard input.
+fn written(command: &str, input: &[u8]) -> std::io::Result<Vec<u8>> {
+    use std::io::Write;
+    use std::process::{Command, Stdio};
+    let mut words = command.split(' ');
+    let mut child = Command::new(words.next().expect("a command")).args(words).stdin(Stdio::piped()).stdout(Stdio::piped()).spawn()?;
+    // a program that has read enough may close its input before all is written
+    let _ = child.stdin.take().expect("piped").write_all(input);
+    Ok(child.wait_with_output()?.stdout)
+}
+
+/// The program on generated scenes: the lines that it prints.
+fn program(command: &str, seed: u64, rounds: u64) {
+    let mut random = Random::new(seed);
+    let mut line = Line { name: "clearance", seed, cases: 0, counts: [0; 11] };
+    while line.cases < rounds {
+        let file = generate::program_file(&mut random);
+        if let Ok(scene) = plain::scene_checked(&file) {
+            let run = Run::checked(scene.axes, scene.bits, &scene.rows, &[&scene.first, &scene.second]);
+            if run.is_ok_and(|run| run.blocks_within(150_000).is_none()) {
+                continue;
+            }
+        }
+        let lines = plain::clearance(&file);
+        let number = lines.strip_prefix("refused ").map_or(0, |rest| {
+            rest.split_whitespace().next().and_then(|number| number.parse().ok()).expect("a number")
+        });
+        let outcome = |text| Outcome { number, contents: vec![("lines", Contents::Text(text))] };
+        match written(command, &file) {
+            Ok(output) => line.compare(outcome(lines.into_bytes()), outcome(output), || format!("standard input = {file:?}")),
+            Err(error) => {
+                println!("clearance: {command} was not run: {error}");
+                std::process::exit(1);
+            }
+        }
+    }
+    line.finish();
+    println!("1 passed, 0 failed");
+}
+
+fn main() {
+    let mut arguments = std::env::args().skip(1).peekable();
+    let command = arguments.next_if(|word| word == "--program").and_then(|_| arguments.next());
+    let mut number = |otherwise: u64| match arguments.next() {
+        None => otherwise,
+        Some(text) => text.parse().unwrap_or_else(|_| {
+            eprintln!("usage: second_opinion [seed] [rounds] [entry point]");
+            eprintln!("       second_opinion --program COMMAND [seed] [rounds]");
+            std::process::exit(2)
+        }),
+    };
+    if let Some(command) = command {
+        let (seed, rounds) = (number(1), number(1_000));
+        return program(&command, seed, rounds);
+    }
+    let (seed, rounds) = (number(1), number(60_000));
+    let only = arguments.next();
+    let mut passed = 0;
+    for (place, (name, share, compare)) in ENTRY_POINTS.into_iter().enumerate() {
+        if only.as_deref().is_some_and(|only| only != name) {
+            continue;
+        }
+        let mut line = Line { name, seed, cases: 0, counts: [0; 11] };
+        let mut random = Random::new(seed.wrapping_mul(1000).wrapping_add(place as u64));
+        let wanted = rounds * share / 100;
+        while line.cases < wanted {
+            compare(&mut line, &mut random);
+        }
+        line.finish();
+        passed += 1;
+    }
+    println!("{passed} passed, 0 failed");
+}

@@ -1,0 +1,984 @@
+//! Document 01 in plain Rust, for reading and not for speed. Each section follows the document's own. The public
+//! functions at the end are the entry points of the C face, with the same parameters in the same order: each
+//! returns the refusal number (0: accepted) and fills its answer and the lent buffers.
+
+// ------------------------------------------------------------------------------------------------ the numbers
+
+pub const FILE: u64 = 1;
+pub const UNIVERSE: u64 = 2;
+pub const ROWS: u64 = 3;
+pub const TREE: u64 = 4;
+pub const TREE_SIZE: u64 = 5;
+pub const ROOM: u64 = 6;
+pub const EXPRESSION: u64 = 7;
+pub const NOT_MERGED: u64 = 8;
+pub const PLACE: u64 = 9;
+pub const PROXY: u64 = 10;
+
+/// A refusal: its number, and with number 6 the length needed.
+#[derive(Clone, Copy, Debug, PartialEq, Eq)]
+pub struct Refusal {
+    pub number: u64,
+    pub needed: u64,
+}
+
+pub type Answer<T> = Result<T, Refusal>;
+
+fn refused<T>(number: u64) -> Answer<T> {
+    Err(Refusal { number, needed: 0 })
+}
+
+fn too_little_room<T>(needed: u64) -> Answer<T> {
+    Err(Refusal { number: ROOM, needed })
+}
+
+// ----------------------------------------------------------------------------------------------- the universe
+
+pub const MOST_AXES: u64 = 4;
+pub const MOST_BITS: u64 = 10;
+
+/// A universe whose numbers are in range.
+#[derive(Clone, Copy, Debug, PartialEq, Eq)]
+pub struct Universe {
+    pub axes: usize,
+    pub bits: u32,
+}
+
+impl Universe {
+    pub fn checked(axes: u64, bits: u64) -> Answer<Universe> {
+        if axes < 1 || axes > MOST_AXES || bits > MOST_BITS {
+            return refused(UNIVERSE);
+        }
+        Ok(Universe { axes: axes as usize, bits: bits as u32 })
+    }
+
+    /// M, the length of a side.
+    pub fn side(&self) -> i64 {
+        1 << self.bits
+    }
+
+    /// L, the number of halvings.
+    pub fn levels(&self) -> usize {
+        self.axes * self.bits as usize
+    }
+
+    pub fn voxels(&self) -> u64 {
+        1 << self.levels()
+    }
+
+    /// Whether questions are answered voxel by voxel here.
+    pub fn is_small(&self) -> bool {
+        self.voxels() <= 1 << 12
+    }
+
+    /// All voxels, the first axis fastest.
+    pub fn all_voxels(&self) -> impl Iterator<Item = [i64; 4]> {
+        let (axes, bits, side) = (self.axes, self.bits, self.side());
+        (0..self.voxels()).map(move |number| {
+            let mut voxel = [0; 4];
+            for axis in 0..axes {
+                voxel[axis] = (number >> (axis as u32 * bits)) as i64 & (side - 1);
+            }
+            voxel
+        })
+    }
+}
+
+/// A block: its level, its low corner and the length of its sides. Axes above d have low corner 0 and length 0.
+#[derive(Clone, Copy, Debug, PartialEq, Eq)]
+pub struct Block {
+    pub level: usize,
+    pub low: [i64; 4],
+    pub size: [i64; 4],
+}
+
+impl Block {
+    pub fn whole(universe: &Universe) -> Block {
+        let mut size = [0; 4];
+        for axis in 0..universe.axes {
+            size[axis] = universe.side();
+        }
+        Block { level: 0, low: [0; 4], size }
+    }
+
+    /// The low or the high half. The block must be above level L.
+    pub fn half(&self, universe: &Universe, high: bool) -> Block {
+        assert!(self.level < universe.levels());
+        let axis = self.level % universe.axes;
+        let mut half = *self;
+        half.level += 1;
+        half.size[axis] /= 2;
+        if high {
+            half.low[axis] += half.size[axis];
+        }
+        half
+    }
+
+    pub fn has(&self, universe: &Universe, voxel: &[i64; 4]) -> bool {
+        (0..universe.axes).all(|axis| {
+            self.low[axis] <= voxel[axis] && voxel[axis] < self.low[axis] + self.size[axis]
+        })
+    }
+}
+
+// --------------------------------------------------------------------------------------- halfspaces and trees
+
+pub const MOST_ROWS: usize = 256;
+pub const MOST_WORDS: usize = 255;
+pub const MOST_PENDING: usize = 32;
+pub const FREE_LIMIT: i64 = 1_099_511_627_776;
+pub const AXIS_LIMIT: i64 = 16_777_216;
+
+pub type Row = [i64; 5];
+
+pub fn rows_checked(universe: &Universe, numbers: &[i64]) -> Answer<Vec<Row>> {
+    if numbers.len() % 5 != 0 || numbers.len() / 5 > MOST_ROWS {
+        return refused(ROWS);
+    }
+    let mut rows = Vec::new();
+    for five in numbers.chunks(5) {
+        for (place, &number) in five.iter().enumerate() {
+            let limit = match place {
+                0 => FREE_LIMIT,
+                axis if axis <= universe.axes => AXIS_LIMIT,
+                _ => 0,
+            };
+            if number < -limit || number > limit {
+                return refused(ROWS);
+            }
+        }
+        rows.push([five[0], five[1], five[2], five[3], five[4]]);
+    }
+    Ok(rows)
+}
+
+#[derive(Clone, Debug, PartialEq)]
+pub enum Tree {
+    White,
+    Black,
+    Halfspace(Row),
+    Union(Box<Tree>, Box<Tree>),
+    Intersection(Box<Tree>, Box<Tree>),
+    Minus(Box<Tree>, Box<Tree>),
+}
+
+use Tree::{Halfspace, Intersection, Minus, Union};
+
+pub fn tree_checked(rows: &[Row], words: &[u16]) -> Answer<Tree> {
+    if words.is_empty() {
+        return refused(TREE);
+    }
+    if words.len() > MOST_WORDS {
+        return refused(TREE_SIZE);
+    }
+    let mut pending: Vec<Tree> = Vec::new();
+    for &word in words {
+        match word {
+            0 | 1 | 256..=511 => {
+                let leaf = match word {
+                    0 => Tree::White,
+                    1 => Tree::Black,
+                    _ => match rows.get(word as usize - 256) {
+                        Some(row) => Halfspace(*row),
+                        None => return refused(TREE),
+                    },
+                };
+                if pending.len() == MOST_PENDING {
+                    return refused(TREE_SIZE);
+                }
+                pending.push(leaf);
+            }
+            2 | 3 | 4 => {
+                if pending.len() < 2 {
+                    return refused(TREE);
+                }
+                let later = Box::new(pending.pop().unwrap());
+                let earlier = Box::new(pending.pop().unwrap());
+                pending.push(match word {
+                    2 => Union(earlier, later),
+                    3 => Intersection(earlier, later),
+                    _ => Minus(earlier, later),
+                });
+            }
+            _ => return refused(TREE),
+        }
+    }
+    if pending.len() != 1 {
+        return refused(TREE);
+    }
+    Ok(pending.pop().unwrap())
+}
+
+/// The reversal of a tree.
+pub fn reversed(tree: Tree) -> Tree {
+    match tree {
+        Tree::White => Tree::Black,
+        Tree::Black => Tree::White,
+        Halfspace(row) => Halfspace(row.map(|number| -number)),
+        Union(a, b) => Intersection(Box::new(reversed(*a)), Box::new(reversed(*b))),
+        Intersection(a, b) => Union(Box::new(reversed(*a)), Box::new(reversed(*b))),
+        Minus(a, b) => Union(Box::new(reversed(*a)), b),
+    }
+}
+
+/// The same tree with each A MINUS B written as A INTERSECTION the reversal of B.
+pub fn without_minus(tree: Tree) -> Tree {
+    match tree {
+        Union(a, b) => Union(Box::new(without_minus(*a)), Box::new(without_minus(*b))),
+        Intersection(a, b) => Intersection(Box::new(without_minus(*a)), Box::new(without_minus(*b))),
+        Minus(a, b) => Intersection(Box::new(without_minus(*a)), Box::new(without_minus(reversed(*b)))),
+        leaf => leaf,
+    }
+}
+
+/// What a tree is over a block.
+#[derive(Clone, Copy, Debug, PartialEq, Eq)]
+pub enum Mark {
+    White,
+    Black,
+    Undecided,
+}
+
+/// The value of a halfspace's five numbers at a point of whole coordinates.
+fn value(row: &Row, point: &[i64; 4]) -> i64 {
+    row[0] + (0..4).map(|axis| row[axis + 1] * point[axis]).sum::<i64>()
+}
+
+/// The least and the greatest value at the corners of a block.
+pub fn extremes(universe: &Universe, row: &Row, block: &Block) -> (i64, i64) {
+    let (mut min, mut max) = (i64::MAX, i64::MIN);
+    for corner in 0..1u32 << universe.axes {
+        let mut point = block.low;
+        for axis in 0..universe.axes {
+            if corner >> axis & 1 == 1 {
+                point[axis] += block.size[axis];
+            }
+        }
+        let here = value(row, &point);
+        min = min.min(here);
+        max = max.max(here);
+    }
+    (min, max)
+}
+
+/// The mark of a tree with no MINUS over a block.
+pub fn mark(universe: &Universe, tree: &Tree, block: &Block) -> Mark {
+    match tree {
+        Tree::White => Mark::White,
+        Tree::Black => Mark::Black,
+        Halfspace(row) => {
+            let (min, max) = extremes(universe, row, block);
+            if min >= 0 {
+                Mark::Black
+            } else if max <= 0 {
+                Mark::White
+            } else {
+                Mark::Undecided
+            }
+        }
+        Union(a, b) => match (mark(universe, a, block), mark(universe, b, block)) {
+            (Mark::Black, _) | (_, Mark::Black) => Mark::Black,
+            (Mark::White, Mark::White) => Mark::White,
+            _ => Mark::Undecided,
+        },
+        Intersection(a, b) => match (mark(universe, a, block), mark(universe, b, block)) {
+            (Mark::White, _) | (_, Mark::White) => Mark::White,
+            (Mark::Black, Mark::Black) => Mark::Black,
+            _ => Mark::Undecided,
+        },
+        Minus(..) => unreachable!("no MINUS is left"),
+    }
+}
+
+/// Whether a tree with no MINUS is BLACK at a voxel's centre.
+pub fn black_at_centre(tree: &Tree, axes: usize, voxel: &[i64; 4]) -> bool {
+    match tree {
+        Tree::White => false,
+        Tree::Black => true,
+        Halfspace(row) => {
+            let sum: i64 = (0..axes).map(|axis| row[axis + 1] * (2 * voxel[axis] + 1)).sum();
+            2 * row[0] + sum >= 0
+        }
+        Union(a, b) => black_at_centre(a, axes, voxel) || black_at_centre(b, axes, voxel),
+        Intersection(a, b) => black_at_centre(a, axes, voxel) && black_at_centre(b, axes, voxel),
+        Minus(..) => unreachable!("no MINUS is left"),
+    }
+}
+
+// ------------------------------------------------------------------------------------------------ expressions
+
+fn examine(universe: &Universe, tree: &Tree, block: &Block, raw: &mut Vec<u8>) {
+    match mark(universe, tree, block) {
+        Mark::Black => raw.push(b'B'),
+        Mark::White => raw.push(b'W'),
+        Mark::Undecided if block.level < universe.levels() => {
+            raw.push(b'(');
+            examine(universe, tree, &block.half(universe, false), raw);
+            examine(universe, tree, &block.half(universe, true), raw);
+        }
+        Mark::Undecided => {
+            let black = black_at_centre(tree, universe.axes, &block.low);
+            raw.push(if black { b'B' } else { b'W' });
+        }
+    }
+}
+
+/// The number of blocks examined: by the rule, and without writing anything.
+pub fn blocks_examined(universe: &Universe, tree: &Tree, block: &Block) -> u64 {
+    if mark(universe, tree, block) == Mark::Undecided && block.level < universe.levels() {
+        1 + blocks_examined(universe, tree, &block.half(universe, false))
+            + blocks_examined(universe, tree, &block.half(universe, true))
+    } else {
+        1
+    }
+}
+
+/// The raw expression of a tree with no MINUS.
+pub fn raw_of(universe: &Universe, tree: &Tree) -> Vec<u8> {
+    let mut raw = Vec::new();
+    examine(universe, tree, &Block::whole(universe), &mut raw);
+    raw
+}
+
+/// The merged expression: each `(BB` becomes `B` and each `(WW` becomes `W`, until none is left.
+pub fn merged_by_replacement(expression: &[u8]) -> Vec<u8> {
+    let mut now = expression.to_vec();
+    loop {
+        let mut next = Vec::new();
+        let mut place = 0;
+        while place < now.len() {
+            if now[place..].starts_with(b"(BB") {
+                next.push(b'B');
+                place += 3;
+            } else if now[place..].starts_with(b"(WW") {
+                next.push(b'W');
+                place += 3;
+            } else {
+                next.push(now[place]);
+                place += 1;
+            }
+        }
+        if next.len() == now.len() {
+            return now;
+        }
+        now = next;
+    }
+}
+
+pub fn is_merged(expression: &[u8]) -> bool {
+    !expression.windows(3).any(|three| three == b"(BB" || three == b"(WW")
+}
+
+/// A well-formed expression, taken apart: where it starts in the symbols, how many symbols it has, its sons.
+#[derive(Clone, Debug, PartialEq)]
+pub struct Shape {
+    pub start: usize,
+    pub length: usize,
+    pub kind: Kind,
+}
+
+#[derive(Clone, Debug, PartialEq)]
+pub enum Kind {
+    White,
+    Black,
+    Halved(Box<Shape>, Box<Shape>),
+}
+
+fn shape_at(universe: &Universe, symbols: &[u8], start: usize, level: usize) -> Option<Shape> {
+    match symbols.get(start)? {
+        b'W' => Some(Shape { start, length: 1, kind: Kind::White }),
+        b'B' => Some(Shape { start, length: 1, kind: Kind::Black }),
+        b'(' if level < universe.levels() => {
+            let low = shape_at(universe, symbols, start + 1, level + 1)?;
+            let high = shape_at(universe, symbols, start + 1 + low.length, level + 1)?;
+            let length = 1 + low.length + high.length;
+            Some(Shape { start, length, kind: Kind::Halved(Box::new(low), Box::new(high)) })
+        }
+        _ => None,
+    }
+}
+
+/// The expression taken apart; refused where it is not exactly one tree, or has a `(` at level L.
+pub fn shape_checked(universe: &Universe, symbols: &[u8]) -> Answer<Shape> {
+    match shape_at(universe, symbols, 0, 0) {
+        Some(shape) if shape.length == symbols.len() => Ok(shape),
+        _ => refused(EXPRESSION),
+    }
+}
+
+/// Whether the shape is BLACK at a voxel.
+pub fn black_at(universe: &Universe, shape: &Shape, voxel: &[i64; 4]) -> bool {
+    let (mut shape, mut block) = (shape, Block::whole(universe));
+    loop {
+        match &shape.kind {
+            Kind::White => return false,
+            Kind::Black => return true,
+            Kind::Halved(low, high) => {
+                let half = block.half(universe, false);
+                if half.has(universe, voxel) {
+                    (shape, block) = (low, half);
+                } else {
+                    (shape, block) = (high, block.half(universe, true));
+                }
+            }
+        }
+    }
+}
+
+/// Hands each BLACK block of a shape to `each`.
+fn black_blocks(universe: &Universe, shape: &Shape, block: &Block, each: &mut impl FnMut(&Block)) {
+    match &shape.kind {
+        Kind::White => {}
+        Kind::Black => each(block),
+        Kind::Halved(low, high) => {
+            black_blocks(universe, low, &block.half(universe, false), each);
+            black_blocks(universe, high, &block.half(universe, true), each);
+        }
+    }
+}
+
+/// The number of black voxels: voxel by voxel where the universe is small, otherwise block by block.
+pub fn volume_of(universe: &Universe, shape: &Shape) -> u64 {
+    if universe.is_small() {
+        universe.all_voxels().filter(|voxel| black_at(universe, shape, voxel)).count() as u64
+    } else {
+        volume_by_blocks(universe, shape)
+    }
+}
+
+pub fn volume_by_blocks(universe: &Universe, shape: &Shape) -> u64 {
+    let mut volume = 0;
+    black_blocks(universe, shape, &Block::whole(universe), &mut |block| {
+        volume += block.size[..universe.axes].iter().product::<i64>() as u64;
+    });
+    volume
+}
+
+/// The part for the block that a path names: its start and its length.
+pub fn part_of(shape: &Shape, path: &[u8]) -> (u64, u64) {
+    let mut shape = shape;
+    for &turn in path {
+        match &shape.kind {
+            Kind::Halved(low, high) => shape = if turn == 0 { low } else { high },
+            _ => break,
+        }
+    }
+    (shape.start as u64, shape.length as u64)
+}
+
+// ------------------------------------------------------------------------------------------------------- room
+
+/// N, the number of halfspace words.
+pub fn halfspace_words(words: &[u16]) -> u64 {
+    words.iter().filter(|&&word| (256..=511).contains(&word)).count() as u64
+}
+
+pub fn room_of(universe: &Universe, leaves: u64) -> u64 {
+    let mut sum: u128 = 0;
+    for level in 0..universe.levels() {
+        // the blocks along each axis at this level
+        let mut along = [1u128; 4];
+        for earlier in 0..level {
+            along[earlier % universe.axes] *= 2;
+        }
+        let along = &along[..universe.axes];
+        let all: u128 = along.iter().product();
+        let inner: u128 = along.iter().map(|n| n - 1).product();
+        sum += all.min(leaves as u128 * (all - inner));
+    }
+    u64::try_from(1 + 2 * sum).expect("at most 2^41 - 1")
+}
+
+// --------------------------------------------------------------------------------------------------- verdicts
+
+/// Frames first to last, both ends in.
+pub fn window_checked(universe: &Universe, first: u64, last: u64) -> Answer<()> {
+    if first > last || last >= universe.side() as u64 {
+        return refused(PLACE);
+    }
+    Ok(())
+}
+
+/// First frame, last frame and number of black voxels.
+pub type Hit = Option<(u64, u64, u64)>;
+
+/// The verdict voxel by voxel: each voxel of the window is judged at its centre, in both trees.
+pub fn verdict_by_voxels(universe: &Universe, one: &Tree, two: &Tree, first: u64, last: u64) -> Hit {
+    let mut hit: Hit = None;
+    for voxel in universe.all_voxels() {
+        let frame = voxel[universe.axes - 1] as u64;
+        if frame < first || frame > last {
+            continue;
+        }
+        if black_at_centre(one, universe.axes, &voxel) && black_at_centre(two, universe.axes, &voxel) {
+            hit = Some(match hit {
+                None => (frame, frame, 1),
+                Some((low, high, count)) => (low.min(frame), high.max(frame), count + 1),
+            });
+        }
+    }
+    hit
+}
+
+/// The verdict from the black blocks of an expression.
+pub fn verdict_by_blocks(universe: &Universe, shape: &Shape, first: u64, last: u64) -> Hit {
+    let mut hit: Hit = None;
+    let time = universe.axes - 1;
+    black_blocks(universe, shape, &Block::whole(universe), &mut |block| {
+        let from = (block.low[time] as u64).max(first);
+        let end = ((block.low[time] + block.size[time]) as u64).min(last + 1);
+        if from < end {
+            let slice = block.size[..time].iter().product::<i64>() as u64;
+            let voxels = slice * (end - from);
+            hit = Some(match hit {
+                None => (from, end - 1, voxels),
+                Some((low, high, count)) => (low.min(from), high.max(end - 1), count + voxels),
+            });
+        }
+    });
+    hit
+}
+
+// ---------------------------------------------------------------------------------------------------- proxies
+
+/// The number in sixteenths, exactly, from the float's own bits; refused where it is no finite multiple of 1/16
+/// or its size is over the limit.
+pub fn sixteenths(number: f64, limit: u64) -> Answer<i64> {
+    let bits = number.to_bits();
+    let (sign, exponent, fraction) = (bits >> 63, (bits >> 52) & 0x7ff, bits & ((1 << 52) - 1));
+    // the size of the number is whole × 2^power
+    let (mut whole, mut power) = match exponent {
+        0x7ff => return refused(PROXY),
+        0 => (fraction, -1074),
+        _ => (fraction | 1 << 52, exponent as i64 - 1075),
+    };
+    if whole == 0 {
+        return Ok(0);
+    }
+    power += 4;
+    while whole % 2 == 0 {
+        whole /= 2;
+        power += 1;
+    }
+    // whole is odd: in sixteenths the number is whole exactly where power ≥ 0
+    if power < 0 || power > 64 {
+        return refused(PROXY);
+    }
+    let size = (whole as u128) << power;
+    if size > 16 * limit as u128 {
+        return refused(PROXY);
+    }
+    Ok(if sign == 1 { -(size as i64) } else { size as i64 })
+}
+
+const CORNER_LIMIT: u64 = 4096;
+const STEP_LIMIT: u64 = 64;
+
+fn three(numbers: [f64; 3], limit: u64) -> Answer<[i64; 3]> {
+    Ok([sixteenths(numbers[0], limit)?, sixteenths(numbers[1], limit)?, sixteenths(numbers[2], limit)?])
+}
+
+pub fn box_rows(near: [f64; 3], far: [f64; 3], step: [f64; 3]) -> Answer<[Row; 6]> {
+    let near = three(near, CORNER_LIMIT)?;
+    let far = three(far, CORNER_LIMIT)?;
+    let step = three(step, STEP_LIMIT)?;
+    let mut rows = [[0; 5]; 6];
+    for axis in 0..3 {
+        if near[axis] > far[axis] {
+            return refused(PROXY);
+        }
+        rows[2 * axis][0] = -near[axis];
+        rows[2 * axis][axis + 1] = 16;
+        rows[2 * axis][4] = -step[axis];
+        rows[2 * axis + 1][0] = far[axis];
+        rows[2 * axis + 1][axis + 1] = -16;
+        rows[2 * axis + 1][4] = step[axis];
+    }
+    Ok(rows)
+}
+
+pub fn cut_row(normal: [f64; 3], offset: f64, step: [f64; 3]) -> Answer<Row> {
+    let normal = three(normal, STEP_LIMIT)?;
+    let offset = sixteenths(offset, CORNER_LIMIT)?;
+    let step = three(step, STEP_LIMIT)?;
+    // 256·n·v: sixteenths times sixteenths
+    let along: i64 = (0..3).map(|axis| normal[axis] * step[axis]).sum();
+    Ok([16 * offset, 16 * normal[0], 16 * normal[1], 16 * normal[2], -along])
+}
+
+// ------------------------------------------------------------------------------------------------------ files
+
+fn u16_at(bytes: &[u8], place: usize) -> u16 {
+    u16::from_le_bytes([bytes[place], bytes[place + 1]])
+}
+
+#[derive(Clone, Debug)]
+pub struct Scene {
+    pub axes: u64,
+    pub bits: u64,
+    pub rows: Vec<i64>,
+    pub first: Vec<u16>,
+    pub second: Vec<u16>,
+    pub first_frame: u64,
+    pub last_frame: u64,
+}
+
+pub fn scene_checked(bytes: &[u8]) -> Answer<Scene> {
+    if bytes.len() < 18 || &bytes[..3] != b"HSC" || u16_at(bytes, 3) != 1 || bytes[7] != 0 {
+        return refused(FILE);
+    }
+    let count = u16_at(bytes, 8) as usize;
+    let (one, two) = (u16_at(bytes, 10) as usize, u16_at(bytes, 12) as usize);
+    if bytes.len() != 18 + 40 * count + 2 * (one + two) {
+        return refused(FILE);
+    }
+    let numbers: Vec<i64> = bytes[18..18 + 40 * count]
+        .chunks(8)
+        .map(|eight| i64::from_le_bytes(eight.try_into().unwrap()))
+        .collect();
+    let words: Vec<u16> = bytes[18 + 40 * count..].chunks(2).map(|pair| u16_at(pair, 0)).collect();
+    let scene = Scene {
+        axes: bytes[5] as u64,
+        bits: bytes[6] as u64,
+        rows: numbers,
+        first: words[..one].to_vec(),
+        second: words[one..].to_vec(),
+        first_frame: u16_at(bytes, 14) as u64,
+        last_frame: u16_at(bytes, 16) as u64,
+    };
+    let universe = Universe::checked(scene.axes, scene.bits)?;
+    let rows = rows_checked(&universe, &scene.rows)?;
+    tree_checked(&rows, &scene.first)?;
+    tree_checked(&rows, &scene.second)?;
+    window_checked(&universe, scene.first_frame, scene.last_frame)?;
+    Ok(scene)
+}
+
+/// The bytes of a scene, as they are: nothing is checked.
+pub fn scene_bytes(scene: &Scene) -> Vec<u8> {
+    let mut bytes = b"HSC\x01\x00".to_vec();
+    bytes.extend([scene.axes as u8, scene.bits as u8, 0]);
+    for number in [scene.rows.len() / 5, scene.first.len(), scene.second.len()] {
+        bytes.extend((number as u16).to_le_bytes());
+    }
+    for frame in [scene.first_frame, scene.last_frame] {
+        bytes.extend((frame as u16).to_le_bytes());
+    }
+    for number in &scene.rows {
+        bytes.extend(number.to_le_bytes());
+    }
+    for word in scene.first.iter().chain(&scene.second) {
+        bytes.extend(word.to_le_bytes());
+    }
+    bytes
+}
+
+/// The bytes of a shape file, as they are: nothing is checked.
+pub fn shape_bytes(axes: u64, bits: u64, symbols: &[u8]) -> Vec<u8> {
+    let mut bytes = b"BNT\x01\x00".to_vec();
+    bytes.extend([axes as u8, bits as u8]);
+    bytes.extend((symbols.len() as u32).to_le_bytes());
+    bytes.extend(symbols);
+    bytes
+}
+
+// ----------------------------------------------------------------------------------------- the entry points
+
+/// The universe and the trees of a run, with no MINUS left: 2, 3, then tree after tree.
+pub fn run_checked(axes: u64, bits: u64, rows: &[i64], trees: &[&[u16]]) -> Answer<(Universe, Vec<Tree>)> {
+    let universe = Universe::checked(axes, bits)?;
+    let rows = rows_checked(&universe, rows)?;
+    let mut read = Vec::new();
+    for words in trees {
+        read.push(without_minus(tree_checked(&rows, words)?));
+    }
+    Ok((universe, read))
+}
+
+/// One tree as it is; two trees intersected.
+pub fn joined(trees: &[Tree]) -> Tree {
+    match trees {
+        [one] => one.clone(),
+        [one, two] => Intersection(Box::new(one.clone()), Box::new(two.clone())),
+        _ => unreachable!("one tree or two"),
+    }
+}
+
+/// Copies to the lent room what fits it, and says its length.
+fn delivered(bytes: &[u8], out: &mut [u8]) -> Answer<u64> {
+    if bytes.len() > out.len() {
+        return too_little_room(bytes.len() as u64);
+    }
+    out[..bytes.len()].copy_from_slice(bytes);
+    Ok(bytes.len() as u64)
+}
+
+/// An answer of one length: the length written, the length needed on 6, zero on all other refusals.
+fn length_answer(result: Answer<u64>, answer: &mut [u64; 1]) -> u64 {
+    match result {
+        Ok(length) => {
+            answer[0] = length;
+            0
+        }
+        Err(refusal) => {
+            answer[0] = refusal.needed;
+            refusal.number
+        }
+    }
+}
+
+/// An answer with no length in it: all zero on a refusal.
+fn plain_answer<const N: usize>(result: Answer<[u64; N]>, answer: &mut [u64; N]) -> u64 {
+    match result {
+        Ok(fields) => {
+            *answer = fields;
+            0
+        }
+        Err(refusal) => {
+            *answer = [0; N];
+            refusal.number
+        }
+    }
+}
+
+pub fn room(axes: u64, bits: u64, leaves: u64, answer: &mut [u64; 1]) -> u64 {
+    plain_answer(Universe::checked(axes, bits).map(|universe| [room_of(&universe, leaves)]), answer)
+}
+
+pub fn leaves(words: &[u16]) -> u64 {
+    halfspace_words(words)
+}
+
+fn raw(axes: u64, bits: u64, rows: &[i64], trees: &[&[u16]]) -> Answer<Vec<u8>> {
+    let (universe, trees) = run_checked(axes, bits, rows, trees)?;
+    Ok(raw_of(&universe, &joined(&trees)))
+}
+
+pub fn raw_one(axes: u64, bits: u64, rows: &[i64], words: &[u16], out: &mut [u8], answer: &mut [u64; 1]) -> u64 {
+    length_answer(raw(axes, bits, rows, &[words]).and_then(|symbols| delivered(&symbols, out)), answer)
+}
+
+pub fn raw_two(
+    axes: u64, bits: u64, rows: &[i64], first: &[u16], second: &[u16], out: &mut [u8], answer: &mut [u64; 1],
+) -> u64 {
+    length_answer(raw(axes, bits, rows, &[first, second]).and_then(|symbols| delivered(&symbols, out)), answer)
+}
+
+pub fn merged_one(axes: u64, bits: u64, rows: &[i64], words: &[u16], out: &mut [u8], answer: &mut [u64; 1]) -> u64 {
+    let merged = raw(axes, bits, rows, &[words]).map(|symbols| merged_by_replacement(&symbols));
+    length_answer(merged.and_then(|symbols| delivered(&symbols, out)), answer)
+}
+
+pub fn merged_two(
+    axes: u64, bits: u64, rows: &[i64], first: &[u16], second: &[u16], out: &mut [u8], answer: &mut [u64; 1],
+) -> u64 {
+    let merged = raw(axes, bits, rows, &[first, second]).map(|symbols| merged_by_replacement(&symbols));
+    length_answer(merged.and_then(|symbols| delivered(&symbols, out)), answer)
+}
+
+#[allow(clippy::too_many_arguments)]
+pub fn verdict(
+    axes: u64, bits: u64, rows: &[i64], first: &[u16], second: &[u16], first_frame: u64, last_frame: u64,
+    out: &mut [u8], answer: &mut [u64; 5],
+) -> u64 {
+    let mut judge = || -> Answer<(Hit, u64)> {
+        let (universe, trees) = run_checked(axes, bits, rows, &[first, second])?;
+        window_checked(&universe, first_frame, last_frame)?;
+        let symbols = raw_of(&universe, &joined(&trees));
+        let length = delivered(&symbols, out)?;
+        let hit = if universe.is_small() {
+            verdict_by_voxels(&universe, &trees[0], &trees[1], first_frame, last_frame)
+        } else {
+            verdict_by_blocks(&universe, &shape_checked(&universe, &symbols)?, first_frame, last_frame)
+        };
+        Ok((hit, length))
+    };
+    match judge() {
+        Ok((None, length)) => {
+            *answer = [0, 0, 0, 0, length];
+            0
+        }
+        Ok((Some((from, to, voxels)), length)) => {
+            *answer = [1, from, to, voxels, length];
+            0
+        }
+        Err(refusal) => {
+            *answer = [0, 0, 0, 0, refusal.needed];
+            refusal.number
+        }
+    }
+}
+
+/// The universe and the expression taken apart: 2, then 7.
+fn expression_checked(axes: u64, bits: u64, expression: &[u8]) -> Answer<(Universe, Shape)> {
+    let universe = Universe::checked(axes, bits)?;
+    let shape = shape_checked(&universe, expression)?;
+    Ok((universe, shape))
+}
+
+pub fn well_formed(axes: u64, bits: u64, expression: &[u8]) -> u64 {
+    match expression_checked(axes, bits, expression) {
+        Ok(_) => 0,
+        Err(refusal) => refusal.number,
+    }
+}
+
+pub fn volume(axes: u64, bits: u64, expression: &[u8], answer: &mut [u64; 1]) -> u64 {
+    let result = expression_checked(axes, bits, expression);
+    plain_answer(result.map(|(universe, shape)| [volume_of(&universe, &shape)]), answer)
+}
+
+#[allow(clippy::too_many_arguments)]
+pub fn colour(
+    axes: u64, bits: u64, expression: &[u8], x: u64, y: u64, z: u64, t: u64, answer: &mut [u64; 1],
+) -> u64 {
+    let judge = || -> Answer<[u64; 1]> {
+        let (universe, shape) = expression_checked(axes, bits, expression)?;
+        let mut voxel = [0; 4];
+        for (axis, place) in [x, y, z, t].into_iter().enumerate() {
+            let places = if axis < universe.axes { universe.side() as u64 } else { 1 };
+            if place >= places {
+                return refused(PLACE);
+            }
+            voxel[axis] = place as i64;
+        }
+        Ok([black_at(&universe, &shape, &voxel) as u64])
+    };
+    plain_answer(judge(), answer)
+}
+
+pub fn part(axes: u64, bits: u64, expression: &[u8], path: &[u8], answer: &mut [u64; 2]) -> u64 {
+    let judge = || -> Answer<[u64; 2]> {
+        let (universe, shape) = expression_checked(axes, bits, expression)?;
+        if path.len() > universe.levels() || path.iter().any(|&turn| turn > 1) {
+            return refused(PLACE);
+        }
+        let (start, length) = part_of(&shape, path);
+        Ok([start, length])
+    };
+    plain_answer(judge(), answer)
+}
+
+pub fn merge(axes: u64, bits: u64, expression: &[u8], out: &mut [u8], answer: &mut [u64; 1]) -> u64 {
+    let merged = expression_checked(axes, bits, expression).map(|_| merged_by_replacement(expression));
+    length_answer(merged.and_then(|symbols| delivered(&symbols, out)), answer)
+}
+
+pub fn scene(
+    bytes: &[u8], rows: &mut [i64; 1280], first: &mut [u16; 255], second: &mut [u16; 255], answer: &mut [u64; 7],
+) -> u64 {
+    let result = scene_checked(bytes).map(|scene| {
+        rows[..scene.rows.len()].copy_from_slice(&scene.rows);
+        first[..scene.first.len()].copy_from_slice(&scene.first);
+        second[..scene.second.len()].copy_from_slice(&scene.second);
+        [
+            scene.axes,
+            scene.bits,
+            scene.rows.len() as u64 / 5,
+            scene.first.len() as u64,
+            scene.second.len() as u64,
+            scene.first_frame,
+            scene.last_frame,
+        ]
+    });
+    plain_answer(result, answer)
+}
+
+pub fn shape_read(bytes: &[u8], out: &mut [u8], answer: &mut [u64; 3]) -> u64 {
+    let mut judge = || -> Answer<[u64; 3]> {
+        if bytes.len() < 11 || &bytes[..3] != b"BNT" || u16_at(bytes, 3) != 1 {
+            return refused(FILE);
+        }
+        let count = u32::from_le_bytes(bytes[7..11].try_into().unwrap()) as u64;
+        if bytes.len() as u64 != 11 + count {
+            return refused(FILE);
+        }
+        let (axes, bits, symbols) = (bytes[5] as u64, bytes[6] as u64, &bytes[11..]);
+        expression_checked(axes, bits, symbols)?;
+        if !is_merged(symbols) {
+            return refused(NOT_MERGED);
+        }
+        Ok([axes, bits, delivered(symbols, out)?])
+    };
+    match judge() {
+        Ok(fields) => {
+            *answer = fields;
+            0
+        }
+        Err(refusal) => {
+            *answer = [0, 0, refusal.needed];
+            refusal.number
+        }
+    }
+}
+
+pub fn shape_write(axes: u64, bits: u64, expression: &[u8], out: &mut [u8], answer: &mut [u64; 1]) -> u64 {
+    let mut judge = || -> Answer<u64> {
+        expression_checked(axes, bits, expression)?;
+        if !is_merged(expression) {
+            return refused(NOT_MERGED);
+        }
+        if expression.len() as u64 > u32::MAX as u64 {
+            return too_little_room(11 + expression.len() as u64);
+        }
+        delivered(&shape_bytes(axes, bits, expression), out)
+    };
+    length_answer(judge(), answer)
+}
+
+pub fn box_proxy(near: [f64; 3], far: [f64; 3], step: [f64; 3], rows: &mut [i64; 30]) -> u64 {
+    *rows = [0; 30];
+    match box_rows(near, far, step) {
+        Ok(six) => {
+            rows.copy_from_slice(&six.concat());
+            0
+        }
+        Err(refusal) => refusal.number,
+    }
+}
+
+pub fn cut_proxy(normal: [f64; 3], offset: f64, step: [f64; 3], row: &mut [i64; 5]) -> u64 {
+    *row = [0; 5];
+    match cut_row(normal, offset, step) {
+        Ok(five) => {
+            *row = five;
+            0
+        }
+        Err(refusal) => refusal.number,
+    }
+}
+
+// ------------------------------------------------------------------------------------------------ the program
+
+pub const PROGRAM_BYTES: usize = 65_536;
+pub const PROGRAM_SYMBOLS: usize = 32_768;
+
+/// What `clearance` prints for the bytes of its standard input.
+pub fn clearance(bytes: &[u8]) -> String {
+    if bytes.len() > PROGRAM_BYTES {
+        return format!("refused {FILE}\n");
+    }
+    let scene = match scene_checked(bytes) {
+        Ok(scene) => scene,
+        Err(refusal) => return format!("refused {}\n", refusal.number),
+    };
+    let mut out = vec![0; PROGRAM_SYMBOLS];
+    let mut answer = [0; 5];
+    let number = verdict(
+        scene.axes, scene.bits, &scene.rows, &scene.first, &scene.second, scene.first_frame, scene.last_frame,
+        &mut out, &mut answer,
+    );
+    if number == ROOM {
+        return format!("refused 6 needed {}\n", answer[4]);
+    }
+    assert_eq!(number, 0, "the scene was checked");
+    let leaves = halfspace_words(&scene.first) + halfspace_words(&scene.second);
+    let room = room_of(&Universe::checked(scene.axes, scene.bits).unwrap(), leaves);
+    let mut lines = format!("axes {} bits {}\nleaves {leaves} raw {} room {room}\n", scene.axes, scene.bits, answer[4]);
+    if answer[0] == 1 {
+        lines += &format!("hit first {} last {} voxels {}\n", answer[1], answer[2], answer[3]);
+    } else {
+        lines += "clear\n";
+    }
+    lines
+}

@@ -1,0 +1,394 @@
+//! Document 01's own cases, and the plain implementation held to itself: slow against fast, merging by
+//! replacement against merging on the way, blocks against voxels.
+
+use crate::fast::{plain_merged_fast, plain_raw_fast, plain_verdict_fast, plain_volume_fast, Run};
+use crate::generate::{self, Random};
+use crate::plain::*;
+use Tree::Halfspace;
+
+fn rows_of(rows: &[[i64; 3]]) -> Vec<i64> {
+    rows.iter().flat_map(|row| [row[0], row[1], row[2], 0, 0]).collect()
+}
+
+fn raw_text(bits: u64, rows: &[i64], words: &[u16]) -> (String, String, u64) {
+    let mut out = [0; 1000];
+    let mut length = [0];
+    assert_eq!(raw_one(2, bits, rows, words, &mut out, &mut length), 0);
+    let raw = String::from_utf8(out[..length[0] as usize].to_vec()).unwrap();
+    assert_eq!(merged_one(2, bits, rows, words, &mut out, &mut length), 0);
+    let merged = String::from_utf8(out[..length[0] as usize].to_vec()).unwrap();
+    let mut black = [0];
+    assert_eq!(volume(2, bits, raw.as_bytes(), &mut black), 0);
+    let mut again = [0];
+    assert_eq!(volume(2, bits, merged.as_bytes(), &mut again), 0);
+    assert_eq!(black, again);
+    (raw, merged, black[0])
+}
+
+fn room_at(axes: u64, bits: u64, leaves: u64) -> u64 {
+    let mut answer = [0];
+    assert_eq!(room(axes, bits, leaves, &mut answer), 0);
+    answer[0]
+}
+
+const SCENE_ROWS: [[i64; 3]; 4] = [[0, 1, -1], [1, -1, 1], [-2, 1, 0], [3, -1, 0]];
+const ONE: [u16; 3] = [256, 257, 3];
+const TWO: [u16; 3] = [258, 259, 3];
+const SCENE_RAW: &[u8] = b"(W(((WBW((BWW";
+
+fn scene_verdict(first: u64, last: u64, lent: usize) -> (u64, [u64; 5], Vec<u8>) {
+    let mut out = vec![7; lent];
+    let mut answer = [9; 5];
+    let number = verdict(2, 2, &rows_of(&SCENE_ROWS), &ONE, &TWO, first, last, &mut out, &mut answer);
+    (number, answer, out)
+}
+
+#[test]
+fn case_1() {
+    let (raw, merged, black) = raw_text(2, &rows_of(&[[-2, 2, -1]]), &[256]);
+    assert_eq!((raw.as_str(), merged.as_str(), black), ("(((W(BWW(B((BWB", "(((W(BWW(B((BWB", 8));
+    assert_eq!(room_at(2, 2, 1), 23);
+}
+
+#[test]
+fn cases_2_and_3() {
+    let rows = rows_of(&[[-2, 1, 0], [-2, 0, 1], [6, -1, -1]]);
+    let (raw, merged, black) = raw_text(2, &rows, &[256, 257, 3, 258, 3]);
+    assert_eq!((raw.as_str(), merged.as_str(), black), ("(W(W((BB(BW", "(W(W(B(BW", 3));
+    let universe = Universe::checked(2, 2).unwrap();
+    // the third halfspace's value at (3,2)'s centre is 0
+    assert_eq!(2 * 6 - (2 * 3 + 1) - (2 * 2 + 1), 0);
+    let shape = shape_checked(&universe, raw.as_bytes()).unwrap();
+    assert!(black_at(&universe, &shape, &[3, 2, 0, 0]));
+    assert!(!black_at(&universe, &shape, &[3, 3, 0, 0]));
+    for symbols in [raw.as_bytes(), merged.as_bytes()] {
+        let mut answer = [9];
+        assert_eq!((colour(2, 2, symbols, 3, 2, 0, 0, &mut answer), answer), (0, [1]));
+        assert_eq!((colour(2, 2, symbols, 3, 3, 0, 0, &mut answer), answer), (0, [0]));
+        assert_eq!((colour(2, 2, symbols, 3, 4, 0, 0, &mut answer), answer), (9, [0]));
+        assert_eq!((colour(2, 2, symbols, 3, 2, 1, 0, &mut answer), answer), (9, [0]));
+    }
+}
+
+#[test]
+fn cases_4_and_5_and_10_and_11() {
+    let (number, answer, out) = scene_verdict(0, 3, 13);
+    assert_eq!((number, answer, &out[..]), (0, [1, 1, 2, 2, 13], SCENE_RAW));
+    assert_eq!(scene_verdict(0, 0, 13).1, [0, 0, 0, 0, 13]);
+    assert_eq!(scene_verdict(2, 2, 13).1, [1, 2, 2, 1, 13]);
+    assert_eq!(scene_verdict(3, 3, 13).1, [0, 0, 0, 0, 13]);
+    assert_eq!(scene_verdict(0, 3, 12), (6, [0, 0, 0, 0, 13], vec![7; 12]));
+    assert_eq!(scene_verdict(0, 4, 13), (9, [0; 5], vec![7; 13]));
+    assert_eq!(scene_verdict(2, 1, 13), (9, [0; 5], vec![7; 13]));
+    assert_eq!(scene_verdict(0, 4, 12).0, 9);
+    let mut out = [7; 12];
+    let mut answer = [9];
+    assert_eq!(raw_two(2, 2, &rows_of(&SCENE_ROWS), &ONE, &TWO, &mut out, &mut answer), 6);
+    assert_eq!((answer, out), ([13], [7; 12]));
+}
+
+#[test]
+fn cases_6_and_7_and_8() {
+    for axes in 1..=4 {
+        for bits in 0..=10 {
+            assert_eq!(room_at(axes, bits, 0), 1);
+            let mut out = [0; 1];
+            let mut answer = [0];
+            assert_eq!(raw_one(axes, bits, &[0; 5], &[256], &mut out, &mut answer), 0);
+            assert_eq!(out, *b"B");
+        }
+        assert_eq!(room_at(axes, 0, 1_000_000), 1);
+    }
+    assert_eq!(room_at(2, 2, 2), 31);
+    assert_eq!(room_at(2, 2, 4), 31);
+    assert_eq!(room_at(2, 1, 1), 7);
+    assert_eq!(room_at(4, 10, u64::MAX), (1 << 41) - 1);
+    let mut random = Random::new(8);
+    for _ in 0..2000 {
+        let axes = 1 + random.below(4);
+        let rows = generate::rows(&mut random, axes, 0);
+        let words = generate::tree(&mut random, rows.len() / 5);
+        let mut out = [0; 1];
+        let mut answer = [0];
+        assert_eq!(raw_one(axes, 0, &rows, &words, &mut out, &mut answer), 0);
+        assert_eq!(answer, [1]);
+    }
+}
+
+#[test]
+fn case_9() {
+    assert_eq!(well_formed(2, 2, b"(BB"), 0);
+    let mut out = [7; 3];
+    let mut answer = [9];
+    assert_eq!((merge(2, 2, b"(BB", &mut out, &mut answer), out, answer), (0, [b'B', 7, 7], [1]));
+    for bad in [&b""[..], b"(B", b"BB"] {
+        assert_eq!(well_formed(2, 2, bad), 7);
+        assert_eq!(volume(2, 2, bad, &mut answer), 7);
+        assert_eq!(merge(2, 2, bad, &mut out, &mut answer), 7);
+    }
+    assert_eq!(well_formed(2, 0, b"(BB"), 7);
+    assert_eq!(merged_by_replacement(b"((BB(BB"), b"B");
+}
+
+#[test]
+fn case_12() {
+    let v = [0.0; 3];
+    let mut row = [0; 5];
+    assert_eq!(cut_proxy([0.0625, 0.0, 0.0], 0.0, v, &mut row), 0);
+    assert_eq!(row, [0, 16, 0, 0, 0]);
+    for bad in [1.0 / 32.0, f64::NAN, f64::INFINITY, f64::NEG_INFINITY, f64::MIN_POSITIVE, 5e-324, 4097.0] {
+        assert_eq!(cut_proxy([bad, 0.0, 0.0], 0.0, v, &mut row), 10);
+        assert_eq!(row, [0; 5]);
+        assert_eq!(cut_proxy(v, bad, v, &mut row), 10);
+    }
+    assert_eq!(cut_proxy([64.0, -64.0, -0.0], -4096.0, [64.0, -64.0, 0.0625], &mut row), 0);
+    assert_eq!(row, [-4096 * 256, 64 * 256, -64 * 256, 0, -2 * 4096 * 256]);
+    assert_eq!(cut_proxy([64.0625, 0.0, 0.0], 0.0, v, &mut row), 10);
+    assert_eq!(cut_proxy(v, 4096.0625, v, &mut row), 10);
+    let mut rows = [9; 30];
+    assert_eq!(box_proxy([2.5, 0.0, 0.0], [2.5, 1.0, 4096.0], [-0.25, -0.0, 64.0], &mut rows), 0);
+    assert_eq!(rows[..5], [-40, 16, 0, 0, 4]);
+    assert_eq!(rows[5..10], [40, -16, 0, 0, -4]);
+    assert_eq!(rows[10..20], [0, 0, 16, 0, 0, 16, 0, -16, 0, 0]);
+    assert_eq!(rows[20..], [0, 0, 0, 16, -1024, 65536, 0, 0, -16, 1024]);
+    assert_eq!(box_proxy([2.5, 0.0, 0.0], [2.4375, 1.0, 1.0], v, &mut rows), 10);
+    assert_eq!(rows, [0; 30]);
+}
+
+#[test]
+fn sixteenths_agree_with_multiplication() {
+    let mut random = Random::new(12);
+    for _ in 0..200_000 {
+        let number = generate::float(&mut random, 64.0);
+        // scaling by 16 is exact here, but for overflow to infinity
+        let scaled = number * 16.0;
+        let taken = scaled.is_finite() && scaled.fract() == 0.0 && number.abs() <= 64.0;
+        let exact = sixteenths(number, 64);
+        assert_eq!(exact.is_ok(), taken, "{number:e}");
+        if let Ok(whole) = exact {
+            assert_eq!(whole as f64, scaled);
+        }
+    }
+}
+
+#[test]
+fn the_program() {
+    let scene = Scene {
+        axes: 2,
+        bits: 2,
+        rows: rows_of(&SCENE_ROWS),
+        first: ONE.to_vec(),
+        second: TWO.to_vec(),
+        first_frame: 0,
+        last_frame: 3,
+    };
+    let bytes = scene_bytes(&scene);
+    assert_eq!(bytes.len(), 190);
+    assert_eq!(clearance(&bytes), "axes 2 bits 2\nleaves 4 raw 13 room 31\nhit first 1 last 2 voxels 2\n");
+    let clear = scene_bytes(&Scene { last_frame: 0, ..scene_checked(&bytes).unwrap() });
+    assert_eq!(clearance(&clear), "axes 2 bits 2\nleaves 4 raw 13 room 31\nclear\n");
+    let outside = scene_bytes(&Scene { last_frame: 4, ..scene_checked(&bytes).unwrap() });
+    assert_eq!(clearance(&outside), "refused 9\n");
+    assert_eq!(clearance(b""), "refused 1\n");
+    assert_eq!(clearance(&[bytes.clone(), b"\n".to_vec()].concat()), "refused 1\n");
+    assert_eq!(clearance(&vec![0; 65_537]), "refused 1\n");
+    // the length needed is the number of blocks, and 32,768 are lent
+    let steep = Scene { axes: 2, bits: 10, rows: vec![0, 1024, -1023, 0, 0], first: vec![256], second: vec![1], first_frame: 0, last_frame: 1023 };
+    let text = clearance(&scene_bytes(&steep));
+    let run = Run::checked(2, 10, &steep.rows, &[&steep.first, &steep.second]).unwrap();
+    let blocks = run.blocks_within(1 << 30).unwrap();
+    if blocks > 32_768 {
+        assert_eq!(text, format!("refused 6 needed {blocks}\n"));
+    } else {
+        assert!(text.contains(&format!("raw {blocks} ")));
+    }
+}
+
+#[test]
+fn trees_are_refused_in_order() {
+    let rows = [[0i64; 5]; 2];
+    let number = |words: &[u16]| tree_checked(&rows, words).err().map_or(0, |refusal| refusal.number);
+    assert_eq!(number(&[]), 4);
+    assert_eq!(number(&[5; 256]), 5);
+    assert_eq!(number(&[5; 255]), 4);
+    assert_eq!(number(&[256]), 0);
+    assert_eq!(number(&[258]), 4);
+    assert_eq!(number(&[512]), 4);
+    assert_eq!(number(&[0, 1]), 4);
+    assert_eq!(number(&[0, 2]), 4);
+    let mut words = vec![1u16; 32];
+    words.extend([2; 31]);
+    assert_eq!(number(&words), 0);
+    words.insert(0, 0);
+    words.push(2);
+    assert_eq!(number(&words), 5);
+    words[32] = 258;
+    assert_eq!(number(&words), 4);
+    words[32] = 5;
+    assert_eq!(number(&words), 4);
+    words[32] = 257;
+    assert_eq!(number(&words), 5);
+    words[31] = 5;
+    assert_eq!(number(&words), 4);
+}
+
+#[test]
+fn reversal_and_minus() {
+    let all_zero = Halfspace([0; 5]);
+    let minus = without_minus(Tree::Minus(Box::new(all_zero.clone()), Box::new(all_zero)));
+    let universe = Universe::checked(2, 2).unwrap();
+    assert_eq!(raw_of(&universe, &minus), b"B");
+    // reversing twice gives the same marks
+    let mut random = Random::new(17);
+    for _ in 0..2000 {
+        let (axes, bits) = generate::small_universe(&mut random, 6);
+        let universe = Universe::checked(axes, bits).unwrap();
+        let rows = generate::rows(&mut random, axes, bits);
+        let words = generate::tree(&mut random, rows.len() / 5);
+        let read = tree_checked(&rows_checked(&universe, &rows).unwrap(), &words).unwrap();
+        let twice = without_minus(reversed(reversed(read.clone())));
+        assert_eq!(raw_of(&universe, &twice), raw_of(&universe, &without_minus(read)));
+    }
+}
+
+#[test]
+fn slow_and_fast_agree() {
+    let mut random = Random::new(1);
+    for round in 0..20_000 {
+        let most = if round % 50 == 0 { 12 } else { 8 };
+        let (axes, bits) = generate::small_universe(&mut random, most);
+        let universe = Universe::checked(axes, bits).unwrap();
+        let rows = generate::rows(&mut random, axes, bits);
+        let one = generate::tree(&mut random, rows.len() / 5);
+        let two = generate::tree(&mut random, rows.len() / 5);
+        let trees: &[&[u16]] = if random.chance(50) { &[&one] } else { &[&one, &two] };
+        let (_, read) = run_checked(axes, bits, &rows, trees).unwrap();
+        let tree = joined(&read);
+        let raw = raw_of(&universe, &tree);
+        let run = Run::checked(axes, bits, &rows, trees).unwrap();
+        assert_eq!(blocks_examined(&universe, &tree, &Block::whole(&universe)), raw.len() as u64);
+        assert_eq!(run.blocks_within(1 << 20), Some(raw.len() as u64));
+        assert_eq!(run.blocks_within(raw.len() as u64 / 2), None);
+        assert!(raw.len() as u64 <= run.room());
+        let leaves: u64 = trees.iter().map(|words| halfspace_words(words)).sum();
+        assert_eq!(run.room(), room_of(&universe, leaves));
+        // straight, gathered and too long
+        for lent in [run.room() as usize, raw.len(), raw.len() - 1] {
+            let mut out = vec![7; lent];
+            match plain_raw_fast(&run, &mut out) {
+                Ok(length) => {
+                    assert_eq!(out[..length], raw);
+                    assert!(out[length..].iter().all(|&byte| byte == 7));
+                }
+                Err(needed) => assert!(lent == raw.len() - 1 && needed == raw.len()),
+            }
+        }
+        let merged = merged_by_replacement(&raw);
+        assert!(is_merged(&merged));
+        let mut out = vec![7; merged.len()];
+        assert_eq!(plain_merged_fast(&run, &mut out), Ok(merged.len()));
+        assert_eq!(out, merged);
+        // the voxels of the expression are those of the tree
+        let shape = shape_checked(&universe, &raw).unwrap();
+        let flat = shape_checked(&universe, &merged).unwrap();
+        for voxel in universe.all_voxels() {
+            let black = black_at_centre(&tree, universe.axes, &voxel);
+            assert_eq!(black_at(&universe, &shape, &voxel), black);
+            assert_eq!(black_at(&universe, &flat, &voxel), black);
+        }
+        let volume = volume_of(&universe, &shape);
+        assert_eq!(volume_by_blocks(&universe, &shape), volume);
+        assert_eq!(plain_volume_fast(axes, bits, &raw), Some(volume));
+        assert_eq!(plain_volume_fast(axes, bits, &merged), Some(volume));
+        if trees.len() == 2 {
+            let first = random.below(1 << bits);
+            let last = first + random.below((1 << bits) - first);
+            let hit = verdict_by_voxels(&universe, &read[0], &read[1], first, last);
+            assert_eq!(verdict_by_blocks(&universe, &shape, first, last), hit);
+            let fields = match hit {
+                None => [0, 0, 0, 0, raw.len() as u64],
+                Some((from, to, count)) => [1, from, to, count, raw.len() as u64],
+            };
+            assert_eq!(plain_verdict_fast(&run, first, last, &mut vec![0; raw.len()]), Ok(fields));
+        }
+    }
+}
+
+#[test]
+fn parts_have_the_blocks_voxels() {
+    let mut random = Random::new(3);
+    for _ in 0..5000 {
+        let (axes, bits) = generate::small_universe(&mut random, 8);
+        let universe = Universe::checked(axes, bits).unwrap();
+        let symbols = generate::expression(&mut random, universe.levels());
+        let shape = shape_checked(&universe, &symbols).unwrap();
+        let path = generate::path(&mut random, universe.levels());
+        let mut answer = [0; 2];
+        assert_eq!(part(axes, bits, &symbols, &path, &mut answer), 0);
+        let symbols = &symbols[answer[0] as usize..(answer[0] + answer[1]) as usize];
+        // the block of the path, and in it each voxel by the part alone
+        let mut block = Block::whole(&universe);
+        for &turn in &path {
+            block = block.half(&universe, turn == 1);
+        }
+        let own = shape_at_level(&universe, symbols, block.level);
+        for voxel in universe.all_voxels().filter(|voxel| block.has(&universe, voxel)) {
+            assert_eq!(black_below(&universe, &own, block, &voxel), black_at(&universe, &shape, &voxel));
+        }
+    }
+}
+
+/// A part read as an expression of its own, whose first symbol is at a level.
+fn shape_at_level(universe: &Universe, symbols: &[u8], level: usize) -> Shape {
+    // where the part is one symbol of a leaf above, the level does not matter
+    let deeper: Vec<u8> = std::iter::repeat(b'(').take(level).chain(symbols.iter().copied()).collect();
+    let mut whole = deeper;
+    whole.extend(std::iter::repeat(b'W').take(level));
+    let mut shape = shape_checked(universe, &whole).unwrap();
+    for _ in 0..level {
+        shape = match shape.kind {
+            Kind::Halved(low, _) => *low,
+            _ => unreachable!(),
+        };
+    }
+    shape
+}
+
+fn black_below(universe: &Universe, shape: &Shape, block: Block, voxel: &[i64; 4]) -> bool {
+    match &shape.kind {
+        Kind::White => false,
+        Kind::Black => true,
+        Kind::Halved(low, high) => {
+            let half = block.half(universe, false);
+            if half.has(universe, voxel) {
+                black_below(universe, low, half, voxel)
+            } else {
+                black_below(universe, high, block.half(universe, true), voxel)
+            }
+        }
+    }
+}
+
+#[test]
+fn files_go_round() {
+    let mut random = Random::new(4);
+    for _ in 0..5000 {
+        let (axes, bits) = generate::small_universe(&mut random, 8);
+        let symbols = merged_by_replacement(&generate::expression(&mut random, (axes * bits) as usize));
+        let mut out = vec![7; symbols.len() + 12];
+        let mut answer = [0];
+        assert_eq!(shape_write(axes, bits, &symbols, &mut out, &mut answer), 0);
+        assert_eq!(answer[0] as usize, symbols.len() + 11);
+        assert_eq!(out.pop(), Some(7));
+        let mut back = vec![7; symbols.len()];
+        let mut fields = [0; 3];
+        assert_eq!(shape_read(&out, &mut back, &mut fields), 0);
+        assert_eq!((fields, back), ([axes, bits, symbols.len() as u64], symbols));
+    }
+    let mut fields = [9; 3];
+    assert_eq!(shape_read(b"BNT\x01\x00\x02\x02\x00\x00\x00\x00", &mut [], &mut fields), 7);
+    assert_eq!(shape_read(b"BNT\x01\x00\x02\x02\x01\x00\x00\x00", &mut [], &mut fields), 1);
+    assert_eq!(shape_read(b"BNT\x01\x00\x02\x02\x03\x00\x00\x00(BB", &mut [], &mut fields), 8);
+    assert_eq!(shape_read(b"BNT\x01\x00\x02\x02\x03\x00\x00\x00(BW", &mut [], &mut fields), 6);
+    assert_eq!(fields, [0, 0, 3]);
+}
