@@ -100,7 +100,7 @@ fn header() {
     changed(10, 1);
 }
 
-// Symbols that are no merged expression, and files too short or too long.
+// Symbols that are no merged expression.
 fn bodies() {
     changed(11, b'B');
     changed(15, b'W');
@@ -109,6 +109,10 @@ fn bodies() {
     changed(19, b'(');
     changed(19, b'B');
     changed(19, 0);
+}
+
+// Files too short or too long, and expressions of another kind.
+fn lengths() {
     read(b"empty", b"", &mut [b'.'; 10]);
     read(
         b"ten bytes",
@@ -193,5 +197,6 @@ fn main() {
     );
     header();
     bodies();
+    lengths();
     rooms();
 }
