@@ -109,9 +109,24 @@ fn bodies() {
     changed(19, b'(');
     changed(19, b'B');
     changed(19, 0);
+    read(
+        b"not merged",
+        b"BNT\x01\x00\x02\x02\x03\x00\x00\x00(BB",
+        &mut [b'.'; 10],
+    );
+    read(
+        b"not merged, no universe",
+        b"BNT\x01\x00\x05\x02\x03\x00\x00\x00(BB",
+        &mut [b'.'; 10],
+    );
+    read(
+        b"not merged, no room",
+        b"BNT\x01\x00\x02\x02\x03\x00\x00\x00(BB",
+        &mut [b'.'; 2],
+    );
 }
 
-// Files too short or too long, and expressions of another kind.
+// Files too short or too long.
 fn lengths() {
     read(b"empty", b"", &mut [b'.'; 10]);
     read(
@@ -138,21 +153,6 @@ fn lengths() {
         b"a newline",
         b"BNT\x01\x00\x02\x02\x09\x00\x00\x00(W(W(B(BW\n",
         &mut [b'.'; 10],
-    );
-    read(
-        b"not merged",
-        b"BNT\x01\x00\x02\x02\x03\x00\x00\x00(BB",
-        &mut [b'.'; 10],
-    );
-    read(
-        b"not merged, no universe",
-        b"BNT\x01\x00\x05\x02\x03\x00\x00\x00(BB",
-        &mut [b'.'; 10],
-    );
-    read(
-        b"not merged, no room",
-        b"BNT\x01\x00\x02\x02\x03\x00\x00\x00(BB",
-        &mut [b'.'; 2],
     );
 }
 
