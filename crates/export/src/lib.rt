@@ -1,7 +1,7 @@
 // The face for C and Rust: numbers and slices only. Each function returns the number of its refusal, 0 where it accepts, which is read first: all other
 // fields of a refused answer are zero, a verdict among them Clear and a colour WHITE. `durbizhan_leaves` alone returns a count.
-mod conversions;
-mod documents;
-mod expressions;
-mod proxies;
-mod verdicts;
+pub mod conversions;
+pub mod documents;
+pub mod expressions;
+pub mod proxies;
+pub mod verdicts;
