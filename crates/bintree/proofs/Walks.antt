@@ -1,16 +1,19 @@
--- What `walk` and `volume` answer, by the symbol where a walk begins and by what the walks over both parts told. Each law takes its premises in the
--- form that code leaves them, so that the proofs of the functions are a search for the law.
-use mathlib.Core.Path.{_≡_, refl, sym, ap, _∙_}
-use mathlib.Core.List.{List}
-use Prim.Native.Nat.{ℕ, zero, suc, _+_, _-_, _*_, _^_, _%_, _≤_, _<_}
-use native.Mathlib.Nat.{le-trans, pow-suc}
+-- What `walk` and `volume` answer. `restWalked` is what the tree at hand and the high halves owed tell, one behind the other; the loop of `walk` keeps
+-- it as it is, symbol by symbol: `(` puts two halves in place of a tree, a leaf is counted and left behind. Each law takes its premises in the form
+-- that code leaves them, so that the proofs of the functions are a search for the law.
+use mathlib.Core.Path.{_≡_, refl, sym, ap, ap₂, _∙_}
+use mathlib.Core.List.{List, [], _∷_}
+use Prim.Native.Nat.{ℕ, zero, suc, _+_, _-_, _^_, _≤_, _<_}
+use native.Mathlib.Nat.{two-pow-succ}
 use native.Mathlib.Omega.{arith}
 use borrow.Author.Needs.{needs}
+use lib.Count.{trailingZeros}
 use lib.ListN.{length, getD}
-use lib.Pow.{pow-mono, shl-exact}
+use lib.Pow.{pow-mono}
 use Rattle.universe.specs.declared.Universe.{Universe}
 use Rattle.universe.specs.Universe.{levels, universeRefusal}
 use Rattle.universe.proofs.Universes.{accepted, voxels-left}
+use Rattle.bintree.specs.declared.Colour.{Colour}
 use Rattle.bintree.specs.declared.Colour.the-variants.{White, Black}
 use Rattle.bintree.specs.declared.count.Walked.{Walked}
 use Rattle.bintree.specs.declared.count.Walked.the-variants.{Past, Nowhere}
@@ -20,10 +23,11 @@ use Rattle.bintree.specs.Counts.{volumeFrom}
 use Rattle.bintree.specs.Walks.{voxelsBelow, walked}
 use Rattle.bintree.specs.Answers.{volumeAnswer}
 use Rattle.bintree.proofs.Answers.{levels-few, levels-fit, checks-universe, checks-none, checks-read, counted-refused, counted-read, counted-checks}
+use Rattle.bintree.proofs.Owed.{mask, Rising, end, rising-rest, rising-under, rising-lower, mask-none, mask-more, mask-zero, mask-first, mask-zeros, bit-under}
 use Rattle.bintree.proofs.Shape.{depth-low, depth-high, halved-deep}
-use Rattle.bintree.proofs.Reading.{leaf-at, other-at, end-at, deep-at, low-missing, high-missing, both-read, stands, depth-stands, expression-none, expression-read, expression-rest}
+use Rattle.bintree.proofs.Reading.{leaf-at, other-at, end-at, deep-at, no-low, no-high, both-parts, stands, depth-stands, expression-none, expression-read, expression-rest}
 
--- the voxels below n levels are those of the block, and at most 2ⁿ
+-- the voxels below n levels are those of the block
 pub below-volume : (u : Universe) → 0 < u .axes → (n l : ℕ) (s : Shape) → l + n ≡ levels u → depth s ≤ n → voxelsBelow n s ≡ volumeFrom u l s
 unfolding voxelsBelow volumeFrom
 below-volume u some n l (leaf Black) e h = sym (voxels-left u some n l e)
@@ -32,39 +36,6 @@ below-volume u some zero l (halved a b) e h = absurd (halved-deep a b h)
 below-volume u some (suc n) l (halved a b) e h =
     let d : suc n - 1 ≡ n = omega arith in
     rw (d, below-volume u some n (suc l) a (omega arith) (depth-low a b n h), below-volume u some n (suc l) b (omega arith) (depth-high a b n h))
-
-pub below-most : (n : ℕ) (s : Shape) → depth s ≤ n → voxelsBelow n s ≤ 2 ^ n
-unfolding voxelsBelow
-below-most n (leaf Black) h = omega arith
-below-most n (leaf White) h = omega arith
-below-most zero (halved a b) h = absurd (halved-deep a b h)
-below-most (suc n) (halved a b) h =
-    let d : suc n - 1 ≡ n = omega arith in
-    let x = below-most n a (depth-low a b n h) in
-    let y = below-most n b (depth-high a b n h) in
-    rw d (omega (arith, pow-suc 2 n))
-
--- an answer from what is read
-walked-none : (p n : ℕ) {x : Reading} → x ≡ none → Nowhere ≡ walked p n x
-unfolding walked
-walked-none p n e = rw e
-
-walked-black : (p n : ℕ) {x : Reading} → n ≤ 40 → x ≡ read (leaf Black) → Past (p + 1) ((1 * 2 ^ n) % 2 ^ 64) ≡ walked p n x
-unfolding walked size voxelsBelow
-walked-black p n h e =
-    let a : (1 * 2 ^ n) % 2 ^ 64 ≡ 1 * 2 ^ n = shl-exact 1 n 64 (omega arith) (omega arith) in
-    let b : 1 * 2 ^ n ≡ 2 ^ n = omega arith in
-    rw (e, a, b)
-
-walked-white : (p n : ℕ) {x : Reading} → x ≡ read (leaf White) → Past (p + 1) 0 ≡ walked p n x
-unfolding walked size voxelsBelow
-walked-white p n e = rw e
-
-walked-halved : (p n q v r w : ℕ) (a b : Shape) {x : Reading} → x ≡ read (halved a b) → q ≡ p + 1 + size a → v ≡ voxelsBelow (n - 1) a → r ≡ q + size b → w ≡ voxelsBelow (n - 1) b → Past r (v + w) ≡ walked p n x
-unfolding walked size voxelsBelow
-walked-halved p n q v r w a b e f g h k =
-    let z : r ≡ p + suc (size a + size b) = omega arith in
-    rw (e, z, g, k)
 
 -- what is read from an answer
 pub nowhere-none : (p n : ℕ) (x : Reading) → Nowhere ≡ walked p n x → x ≡ none
@@ -83,52 +54,193 @@ unfolding walked
 passed p n q v none w = let z : _≡_ {A = ℕ} 0 1 = cc in absurd (omega arith)
 passed p n q v (read a) w = record { shape = a; is = refl; after = (cc); voxels = (cc) }
 
-passed-most : (s : List ℕ) (p n q v : ℕ) → n ≤ 40 → Past q v ≡ walked p (n - 1) (readAt s (n - 1) p) → v ≤ 2 ^ 40
-passed-most s p n q v h w =
-    let g = passed p (n - 1) q v (readAt s (n - 1) p) w in
-    let d = below-most (n - 1) (g .shape) (depth-stands (stands s (n - 1) p (g .shape) (g .is))) in
-    let k : n - 1 ≤ 40 = omega arith in
-    rw (g .voxels) (le-trans d (pow-mono k))
+-- a tree, and what comes behind it
+unfoldable pub onward : Reading → ℕ → ℕ → ℕ → (ℕ → ℕ → Walked) → Walked
+onward none l p v rest = Nowhere
+onward (read a) l p v rest = rest (p + size a) (v + voxelsBelow l a)
 
--- the laws of `walk`
-module _ (s : List ℕ) (n p : ℕ) where
-  pub walk-end : length s ≤ p → Nowhere ≡ walked p n (readAt s n p)
-  walk-end h = walked-none p n (end-at s n p h)
+-- trees one behind the other from place p on, by the levels left to each: the place after the last, and v voxels with their black ones
+unfoldable pub restWalked : List ℕ → List ℕ → ℕ → ℕ → Walked
+restWalked s [] p v = Past p v
+restWalked s (l ∷ ls) p v = onward (readAt s l p) l p v (λ q w. restWalked s ls q w)
 
-  pub walk-deep : getD s p 0 ≡ openSymbol → n ≡ 0 → Nowhere ≡ walked p n (readAt s n p)
-  walk-deep e h = walked-none p n (ap (λ m. readAt s m p) h ∙ deep-at s p e)
+module _ (s : List ℕ) where
+  rest-one : (p l : ℕ) → restWalked s (l ∷ []) p 0 ≡ walked p l (readAt s l p)
+  unfolding restWalked onward walked
+  rest-one p l = go (readAt s l p)
+    where
+      go : (x : Reading) → onward x l p 0 (λ q w. Past q w) ≡ walked p l x
+      go none = refl
+      go (read a) = let z : 0 + voxelsBelow l a ≡ voxelsBelow l a = omega arith in ap (Past (p + size a)) z
 
-  pub walk-black : n ≤ 40 → getD s p 0 ≡ symbolOf Black → Past (p + 1) ((1 * 2 ^ n) % 2 ^ 64) ≡ walked p n (readAt s n p)
-  walk-black h e = walked-black p n h (leaf-at s n p Black e)
+  module _ (ls : List ℕ) (p l v : ℕ) where
+    rest-none : readAt s l p ≡ none → restWalked s (l ∷ ls) p v ≡ Nowhere
+    unfolding restWalked onward
+    rest-none e = rw e
 
-  pub walk-white : getD s p 0 ≡ symbolOf White → Past (p + 1) 0 ≡ walked p n (readAt s n p)
-  walk-white e = walked-white p n (leaf-at s n p White e)
+    rest-read : (a : Shape) → readAt s l p ≡ read a → restWalked s (l ∷ ls) p v ≡ restWalked s ls (p + size a) (v + voxelsBelow l a)
+    unfolding restWalked onward
+    rest-read a e = rw e
 
-  pub walk-other : (getD s p 0 ≡ openSymbol → ⊥) → (getD s p 0 ≡ symbolOf Black → ⊥) → (getD s p 0 ≡ symbolOf White → ⊥) → Nowhere ≡ walked p n (readAt s n p)
-  walk-other h k l = walked-none p n (other-at s n p h k l)
+  -- `(` owes both halves
+  module _ (ls : List ℕ) (p l v : ℕ) (e : getD s p 0 ≡ openSymbol) where
+    rest-halved : (a b : Shape) → readAt s l (suc p) ≡ read a → readAt s l (suc p + size a) ≡ read b → restWalked s (suc l ∷ ls) p v ≡ restWalked s (l ∷ l ∷ ls) (suc p) v
+    unfolding size voxelsBelow
+    rest-halved a b f g =
+        let q : p + suc (size a + size b) ≡ suc p + size a + size b = omega arith in
+        let d : suc l - 1 ≡ l = omega arith in
+        let w : v + voxelsBelow (suc l) (halved a b) ≡ v + voxelsBelow l a + voxelsBelow l b = rw d (omega arith) in
+        rest-read ls p (suc l) v (halved a b) (both-parts s l p e a b f g)
+        ∙ ap₂ (restWalked s ls) q w
+        ∙ sym (rest-read (l ∷ ls) (suc p) l v a f ∙ rest-read ls (suc p + size a) l (v + voxelsBelow l a) b g)
 
-  pub walk-low : (r : Walked) → getD s p 0 ≡ openSymbol → (n ≡ 0 → ⊥) → r ≡ walked (p + 1) (n - 1) (readAt s (n - 1) (p + 1)) → r ≡ Nowhere → Nowhere ≡ walked p n (readAt s n p)
-  walk-low r e h f g = walked-none p n (low-missing s n p e h (nowhere-none _ _ _ (sym g ∙ f)))
+    rest-open : restWalked s (suc l ∷ ls) p v ≡ restWalked s (l ∷ l ∷ ls) (suc p) v
+    rest-open = low (readAt s l (suc p)) refl
+      where
+        high : (a : Shape) → readAt s l (suc p) ≡ read a → (y : Reading) → readAt s l (suc p + size a) ≡ y → restWalked s (suc l ∷ ls) p v ≡ restWalked s (l ∷ l ∷ ls) (suc p) v
+        high a f none g = rest-none ls p (suc l) v (no-high s l p e a f g) ∙ sym (rest-read (l ∷ ls) (suc p) l v a f ∙ rest-none ls (suc p + size a) l (v + voxelsBelow l a) g)
+        high a f (read b) g = rest-halved a b f g
 
-  module _ (q v : ℕ) (r₁ r₂ : Walked) (f : r₁ ≡ walked (p + 1) (n - 1) (readAt s (n - 1) (p + 1))) (g : r₁ ≡ Past q v) (i : r₂ ≡ walked q (n - 1) (readAt s (n - 1) q)) where
-    low-passed : Passed (p + 1) (n - 1) q v (readAt s (n - 1) (p + 1))
-    low-passed = passed (p + 1) (n - 1) q v (readAt s (n - 1) (p + 1)) (sym g ∙ f)
+        low : (x : Reading) → readAt s l (suc p) ≡ x → restWalked s (suc l ∷ ls) p v ≡ restWalked s (l ∷ l ∷ ls) (suc p) v
+        low none f = rest-none ls p (suc l) v (no-low s l p e f) ∙ sym (rest-none (l ∷ ls) (suc p) l v f)
+        low (read a) f = high a f (readAt s l (suc p + size a)) refl
 
-    pub walk-high : getD s p 0 ≡ openSymbol → (n ≡ 0 → ⊥) → r₂ ≡ Nowhere → Nowhere ≡ walked p n (readAt s n p)
-    walk-high e h j =
-        let w = low-passed in
-        walked-none p n (high-missing s n p e h (w .shape) (w .is) (ap (readAt s (n - 1)) (sym (w .after)) ∙ nowhere-none q (n - 1) (readAt s (n - 1) q) (sym j ∙ i)))
+-- where the loop of `walk` stands: a tree with l levels left begins at p, and behind it come the high halves owed; with v they tell what is asked
+pub record Walking (s : List ℕ) (asked : Walked) (p l owed v : ℕ) : Type 0 where
+  pub halves : List ℕ
+  pub owes : owed ≡ mask halves
+  pub rising : Rising l halves
+  pub fits : v + 2 ^ l + owed ≤ 2 ^ 40
+  pub tells : restWalked s (l ∷ halves) p v ≡ asked
 
-    pub walk-both : (t x : ℕ) → getD s p 0 ≡ openSymbol → (n ≡ 0 → ⊥) → r₂ ≡ Past t x → Past t (v + x) ≡ walked p n (readAt s n p)
-    walk-both t x e h j =
-        let w = low-passed in
-        let d = passed q (n - 1) t x (readAt s (n - 1) q) (sym j ∙ i) in
-        walked-halved p n q v t x (w .shape) (d .shape) (both-read s n p e h (w .shape) (d .shape) (w .is) (ap (readAt s (n - 1)) (sym (w .after)) ∙ d .is)) (w .after) (w .voxels) (d .after) (d .voxels)
+-- and behind a leaf: only the high halves owed are to come
+pub record Closed (s : List ℕ) (asked : Walked) (p owed v : ℕ) : Type 0 where
+  pub halves : List ℕ
+  pub owes : owed ≡ mask halves
+  pub rising : Rising 0 halves
+  pub fits : v + owed ≤ 2 ^ 40
+  pub tells : restWalked s halves p v ≡ asked
 
-    pub walk-fits : (t x : ℕ) → n ≤ 40 → r₂ ≡ Past t x → v + x < 2 ^ 64
-    walk-fits t x h j = omega (arith, passed-most s (p + 1) n q v h (sym g ∙ f), passed-most s q n t x h (sym j ∙ i))
+pub walking-first : (s : List ℕ) (p l : ℕ) → l ≤ 40 → Walking s (walked p l (readAt s l p)) p l 0 0
+walking-first s p l h =
+    record { halves = []; owes = sym mask-none; rising = end; fits = omega (arith, pow-mono h); tells = rest-one s p l }
 
-pub ruleset walk-laws = (needs, walk-end, walk-deep, walk-black, walk-white, walk-other, walk-low, walk-high, walk-both, walk-fits)
+module _ {s : List ℕ} {asked : Walked} {p l owed v : ℕ} (g : Walking s asked p l owed v) where
+  pub walking-few : l ≤ 40
+  walking-few = bit-under (omega (arith, g .fits))
+
+  -- nowhere: past the end, `(` with no level left, no symbol
+  pub walk-end : length s ≤ p → Nowhere ≡ asked
+  walk-end h = sym (rest-none s (g .halves) p l v (end-at s l p h)) ∙ g .tells
+
+  pub walk-deep : getD s p 0 ≡ openSymbol → l ≡ 0 → Nowhere ≡ asked
+  walk-deep e h = sym (rest-none s (g .halves) p l v (ap (λ m. readAt s m p) h ∙ deep-at s p e)) ∙ g .tells
+
+  pub walk-other : (getD s p 0 ≡ openSymbol → ⊥) → (getD s p 0 ≡ symbolOf Black → ⊥) → (getD s p 0 ≡ symbolOf White → ⊥) → Nowhere ≡ asked
+  walk-other h k i = sym (rest-none s (g .halves) p l v (other-at s l p h k i)) ∙ g .tells
+
+  -- `(`: the low half is next, and the high half is owed
+  module _ (some : l ≡ 0 → ⊥) where
+    split-bit : 2 ^ l ≡ 2 ^ (l - 1) + 2 ^ (l - 1)
+    split-bit = let d : l ≡ suc (l - 1) = omega arith in ap (λ n. 2 ^ n) d ∙ two-pow-succ (l - 1)
+
+    pub walk-below : l - 1 ≤ 40
+    walk-below = omega (arith, walking-few)
+
+    pub walk-owes : (bit : ℕ) → bit ≡ 2 ^ (l - 1) → owed + bit < 2 ^ 64
+    walk-owes bit b = omega (arith, g .fits, split-bit)
+
+    pub walk-open : (bit : ℕ) → getD s p 0 ≡ openSymbol → bit ≡ 2 ^ (l - 1) → Walking s asked (p + 1) (l - 1) (owed + bit) v
+    walk-open bit e b =
+        let d : l ≡ suc (l - 1) = omega arith in
+        let q : p + 1 ≡ suc p = omega arith in
+        record {
+          halves = (l - 1) ∷ g .halves;
+          owes = omega (arith, g .owes, mask-more (l - 1) (g .halves));
+          rising = rising-lower some (g .rising);
+          fits = omega (arith, g .fits, split-bit);
+          tells = rw q (sym (rest-open s (g .halves) p (l - 1) v e) ∙ ap (λ n. restWalked s (n ∷ g .halves) p v) (sym d) ∙ g .tells);
+        }
+
+  -- a leaf is counted and left behind
+  pub walk-fits : (bit : ℕ) → bit ≡ 2 ^ l → v + bit < 2 ^ 64
+  walk-fits bit b = omega (arith, g .fits)
+
+  closed : (c : Colour) (w : ℕ) → getD s p 0 ≡ symbolOf c → w ≡ v + voxelsBelow l (leaf c) → w + owed ≤ 2 ^ 40 → Closed s asked (p + 1) owed w
+  unfolding size
+  closed c w e f h =
+      record {
+        halves = g .halves;
+        owes = g .owes;
+        rising = rising-under (omega arith) (g .rising);
+        fits = h;
+        tells = rw f (sym (rest-read s (g .halves) p l v (leaf c) (leaf-at s l p c e)) ∙ g .tells);
+      }
+
+  pub walk-black : (bit : ℕ) → getD s p 0 ≡ symbolOf Black → bit ≡ 2 ^ l → Closed s asked (p + 1) owed (v + bit)
+  unfolding voxelsBelow
+  walk-black bit e b = closed Black (v + bit) e (ap (λ n. v + n) b) (omega (arith, g .fits))
+
+  pub walk-white : getD s p 0 ≡ symbolOf White → Closed s asked (p + 1) owed v
+  unfolding voxelsBelow
+  walk-white e = closed White v e (omega arith) (omega (arith, g .fits))
+
+-- the first of the high halves owed
+record Next (s : List ℕ) (asked : Walked) (p owed v : ℕ) : Type 0 where
+  pub first : ℕ
+  pub halves : List ℕ
+  pub owes : owed ≡ 2 ^ first + mask halves
+  pub zeros : trailingZeros 64 owed ≡ first
+  pub rising : Rising (suc first) halves
+  pub few : first ≤ 40
+  pub tells : restWalked s (first ∷ halves) p v ≡ asked
+
+next-of : (s : List ℕ) (asked : Walked) (p owed v : ℕ) (ls : List ℕ) → owed ≡ mask ls → Rising 0 ls → v + owed ≤ 2 ^ 40 → restWalked s ls p v ≡ asked → (owed ≡ 0 → ⊥) → Next s asked p owed v
+next-of s asked p owed v [] o r f t n = absurd (n (o ∙ mask-none))
+next-of s asked p owed v (l ∷ ls) o r f t n =
+    let few : l ≤ 40 = bit-under (omega (arith, mask-first l ls)) in
+    record {
+      first = l;
+      halves = ls;
+      owes = o ∙ mask-more l ls;
+      zeros = rw o (mask-zeros 64 r (omega arith));
+      rising = rising-rest r;
+      few = few;
+      tells = t;
+    }
+
+next-walking : {s : List ℕ} {asked : Walked} {p owed v : ℕ} (w : Next s asked p owed v) → v + owed ≤ 2 ^ 40 → (l bit : ℕ) → l ≡ w .first → bit ≡ 2 ^ l → Walking s asked p l (owed - bit) v
+next-walking w f l bit e b =
+    let k = ap (λ m. 2 ^ m) e in
+    record {
+      halves = w .halves;
+      owes = omega arith;
+      rising = rw e (rising-under (omega arith) (w .rising));
+      fits = omega arith;
+      tells = rw e (w .tells);
+    }
+
+module _ {s : List ℕ} {asked : Walked} {p owed v : ℕ} (g : Closed s asked p owed v) where
+  pub walk-past : owed ≡ 0 → Past p v ≡ asked
+  unfolding restWalked
+  walk-past z = ap (λ ls. restWalked s ls p v) (sym (mask-zero (g .halves) (sym (g .owes) ∙ z))) ∙ g .tells
+
+  module _ (n : owed ≡ 0 → ⊥) where
+    following : Next s asked p owed v
+    following = next-of s asked p owed v (g .halves) (g .owes) (g .rising) (g .fits) (g .tells) n
+
+    module _ (l : ℕ) (e : l ≡ trailingZeros 64 owed) where
+      pub next-few : l ≤ 40
+      next-few = let w = following in omega arith
+
+      pub next-owed : (bit : ℕ) → bit ≡ 2 ^ l → bit ≤ owed
+      next-owed bit b = let w = following in let k = ap (λ m. 2 ^ m) (e ∙ w .zeros) in omega arith
+
+      pub walk-next : (bit : ℕ) → bit ≡ 2 ^ l → Walking s asked p l (owed - bit) v
+      walk-next bit b = next-walking following (g .fits) l bit (e ∙ following .zeros) b
+
+pub ruleset walk-laws =
+    (needs, walking-first, walking-few, walk-end, walk-deep, walk-other, walk-below, walk-owes, walk-open, walk-fits)
 
 -- the laws of `volume`: `number` is the universe's own check, and the walk begins at the first symbol
 module _ (u : Universe) (s : List ℕ) (number : ℕ) (e : number ≡ universeRefusal u) where

@@ -1,7 +1,8 @@
 // How many black voxels an expression has, and whether it is well-formed: one walk tells both.
 ghost use mathlib.Core.Path.{_≡_};
 ghost use mathlib.Core.List.{[], _∷_};
-ghost use Prim.Native.Nat.{_≤_};
+ghost use Prim.Native.Nat.{_^_, _≤_};
+ghost use lib.Count.{trailingZeros};
 ghost use Rattle.universe.specs.Refusals.{firstRefusal};
 ghost use Rattle.universe.specs.Universe.{universeRefusal};
 ghost use Rattle.bintree.specs.Reading.{readAt, expressionRefusal};
@@ -16,33 +17,54 @@ pub(crate) enum Walked {
     Nowhere,
 }
 
-// Walks over the tree of at most `left` levels that begins at `at`.
+// The voxels of a block with `levels` left.
+fn voxels_of(levels: u64) -> u64
+    requires { ⌜ levels ≤ 40 ⌝ }
+    ensures { λ r. ⌜ r ≡ 2 ^ levels ⌝ }
+{
+    1 << levels
+}
+
+// The levels left to the smallest of the blocks whose voxels are `owed`, no two of them of one size.
+fn levels_of(owed: u64) -> u64
+    ensures { λ r. ⌜ r ≡ trailingZeros 64 owed ⌝ }
+{
+    u64::trailing_zeros(owed) as u64
+}
+
+// Walks over the tree of at most `left` levels that begins at `at`. `owed` counts the voxels of the high halves still to come: one bit for each, at
+// the levels left to it.
 pub(crate) fn walk(expression: &[u8], at: usize, left: u64) -> Walked
     requires { ⌜ left ≤ 40 ⌝ }
     ensures { λ r. ⌜ r ≡ walked at left (readAt (now (expression .entry)) left at) ⌝ }
 {
-    if expression.len() <= at {
-        return Walked::Nowhere;
-    }
-    let symbol = expression[at];
-    if symbol == b'(' {
-        if left == 0 {
-            return Walked::Nowhere;
+    let mut place = at;
+    let mut levels = left;
+    let mut owed: u64 = 0;
+    let mut voxels: u64 = 0;
+    while place < expression.len() {
+        let symbol = expression[place];
+        place += 1;
+        if symbol == b'(' {
+            if levels == 0 {
+                return Walked::Nowhere;
+            }
+            levels -= 1;
+            owed += voxels_of(levels);
+        } else {
+            if symbol == b'B' {
+                voxels += voxels_of(levels);
+            } else if symbol != b'W' {
+                return Walked::Nowhere;
+            }
+            if owed == 0 {
+                return Walked::Past(place, voxels);
+            }
+            levels = levels_of(owed);
+            owed -= voxels_of(levels);
         }
-        match walk(expression, at + 1, left - 1) {
-            Walked::Past(middle, low) => match walk(expression, middle, left - 1) {
-                Walked::Past(end, high) => Walked::Past(end, low + high),
-                Walked::Nowhere => Walked::Nowhere,
-            },
-            Walked::Nowhere => Walked::Nowhere,
-        }
-    } else if symbol == b'B' {
-        Walked::Past(at + 1, 1 << left)
-    } else if symbol == b'W' {
-        Walked::Past(at + 1, 0)
-    } else {
-        Walked::Nowhere
     }
+    Walked::Nowhere
 }
 
 // The black voxels of an expression.

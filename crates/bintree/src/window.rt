@@ -71,7 +71,17 @@ fn bits_below(universe: Universe, left: u64, bits: u64) -> u64
     }
 }
 
-// Walks over the tree of at most `left` levels that begins at `at` and stands for a block of 2^bits frames from `frame` on.
+// Where the frames of a block's high half begin: later by as many frames as the half has fewer.
+fn high_frame(frame: u64, bits: u64, below: u64) -> u64
+    requires { ⌜ below ≤ bits ⌝ }
+    requires { ⌜ frame + 2 ^ bits ≤ 1024 ⌝ }
+    ensures { λ r. ⌜ r ≡ frame + (2 ^ bits - 2 ^ below) ⌝ }
+{
+    frame + ((1 << bits) - (1 << below))
+}
+
+// Walks over the tree of at most `left` levels that begins at `at` and stands for a block of 2^bits frames from `frame` on. `owed` has a bit for each
+// high half still to come, at the levels left to it; `first_frames` and `frame_bits` hold its first frame and the bits of its frames at these levels.
 fn sweep(
     window: Window,
     expression: &[u8],
@@ -84,30 +94,44 @@ fn sweep(
     requires { ⌜ Carried (window .universe) left bits frame (contact .voxels) ⌝ }
     ensures { λ r. ⌜ r ≡ swept window at left frame contact (readAt (now (expression .entry)) left at) ⌝ }
 {
-    if expression.len() <= at {
-        return Swept::Nothing;
-    }
-    let symbol = expression[at];
-    if symbol == b'(' {
-        if left == 0 {
-            return Swept::Nothing;
-        }
-        let universe = window.universe;
-        let below = bits_below(universe, left, bits);
-        match sweep(window, expression, at + 1, left - 1, below, frame, contact) {
-            Swept::Until(middle, low) => {
-                let high = frame + ((1 << bits) - (1 << below));
-                sweep(window, expression, middle, left - 1, below, high, low)
+    let mut first_frames = [0u64; 40];
+    let mut frame_bits = [0u64; 40];
+    let mut place = at;
+    let mut levels = left;
+    let mut wide = bits;
+    let mut from = frame;
+    let mut owed: u64 = 0;
+    let mut found = contact;
+    while place < expression.len() {
+        let symbol = expression[place];
+        place += 1;
+        if symbol == b'(' {
+            if levels == 0 {
+                return Swept::Nothing;
             }
-            Swept::Nothing => Swept::Nothing,
+            let universe = window.universe;
+            let below = bits_below(universe, levels, wide);
+            levels -= 1;
+            first_frames[levels as usize] = high_frame(from, wide, below);
+            frame_bits[levels as usize] = below;
+            wide = below;
+            owed += 1 << levels;
+        } else {
+            if symbol == b'B' {
+                found = touch(window, found, from, wide, levels - wide);
+            } else if symbol != b'W' {
+                return Swept::Nothing;
+            }
+            if owed == 0 {
+                return Swept::Until(place, found);
+            }
+            levels = u64::trailing_zeros(owed) as u64;
+            owed -= 1 << levels;
+            from = first_frames[levels as usize];
+            wide = frame_bits[levels as usize];
         }
-    } else if symbol == b'B' {
-        Swept::Until(at + 1, touch(window, contact, frame, bits, left - bits))
-    } else if symbol == b'W' {
-        Swept::Until(at + 1, contact)
-    } else {
-        Swept::Nothing
     }
+    Swept::Nothing
 }
 
 // A refused answer.
