@@ -18,7 +18,8 @@
  * A lent buffer is a pointer and the number of its elements. It is not written to where the call is refused, nor past
  * what is written where it is not; `answer`, and the rows of a proxy, are always written, whole. What the caller owes:
  * each pointer is aligned and points to as many elements as are said, no pointer is NULL, that of an empty buffer
- * neither, and what a call writes to overlaps nothing else of that call. No function keeps a pointer or allocates.
+ * neither, and what a call writes to overlaps nothing else of that call. No function keeps a pointer or allocates; a
+ * conversion or a verdict takes up to 80 KiB of the stack.
  *
  * rows: five numbers a0 to a4 to a halfspace, which holds where a0 + a1*x1 + .. + a4*x4 >= 0.
  * words: a tree in postfix order: 0 WHITE, 1 BLACK, 2 UNION, 3 INTERSECTION, 4 MINUS, 256 + i halfspace i.

@@ -1,41 +1,37 @@
--- The answers of the conversions. The first check that refuses is the answer's number, and where none refuses the recursion is ready. An expression
--- that is no longer than the room formula needs no measuring.
-use Prim.Native.Nat.{ℕ, zero, suc, _+_, _*_, _^_, _≤_, _<_}
+-- The answers of the conversions. The first check that refuses is the answer's number, and where none refuses the recursion is ready. Room that is as
+-- large as the formula says suffices; else what was written into scratch room is copied, or written once more.
+use Prim.Native.Nat.{ℕ, zero, suc, _+_, _-_, _^_, _≤_, _<_}
 use mathlib.Core.Path.{_≡_, refl, sym, ap, ap₂, _∙_}
 use mathlib.Core.List.{List, [], _∷_}
 use native.Mathlib.Omega.{arith}
-use native.Mathlib.Decide.{decLe}
-use borrow.Author.Tests.{eq-eqb, ne-eqb, le-leb, lt-leb}
-use lib.Dec.{leb}
+use borrow.Author.Tests.{eq-eqb, ne-eqb}
 use lib.IntN.{ℤ}
-use lib.ListN.{length}
-use lib.Seq.{sets}
+use lib.ListN.{length, replicate}
+use lib.Seq.{sets, length-sets, paste}
 use Rattle.universe.specs.declared.Universe.{Universe}
-use Rattle.universe.specs.declared.Block.{Block}
 use Rattle.universe.specs.Refusals.{firstRefusal}
-use Rattle.universe.specs.Universe.{universeRefusal, levels}
-use Rattle.universe.specs.Block.{wholeBlock, low, high}
+use Rattle.universe.specs.Universe.{mostAxes, universeRefusal, levels, axisAt}
 use Rattle.universe.specs.declared.room.RoomAnswer.{RoomAnswer}
 use Rattle.universe.specs.Room.{room, roomAnswer}
 use Rattle.universe.proofs.Universes.{accepted, levels-few}
 use Rattle.bintree.specs.Shape.{Shape, symbols, size}
 use Rattle.bintree.specs.declared.Written.{Written}
 use Rattle.bintree.specs.Answers.{writtenAnswer, writtenBuffer}
-use Rattle.bintree.proofs.Shape.{length-symbols, size-positive}
+use Rattle.bintree.proofs.Shape.{length-symbols}
 use Rattle.bintree.proofs.Answers.{written-refused, kept-refused, written-short, kept-short, written-all, left-all}
-use Rattle.lemmas.proofs.Stores.{sets-first}
+use Rattle.lemmas.proofs.Stores.{sets-first, stores-copied}
 use Rattle.csg.specs.Halfspace.{rowCount, rowsRefusal, mostRows}
 use Rattle.csg.specs.Tree.{leaves}
 use Rattle.csg.specs.Words.{mostWords, treeRefusal, treeOf, halfspaceWords}
 use Rattle.csg.specs.Raw.{raw, examine}
 use Rattle.csg.proofs.Words.{accepted-length, tree-leaves, halfspace-words-most}
 use Rattle.demands.proofs.Room.{raw-room}
-use Rattle.convert.specs.declared.cell.Cell.{Cell}
-use Rattle.convert.specs.Cells.{Ready, RoomReady, Standing, treesOf, blockAt, wholeCell}
+use Rattle.convert.specs.Blocks.{Ready, RoomReady, Standing, treesOf, wholeSides}
 use Rattle.convert.specs.Shapes.{shapeOf}
-use Rattle.convert.specs.Answers.{refusalOfOne, refusalOfTwo, rawOfOne, rawOfTwo, lacking}
-use Rattle.convert.proofs.Cells.{whole-standing, whole-is}
+use Rattle.convert.specs.Answers.{refusalOfTwo, rawOfTwo}
+use Rattle.convert.proofs.Blocks.{whole-standing, whole-is, whole-axis}
 use Rattle.convert.proofs.Judging.{rows-few}
+use Rattle.convert.proofs.Shapes.{shape-small}
 
 -- ---- the checks in their order
 module _ (u : Universe) (rows : List ℤ) (first second : List ℕ) where
@@ -78,21 +74,25 @@ module _ {u : Universe} {rows : List ℤ} {first second : List ℕ} (r : Ready u
         second-few = accepted-length (rowCount rows) second (r .accepted-second);
       }
 
-  -- the whole universe's cell, and what its recursion writes
-  pub standing : {cell : Cell} → cell ≡ wholeCell u → Standing u (levels u) cell
+  -- the whole universe's block, and what its recursion writes
+  pub standing : {side : List ℕ} → side ≡ wholeSides u → Standing u (levels u) (replicate mostAxes 0) side
   standing e = rw e (whole-standing u (r .accepted-universe))
 
-  pub whole-shape : {cell : Cell} → cell ≡ wholeCell u → symbols (shapeOf u rows first second (levels u) (cell .low)) ≡ rawOfTwo u rows first second
+  pub first-axis : 0 ≡ axisAt u (levels u - levels u)
+  first-axis = whole-axis u (r .accepted-universe)
+
+  abbrev pub wholeShape : Shape
+  wholeShape = shapeOf u rows first second (levels u) (replicate mostAxes 0)
+
+  pub whole-symbols : symbols wholeShape ≡ rawOfTwo u rows first second
   unfolding shapeOf rawOfTwo
-  whole-shape e = rw (e, whole-is u)
+  whole-symbols = rw (whole-is u)
 
-  pub whole-length : {cell : Cell} → cell ≡ wholeCell u → size (shapeOf u rows first second (levels u) (cell .low)) ≡ length (rawOfTwo u rows first second)
-  whole-length {cell} e = sym (length-symbols (shapeOf u rows first second (levels u) (cell .low))) ∙ ap length (whole-shape e)
+  pub whole-length : size wholeShape ≡ length (rawOfTwo u rows first second)
+  whole-length = sym (length-symbols wholeShape) ∙ ap length whole-symbols
 
-  pub raw-some : 0 < length (rawOfTwo u rows first second)
-  raw-some =
-      rw (← whole-length {cell = wholeCell u} refl)
-      (size-positive (shapeOf u rows first second (levels u) (wholeCell u .low)))
+  pub whole-fits : 0 + size wholeShape < 2 ^ 64
+  whole-fits = omega (arith, shape-small r (standing refl))
 
   pub raw-in-room : length (rawOfTwo u rows first second) ≤ room u (halfspaceWords first + halfspaceWords second)
   unfolding rawOfTwo leaves
@@ -103,58 +103,34 @@ module _ {u : Universe} {rows : List ℤ} {first second : List ℕ} (r : Ready u
       few : rowCount rows ≤ mostRows
       few = rows-few u rows (r .accepted-rows)
 
--- what is lacking, by a test of the length or of room
-pub lacking-none : (lent : ℕ) (written : List ℕ) → length written ≤ lent → 0 ≡ lacking lent written
-lacking-none lent written h = rw (le-leb (length written) lent h)
+-- ---- the ends of a conversion that writes these symbols
+-- a refusal by the checks, which gave m
+pub answer-refused : {m n : ℕ} → m ≡ n → (out written : List ℕ) → (m ≡ 0 → ⊥) → (record { refusal = m; length = 0 } ≡ writtenAnswer n out written) × (out ≡ writtenBuffer n out written)
+answer-refused {m} e out written h = rw (← e) (written-refused m out written h, kept-refused m out written h)
 
-pub lacking-all : (lent : ℕ) (written : List ℕ) → lent < length written → length written ≡ lacking lent written
-lacking-all lent written h = rw (lt-leb (length written) lent h)
+-- too little room for k symbols
+pub answer-short : (out written : List ℕ) {k : ℕ} → k ≡ length written → length out < k → (record { refusal = 6; length = k } ≡ writtenAnswer 0 out written) × (out ≡ writtenBuffer 0 out written)
+answer-short out written {k} e h = rw e (written-short 0 out written refl (omega arith), kept-short 0 out written refl (omega arith))
 
-pub lacking-fits : (lent n : ℕ) (written : List ℕ) → 0 < length written → n ≡ lacking lent written → n ≡ 0 → length written ≤ lent
-lacking-fits lent n written p e z = go (decLe (length written) lent)
-  where
-    go : Dec (length written ≤ lent) → length written ≤ lent
-    go (yes h) = h
-    go (no h) = absurd (omega (arith, lacking-all lent written (omega arith)))
+-- k symbols written
+pub answer-written : (out written : List ℕ) {k : ℕ} {now : List ℕ} → k ≡ length written → k ≤ length out → now ≡ sets out 0 written → (record { refusal = 0; length = k } ≡ writtenAnswer 0 out written) × (now ≡ writtenBuffer 0 out written)
+answer-written out written {k} e f h =
+    let g : length written ≤ length out = omega arith in
+    rw (e, h) (written-all 0 out written refl g, sets-first written out g ∙ left-all 0 out written refl g)
 
-pub lacking-short : (lent n : ℕ) (written : List ℕ) → n ≡ lacking lent written → (n ≡ 0 → ⊥) → (lent < length written) × (n ≡ length written)
-lacking-short lent n written e h = go (decLe (length written) lent)
-  where
-    go : Dec (length written ≤ lent) → (lent < length written) × (n ≡ length written)
-    go (yes k) = absurd (h (e ∙ sym (lacking-none lent written k)))
-    go (no k) = (omega arith, e ∙ sym (lacking-all lent written (omega arith)))
+-- the same by way of scratch room that holds them all
+pub answer-copied : (out scratch before written : List ℕ) {k : ℕ} {now : List ℕ} → k ≡ length written → k ≤ length out → k ≤ length scratch → scratch ≡ sets before 0 written → now ≡ paste out 0 scratch k → (record { refusal = 0; length = k } ≡ writtenAnswer 0 out written) × (now ≡ writtenBuffer 0 out written)
+answer-copied out scratch before written {k} {now} e f g s p =
+    answer-written out written e f (p ∙ rw (e, s) (stores-copied written before out (omega (arith, ap length s, length-sets before 0 written)) (omega arith)))
 
--- ---- the three ends of a conversion that writes these symbols: m is what the checks gave
-module _ {m n : ℕ} (e : m ≡ n) (out written : List ℕ) where
-  pub answer-refused : (m ≡ 0 → ⊥) → (record { refusal = m; length = 0 } ≡ writtenAnswer n out written) × (out ≡ writtenBuffer n out written)
-  answer-refused h = rw (← e) (written-refused m out written h, kept-refused m out written h)
+-- where the checks gave 0, a conversion's answer after them is its answer
+pub answer-accepted : {m n : ℕ} → m ≡ n → m ≡ 0 → (out written : List ℕ) {answer : Written} {now : List ℕ} → (answer ≡ writtenAnswer 0 out written) × (now ≡ writtenBuffer 0 out written) → (answer ≡ writtenAnswer n out written) × (now ≡ writtenBuffer n out written)
+answer-accepted {m} {n} e z out written p = rw (sym e ∙ z) p
 
-  module _ (z : m ≡ 0) where
-    pub answer-short : {k : ℕ} → k ≡ lacking (length out) written → (k ≡ 0 → ⊥) → (record { refusal = 6; length = k } ≡ writtenAnswer n out written) × (out ≡ writtenBuffer n out written)
-    answer-short {k} f h =
-        let s = lacking-short (length out) k written f h in
-        rw (← e, s .1) (written-short m out written z (s .0), kept-short m out written z (s .0))
-
-    pub answer-written : {k : ℕ} {now : List ℕ} → length written ≤ length out → k ≡ length written → now ≡ sets out 0 written → (record { refusal = 0; length = k } ≡ writtenAnswer n out written) × (now ≡ writtenBuffer n out written)
-    answer-written f g h = rw (← e, g, h) (written-all m out written z f, sets-first written out f ∙ left-all m out written z f)
-
--- ---- what the raw expression lacks, by room or by what was measured; and what is written of it
+-- ---- room that is as large as the formula says suffices
 module _ {u : Universe} {rows : List ℤ} {first second : List ℕ} (r : Ready u rows first second) where
-  pub room-lent : {x lent : ℕ} → x ≡ room u (halfspaceWords first + halfspaceWords second) → x ≤ lent → 0 ≡ lacking lent (rawOfTwo u rows first second)
-  room-lent {x} {lent} e h = lacking-none lent (rawOfTwo u rows first second) (omega (arith, raw-in-room r))
-
-  module _ {cell : Cell} (e : cell ≡ wholeCell u) where
-    pub measured-none : {k lent : ℕ} → k ≡ size (shapeOf u rows first second (levels u) (cell .low)) → k ≤ lent → 0 ≡ lacking lent (rawOfTwo u rows first second)
-    measured-none {k} {lent} f h = lacking-none lent (rawOfTwo u rows first second) (omega (arith, whole-length r e))
-
-    pub measured-all : {k lent : ℕ} → k ≡ size (shapeOf u rows first second (levels u) (cell .low)) → lent < k → k ≡ lacking lent (rawOfTwo u rows first second)
-    measured-all {k} {lent} f h = let g : k ≡ length (rawOfTwo u rows first second) = f ∙ whole-length r e in g ∙ lacking-all lent (rawOfTwo u rows first second) (omega arith)
-
-    pub written-whole : (out : List ℕ) {now : List ℕ} → now ≡ sets out 0 (symbols (shapeOf u rows first second (levels u) (cell .low))) → now ≡ sets out 0 (rawOfTwo u rows first second)
-    written-whole out f = f ∙ ap (sets out 0) (whole-shape r e)
-
-  pub raw-fits : (lent n : ℕ) → n ≡ lacking lent (rawOfTwo u rows first second) → n ≡ 0 → length (rawOfTwo u rows first second) ≤ lent
-  raw-fits lent n e z = lacking-fits lent n (rawOfTwo u rows first second) (raw-some r) e z
+  pub raw-lent : {x lent : ℕ} → x ≡ room u (halfspaceWords first + halfspaceWords second) → x ≤ lent → length (rawOfTwo u rows first second) ≤ lent
+  raw-lent {x} {lent} e h = omega (arith, raw-in-room r)
 
 -- the room question's answer, for leaves that two calls counted
 pub room-is : (u : Universe) (first second : List ℕ) {x y : ℕ} {answer : RoomAnswer} → universeRefusal u ≡ 0 → x ≡ halfspaceWords first → y ≡ halfspaceWords second → answer ≡ roomAnswer u (x + y) → answer .symbols ≡ room u (halfspaceWords first + halfspaceWords second)

@@ -23,7 +23,7 @@ use Rattle.bintree.proofs.Judgements.{verdict-accepted}
 use Rattle.csg.specs.Raw.{raw}
 use Rattle.demands.proofs.Colours.{raw-shows}
 use Rattle.convert.specs.declared.verdict.Clearance.{Clearance}
-use Rattle.convert.specs.Cells.{Ready, treesOf}
+use Rattle.convert.specs.Blocks.{Ready, treesOf}
 use Rattle.convert.specs.Answers.{refusalOfTwo, rawOfTwo, clearanceRefusal, clearanceAnswer}
 
 clearance-eq : {m n a b : ℕ} {v w : Verdict} → m ≡ n → v ≡ w → a ≡ b → _≡_ {A = Clearance} (record { refusal = m; verdict = v; length = a }) (record { refusal = n; verdict = w; length = b })

@@ -1,26 +1,26 @@
 -- Codes and marks. Joining codes is joining marks, which antt computes over all the marks; so a tree's code is that of its mark and its
 -- reversal's, for any marks of the leaves: those over a block, or the colours at the centre of a voxel.
-use mathlib.Core.Path.{_≡_, refl, sym, ap, ap₂, _∙_}
+use mathlib.Core.Path.{_≡_, refl, ap₂, _∙_}
 use mathlib.Core.Bool.{Bool, true, false, cond, _&&_}
 use mathlib.Core.List.{List}
-use Prim.Native.Nat.{ℕ, _+_, _*_, _%_, _≤_, _<_}
+use Prim.Native.Nat.{ℕ, _+_, _%_, _≤_, _<_}
 use native.Mathlib.Omega.{arith}
 use lib.Dec.{T, eqb, eqb→eq, lit≤}
-use lib.IntN.{ℤ, pos, negℤ, _+ℤ_}
+use lib.IntN.{ℤ, pos, _+ℤ_, +ℤ-idr}
 use lib.Signed.{leZ}
 use Rattle.lemmas.proofs.Whole.{lt-out, leZ-false}
 use Rattle.lemmas.proofs.Totals.{below-negated}
 use Rattle.universe.specs.declared.Universe.{Universe}
 use Rattle.universe.specs.declared.Block.{Block}
-use Rattle.bintree.specs.declared.Colour.{Colour}
 use Rattle.bintree.specs.declared.Colour.the-variants.{White, Black}
-use Rattle.csg.specs.Halfspace.{Halfspace, Mark, decided, undecided, rowAt, negated, least, greatest, markOver, centreValue, colourAtCentre}
+use Rattle.csg.specs.Halfspace.{Halfspace, Mark, decided, undecided, negated, least, greatest, markOver, centreValue, colourAtCentre}
 use Rattle.csg.specs.Tree.{Leaf, white, black, halfspace, Operator, union, intersection, minus, Tree, leaf, node, Plain, colour, side, unionOf, intersectionOf, plain, reversal}
-use Rattle.csg.specs.Words.{fold, InRows, white-in, black-in, halfspace-in, node-in}
-use Rattle.csg.specs.Marks.{unionMark, intersectionMark, unionColour, intersectionColour, leafMark, leafColour, plainMark, plainColour}
+use Rattle.csg.specs.Words.{fold, InRows, halfspace-in, node-in}
+use Rattle.csg.specs.Marks.{unionMark, intersectionMark, leafMark, leafColour, plainMark, plainColour}
 use Rattle.csg.proofs.Halfspace.{negated-marks, centre-negated}
 use Rattle.csg.proofs.Marks.{union-colours, intersection-colours}
-use Rattle.convert.specs.Codes.{bitsOf, codeOf, spanCode, leafCode, joinCode, codeOfLeaf}
+use Rattle.convert.specs.declared.spread.Spread.{Spread}
+use Rattle.convert.specs.Codes.{bitsOf, codeOf, spreadCode, joinCode}
 
 -- the mark of two shapes joined, and that of the joined shape's reversal
 abbrev joined : Operator → Mark → Mark → Mark → Mark → Mark
@@ -106,10 +106,11 @@ own-bits a b = omega (arith, small a)
     small (decided White) = lit≤ tt
     small undecided = lit≤ tt
 
--- ---- a row's code is that of its marks
-pub code-of-marks : (h : Halfspace) (b : Block) → spanCode (least h b) (greatest h b) ≡ codeOf (markOver h b) (markOver (negated h) b)
+-- ---- a row's code is that of its marks: over a block the two tests of its spread are those of its least and greatest values, at the centre of a voxel
+-- both are of the value there
+pub code-of-marks : (h : Halfspace) (b : Block) (s : Spread) → leZ (s .reach) (s .doubled) ≡ leZ (pos 0) (least h b) → leZ (s .doubled +ℤ s .reach) (pos 0) ≡ leZ (greatest h b) (pos 0) → spreadCode (s .doubled) (s .reach) ≡ codeOf (markOver h b) (markOver (negated h) b)
 unfolding markOver
-code-of-marks h b = rw (negated-marks h b) (by (leZ (pos 0) (least h b)) (leZ (greatest h b) (pos 0)))
+code-of-marks h b s e f = rw (negated-marks h b, e, f) (by (leZ (pos 0) (least h b)) (leZ (greatest h b) (pos 0)))
   where
     by : (p q : Bool) → cond p (cond q 5 9) (cond q 6 0) ≡ codeOf (cond p (decided Black) (cond q (decided White) undecided)) (cond q (decided Black) (cond p (decided White) undecided))
     by true true = refl
@@ -117,10 +118,10 @@ code-of-marks h b = rw (negated-marks h b) (by (leZ (pos 0) (least h b)) (leZ (g
     by false true = refl
     by false false = refl
 
-pub code-of-colours : (h : Halfspace) (u : Universe) (v : List ℕ) → spanCode (centreValue u h v) (centreValue u h v) ≡ codeOf (decided (colourAtCentre u h v)) (decided (colourAtCentre u (negated h) v))
+pub code-of-colours : (h : Halfspace) (u : Universe) (v : List ℕ) → spreadCode (centreValue u h v) (pos 0) ≡ codeOf (decided (colourAtCentre u h v)) (decided (colourAtCentre u (negated h) v))
 unfolding colourAtCentre
 code-of-colours h u v =
-    rw (centre-negated h u v, below-negated (centreValue u h v))
+    rw (+ℤ-idr (centreValue u h v), centre-negated h u v, below-negated (centreValue u h v))
     (by (centreValue u h v) (leZ (pos 0) (centreValue u h v)) (leZ (centreValue u h v) (pos 0)) refl refl)
   where
     by : (z : ℤ) (p q : Bool) → leZ (pos 0) z ≡ p → leZ z (pos 0) ≡ q → cond p (cond q 5 9) (cond q 6 0) ≡ codeOf (decided (cond p Black White)) (decided (cond q Black White))

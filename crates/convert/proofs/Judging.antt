@@ -1,17 +1,17 @@
--- Judging a cell is judging its block: the ends of a cell give the block's least and greatest values, so the code of a tree is that of its mark over
--- the block, and at level L that of its colour at the centre, which is the same wherever the mark is decided.
-use Prim.Native.Nat.{ℕ, zero, suc, _+_, _-_, _*_, _%_, _≤_, _<_}
-use mathlib.Core.Path.{_≡_, refl, sym, ap, ap₂, subst, _∙_}
+-- Judging by a low corner and sides is judging their block: the two tests of a row's spread are those of its least and greatest values over the block,
+-- so the code of a tree is that of its mark there, and at level L that of its colour at the centre, which is the same wherever the mark is decided.
+use Prim.Native.Nat.{ℕ, zero, suc, _-_, _%_, _≤_, _<_}
+use mathlib.Core.Path.{_≡_, refl, sym, ap, ap₂, _∙_}
 use mathlib.Core.Bool.{Bool, true, false, cond, _&&_}
 use mathlib.Core.List.{List}
 use native.Mathlib.Nat.{le-refl, le-trans}
 use native.Mathlib.Omega.{arith}
 use borrow.Author.Tests.{leb-true}
 use lib.Dec.{eqb, leb, ltb, eqb·suc-zero}
-use lib.IntN.{ℤ, pos, natAbs, _+ℤ_, _*ℤ_}
-use lib.ListN.{length, getD}
-use Rattle.lemmas.specs.Sums.{total, every}
-use Rattle.lemmas.proofs.Sums.{total-cong, and-left, and-right, every-all}
+use lib.IntN.{ℤ, natAbs}
+use lib.ListN.{length}
+use Rattle.lemmas.specs.Sums.{every}
+use Rattle.lemmas.proofs.Sums.{and-left, and-right, every-all}
 use Rattle.universe.specs.declared.Universe.{Universe}
 use Rattle.universe.specs.declared.Block.{Block}
 use Rattle.universe.specs.Universe.{mostAxes, offsetLimit, coefficientLimit, levels, blockSide}
@@ -22,20 +22,20 @@ use Rattle.universe.proofs.Universes.{accepted, side-positive, side-last}
 use Rattle.bintree.specs.declared.Colour.{Colour}
 use Rattle.bintree.specs.declared.Colour.the-variants.{White, Black}
 use Rattle.bintree.specs.Shape.{leaf, halved}
-use Rattle.csg.specs.Halfspace.{Halfspace, Mark, decided, undecided, rowCount, rowAt, withinLimits, rowsRefusal, lesser, greater, least, greatest, markOver, centreValue, colourAtCentre, mostRows, rowLength}
-use Rattle.csg.specs.Tree.{Tree, white, black, halfspace, plain, reversal}
-use Rattle.csg.specs.Words.{treeRefusal, treeOf, fold, InRows}
+use Rattle.csg.specs.Halfspace.{Halfspace, Mark, decided, undecided, rowCount, rowAt, withinLimits, rowsRefusal, mostRows, rowLength}
+use Rattle.csg.specs.Tree.{Tree, halfspace, plain, reversal}
+use Rattle.csg.specs.Words.{treeOf, InRows}
 use Rattle.csg.specs.Marks.{intersectionMark, leafMark, leafColour, plainMark, plainColour, treeMark, treeColour}
 use Rattle.csg.specs.Raw.{both, examine}
-use Rattle.csg.proofs.Halfspace.{voxel-sum}
 use Rattle.csg.proofs.Words.{tree-in-rows}
 use Rattle.csg.proofs.Marks.{intersection-colours, tree-sound}
 use Rattle.csg.proofs.Raw.{examine-decided, examine-undecided, examine-voxel}
-use Rattle.convert.specs.declared.cell.Cell.{Cell}
 use Rattle.convert.specs.Small.{SmallCoefficient, SmallHalfspace, JudgeReady}
-use Rattle.convert.specs.Codes.{leastBetween, greatestBetween, bitsOf, codeOf, leafCode, joinCode, codeOfLeaf, codeOfTree}
-use Rattle.convert.specs.Cells.{Ready, Standing, treesOf, blockAt, judged}
-use Rattle.convert.proofs.Codes.{markBy, mark-over, mark-at, code-tree, own-bits, code-of-marks, code-of-colours}
+use Rattle.convert.specs.Codes.{spreadOf, bitsOf, codeOf, codeOfLeaf, codeOfTree}
+use Rattle.convert.specs.Blocks.{Ready, Standing, treesOf, blockAt, judged}
+use Rattle.convert.proofs.Spreads.{black-test, white-test, centre-doubled}
+use Rattle.convert.proofs.Blocks.{low-small, side-small}
+use Rattle.convert.proofs.Codes.{mark-over, mark-at, code-tree, own-bits, code-of-marks, code-of-colours}
 
 -- ---- rows that are not refused are small
 limit-most : (b : Bool) → cond b coefficientLimit 0 ≤ coefficientLimit
@@ -77,69 +77,62 @@ module _ (u : Universe) (rows : List ℤ) (e : rowsRefusal u rows ≡ 0) where
   unfolding within
   small-rows i l = within-small u (rowAt rows i) (every-all (rowCount rows) within (and-right (fives && few) (every (rowCount rows) within) good) i l)
 
--- ---- a cell's ends are its block's
-module _ {u : Universe} {rows : List ℤ} {first second : List ℕ} (r : Ready u rows first second) {left : ℕ} {cell : Cell} (s : Standing u left cell) where
+-- ---- a corner and sides are those of a block
+module _ {u : Universe} {rows : List ℤ} {first second : List ℕ} (r : Ready u rows first second) {left : ℕ} {corner side : List ℕ} (s : Standing u left corner side) where
   abbrev b : Block
-  b = blockAt u left (cell .low)
+  b = blockAt u left corner
 
-  pub judge-ready : JudgeReady (u .axes) rows (cell .low) (cell .high)
+  pub judge-ready : JudgeReady (u .axes) rows corner side
   judge-ready =
-      record { few = accepted u (r .accepted-universe) .few-axes; small = small-rows u rows (r .accepted-rows); lows = s .lows; highs = s .highs }
-
-  least-is : (h : Halfspace) → leastBetween (u .axes) h (cell .low) (cell .high) ≡ least h b
-  unfolding leastBetween least
-  least-is h = ap (λ (z : ℤ). h .offset +ℤ z) (total-cong (u .axes) _ _ (λ i l. rw (s .ends i l)))
-
-  greatest-is : (h : Halfspace) → greatestBetween (u .axes) h (cell .low) (cell .high) ≡ greatest h b
-  unfolding greatestBetween greatest
-  greatest-is h = ap (λ (z : ℤ). h .offset +ℤ z) (total-cong (u .axes) _ _ (λ i l. rw (s .ends i l)))
+      let a = accepted u (r .accepted-universe) in
+      record { some = a .some-axes; few = a .few-axes; small = small-rows u rows (r .accepted-rows); lows = low-small s; sides = side-small s }
 
   -- the code of a tree over a block
-  row-over : (i : ℕ) → codeOfLeaf (u .axes) rows (cell .low) (cell .high) false (halfspace i) ≡ codeOf (leafMark rows false i b) (leafMark rows true i b)
+  row-over : (i : ℕ) → codeOfLeaf (u .axes) rows corner side false (halfspace i) ≡ codeOf (leafMark rows false i b) (leafMark rows true i b)
   unfolding codeOfLeaf leafMark
-  row-over i = rw (least-is (rowAt rows i), greatest-is (rowAt rows i)) (code-of-marks (rowAt rows i) b)
+  row-over i = let h = rowAt rows i in code-of-marks h b (spreadOf (u .axes) h corner side) (black-test h b side (s .along)) (white-test h b side (s .along))
 
-  over-block : (t : Tree) → InRows (rowCount rows) t → codeOfTree (u .axes) rows (cell .low) (cell .high) false t ≡ codeOf (plainMark rows (plain t) b) (plainMark rows (reversal t) b)
+  over-block : (t : Tree) → InRows (rowCount rows) t → codeOfTree (u .axes) rows corner side false t ≡ codeOf (plainMark rows (plain t) b) (plainMark rows (reversal t) b)
   unfolding codeOfTree codeOfLeaf
   over-block t h =
-      code-tree (codeOfLeaf (u .axes) rows (cell .low) (cell .high) false) (λ turned i. leafMark rows turned i b) refl refl (rowCount rows) (λ i l. row-over i) t h
+      code-tree (codeOfLeaf (u .axes) rows corner side false) (λ turned i. leafMark rows turned i b) refl refl (rowCount rows) (λ i l. row-over i) t h
       ∙ ap₂ codeOf (mark-over rows b (plain t)) (mark-over rows b (reversal t))
 
 -- ---- a voxel's block holds its own low corner, and is one unit long along each axis
 pub own-corner : (b : Block) → Within b (b .low)
 own-corner b = record { above = λ i l. le-refl _; below = λ i l. omega (arith, side-positive (b .universe) (b .level) i) }
 
-module _ {u : Universe} {rows : List ℤ} {first second : List ℕ} (r : Ready u rows first second) {cell : Cell} (s : Standing u 0 cell) where
+module _ {u : Universe} {rows : List ℤ} {first second : List ℕ} (r : Ready u rows first second) {corner side : List ℕ} (s : Standing u 0 corner side) where
   abbrev v : Block
-  v = blockAt u 0 (cell .low)
+  v = blockAt u 0 corner
 
   unit : (i : ℕ) → i < u .axes → blockSide u (levels u - 0) i ≡ 1
   unit i l = let z : levels u - 0 ≡ levels u = omega arith in rw z (side-last u i l)
 
-  row-at : (i : ℕ) → codeOfLeaf (u .axes) rows (cell .low) (cell .high) true (halfspace i) ≡ codeOf (decided (leafColour rows u false i (cell .low))) (decided (leafColour rows u true i (cell .low)))
+  row-at : (i : ℕ) → codeOfLeaf (u .axes) rows corner side true (halfspace i) ≡ codeOf (decided (leafColour rows u false i corner)) (decided (leafColour rows u true i corner))
   unfolding codeOfLeaf leafColour
-  row-at i = rw (least-is r s (rowAt rows i), greatest-is r s (rowAt rows i), voxel-sum (rowAt rows i) v unit) (code-of-colours (rowAt rows i) u (cell .low))
+  row-at i = let h = rowAt rows i in rw (centre-doubled h v side (s .along) unit) (code-of-colours h u corner)
 
-  over-voxel : (t : Tree) → InRows (rowCount rows) t → codeOfTree (u .axes) rows (cell .low) (cell .high) true t ≡ codeOf (decided (plainColour rows u (plain t) (cell .low))) (decided (plainColour rows u (reversal t) (cell .low)))
+  over-voxel : (t : Tree) → InRows (rowCount rows) t → codeOfTree (u .axes) rows corner side true t ≡ codeOf (decided (plainColour rows u (plain t) corner)) (decided (plainColour rows u (reversal t) corner))
   unfolding codeOfTree codeOfLeaf
   over-voxel t h =
-      code-tree (codeOfLeaf (u .axes) rows (cell .low) (cell .high) true) (λ turned i. decided (leafColour rows u turned i (cell .low))) refl refl (rowCount rows) (λ i l. row-at i) t h
-      ∙ ap₂ codeOf (mark-at rows u (cell .low) (plain t)) (mark-at rows u (cell .low) (reversal t))
+      code-tree (codeOfLeaf (u .axes) rows corner side true) (λ turned i. decided (leafColour rows u turned i corner)) refl refl (rowCount rows) (λ i l. row-at i) t h
+      ∙ ap₂ codeOf (mark-at rows u corner (plain t)) (mark-at rows u corner (reversal t))
 
 -- ---- the code of a tree of the run says how it is judged
-judged-code : {u : Universe} {rows : List ℤ} {first second : List ℕ} → Ready u rows first second → (left : ℕ) {cell : Cell} → Standing u left cell → (t : Tree) → InRows (rowCount rows) t → codeOfTree (u .axes) rows (cell .low) (cell .high) (eqb left 0) t % 4 ≡ bitsOf (judged rows t left (blockAt u left (cell .low)))
+judged-code : {u : Universe} {rows : List ℤ} {first second : List ℕ} → Ready u rows first second → (left : ℕ) {corner side : List ℕ} → Standing u left corner side → (t : Tree) → InRows (rowCount rows) t → codeOfTree (u .axes) rows corner side (eqb left 0) t % 4 ≡ bitsOf (judged rows t left (blockAt u left corner))
 unfolding judged
-judged-code {u} {rows} r zero {cell} s t h =
-    rw (over-voxel r s t h) (own-bits (decided (plainColour rows u (plain t) (cell .low))) (decided (plainColour rows u (reversal t) (cell .low))))
-judged-code {u} {rows} r (suc n) {cell} s t h =
-    let b = blockAt u (suc n) (cell .low) in
+judged-code {u} {rows} r zero {corner} s t h =
+    rw (over-voxel r s t h) (own-bits (decided (plainColour rows u (plain t) corner)) (decided (plainColour rows u (reversal t) corner)))
+judged-code {u} {rows} r (suc n) {corner} s t h =
+    let b = blockAt u (suc n) corner in
     rw (eqb·suc-zero n, over-block r s t h) (own-bits (plainMark rows (plain t) b) (plainMark rows (reversal t) b))
 
-module _ {u : Universe} {rows : List ℤ} {first second : List ℕ} (r : Ready u rows first second) (left : ℕ) {cell : Cell} (s : Standing u left cell) where
-  pub first-code : codeOfTree (u .axes) rows (cell .low) (cell .high) (eqb left 0) (treeOf (rowCount rows) first) % 4 ≡ bitsOf (judged rows (treeOf (rowCount rows) first) left (blockAt u left (cell .low)))
+module _ {u : Universe} {rows : List ℤ} {first second : List ℕ} (r : Ready u rows first second) (left : ℕ) {corner side : List ℕ} (s : Standing u left corner side) where
+  pub first-code : codeOfTree (u .axes) rows corner side (eqb left 0) (treeOf (rowCount rows) first) % 4 ≡ bitsOf (judged rows (treeOf (rowCount rows) first) left (blockAt u left corner))
   first-code = judged-code r left s _ (tree-in-rows (rowCount rows) first (r .accepted-first))
 
-  pub second-code : codeOfTree (u .axes) rows (cell .low) (cell .high) (eqb left 0) (treeOf (rowCount rows) second) % 4 ≡ bitsOf (judged rows (treeOf (rowCount rows) second) left (blockAt u left (cell .low)))
+  pub second-code : codeOfTree (u .axes) rows corner side (eqb left 0) (treeOf (rowCount rows) second) % 4 ≡ bitsOf (judged rows (treeOf (rowCount rows) second) left (blockAt u left corner))
   second-code = judged-code r left s _ (tree-in-rows (rowCount rows) second (r .accepted-second))
 
 -- two trees intersected are judged as their marks are joined
@@ -178,26 +171,26 @@ open-first undecided (decided Black) p q w = refl
 open-first undecided undecided p q w = refl
 
 -- the two trees' codes x and y give how their intersection is judged
-module _ {u : Universe} {rows : List ℤ} {first second : List ℕ} (r : Ready u rows first second) (left : ℕ) {cell : Cell} (s : Standing u left cell) (x : ℕ) (p : x ≡ codeOfTree (u .axes) rows (cell .low) (cell .high) (eqb left 0) (treeOf (rowCount rows) first)) where
+module _ {u : Universe} {rows : List ℤ} {first second : List ℕ} (r : Ready u rows first second) (left : ℕ) {corner side : List ℕ} (s : Standing u left corner side) (x : ℕ) (p : x ≡ codeOfTree (u .axes) rows corner side (eqb left 0) (treeOf (rowCount rows) first)) where
   abbrev whole : Mark
-  whole = judged rows (treesOf rows first second) left (blockAt u left (cell .low))
+  whole = judged rows (treesOf rows first second) left (blockAt u left corner)
 
   abbrev one : Mark
-  one = judged rows (treeOf (rowCount rows) first) left (blockAt u left (cell .low))
+  one = judged rows (treeOf (rowCount rows) first) left (blockAt u left corner)
 
   abbrev other : Mark
-  other = judged rows (treeOf (rowCount rows) second) left (blockAt u left (cell .low))
+  other = judged rows (treeOf (rowCount rows) second) left (blockAt u left corner)
 
   bits-one : x % 4 ≡ bitsOf one
   bits-one = ap (λ (z : ℕ). z % 4) p ∙ first-code r left s
 
   whole-is : whole ≡ intersectionMark one other
-  whole-is = both-judged rows (treeOf (rowCount rows) first) (treeOf (rowCount rows) second) left (blockAt u left (cell .low))
+  whole-is = both-judged rows (treeOf (rowCount rows) first) (treeOf (rowCount rows) second) left (blockAt u left corner)
 
   pub first-white : x % 4 ≡ 2 → 2 ≡ bitsOf whole
   first-white e = rw whole-is (sym (white-first one other (sym bits-one ∙ e)))
 
-  module _ (y : ℕ) (q : y ≡ codeOfTree (u .axes) rows (cell .low) (cell .high) (eqb left 0) (treeOf (rowCount rows) second)) where
+  module _ (y : ℕ) (q : y ≡ codeOfTree (u .axes) rows corner side (eqb left 0) (treeOf (rowCount rows) second)) where
     bits-other : y % 4 ≡ bitsOf other
     bits-other = ap (λ (z : ℕ). z % 4) q ∙ second-code r left s
 

@@ -1,7 +1,7 @@
--- Laws of how the conversion judges.
-pub mod Spans
+-- Laws of how the conversion judges and writes.
+pub mod Spreads
 pub mod Codes
-pub mod Cells
+pub mod Blocks
 pub mod Judging
 pub mod Shapes
 pub mod Pieces

@@ -13,9 +13,8 @@ use Rattle.bintree.specs.Merging.{merged}
 use Rattle.bintree.specs.Walks.{heldOf, isAlike, opened, laid}
 use Rattle.bintree.proofs.Merging.{merged-size}
 use Rattle.bintree.proofs.Lays.{merged-same, merged-apart, leaf-laid, apart-laid}
-use Rattle.convert.specs.declared.cell.Cell.{Cell}
 use Rattle.convert.specs.declared.merged.Piece.{Piece}
-use Rattle.convert.specs.Cells.{lowerCell, upperCell}
+use Rattle.convert.specs.Blocks.{highCorner}
 use Rattle.convert.specs.Shapes.{shapeOf, symbolOfBits, pieceOf}
 use Rattle.convert.proofs.Shapes.{Closed, Opened, halves-shape, halves-size}
 
@@ -23,27 +22,27 @@ piece-eq : {a b e f : ℕ} → a ≡ b → e ≡ f → _≡_ {A = Piece} (record
 piece-eq p q = λ i. record { held = p i; end = q i }
 
 -- a block that is judged BLACK or WHITE is held back
-pub piece-closed : {u : Universe} {rows : List ℤ} {first second : List ℕ} {left : ℕ} {cell : Cell} {x y : ℕ} → Closed u rows first second left cell x → y ≡ symbolOfBits x → (out : List ℕ) (at : ℕ) →
-    (_≡_ {A = Piece} (record { held = y; end = at + 1 }) (pieceOf at (merged (shapeOf u rows first second left (cell .low))))) × (out ≡ laid out at (merged (shapeOf u rows first second left (cell .low))))
+pub piece-closed : {u : Universe} {rows : List ℤ} {first second : List ℕ} {left : ℕ} {low : List ℕ} {x y : ℕ} → Closed u rows first second left low x → y ≡ symbolOfBits x → (out : List ℕ) (at : ℕ) →
+    (_≡_ {A = Piece} (record { held = y; end = at + 1 }) (pieceOf at (merged (shapeOf u rows first second left low)))) × (out ≡ laid out at (merged (shapeOf u rows first second left low)))
 unfolding merged heldOf size laid
 piece-closed d e out at = rw (d .shape) (piece-eq (e ∙ d .symbol) refl, refl)
 
-module _ {u : Universe} {rows : List ℤ} {first second : List ℕ} {left : ℕ} {cell low-cell high-cell : Cell} (o : Opened u rows first second left cell) (l : low-cell ≡ lowerCell (u .axes) cell) (h : high-cell ≡ upperCell (u .axes) cell) where
+module _ {u : Universe} {rows : List ℤ} {first second : List ℕ} {left : ℕ} {corner side high-corner : List ℕ} {axis : ℕ} (o : Opened u rows first second left corner side axis) (h : high-corner ≡ highCorner corner side axis) where
   abbrev low-part : Shape
-  low-part = shapeOf u rows first second (left - 1) (low-cell .low)
+  low-part = shapeOf u rows first second (left - 1) corner
 
   abbrev high-part : Shape
-  high-part = shapeOf u rows first second (left - 1) (high-cell .low)
+  high-part = shapeOf u rows first second (left - 1) high-corner
 
   abbrev whole : Shape
-  whole = shapeOf u rows first second left (cell .low)
+  whole = shapeOf u rows first second left corner
 
   whole-merged : merged whole ≡ merged (halved low-part high-part)
-  whole-merged = ap merged (halves-shape o l h)
+  whole-merged = ap merged (halves-shape o h)
 
   -- the places go on: the second half begins no later than the first would end unmerged
   pub piece-fits : (at : ℕ) (low : Piece) → low ≡ pieceOf (at + 1) (merged low-part) → at + size whole < 2 ^ 64 → low .end + size high-part < 2 ^ 64
-  piece-fits at low p f = omega (arith, halves-size o l h, ap (λ (x : Piece). x .end) p, merged-size low-part)
+  piece-fits at low p f = omega (arith, halves-size o h, ap (λ (x : Piece). x .end) p, merged-size low-part)
 
   module _ (out one two : List ℕ) (at : ℕ) (low high : Piece) (p : low ≡ pieceOf (at + 1) (merged low-part)) (q : one ≡ laid out (at + 1) (merged low-part)) (r : high ≡ pieceOf (low .end) (merged high-part)) (s : two ≡ laid one (low .end) (merged high-part)) where
     low-held : low .held ≡ heldOf (merged low-part)

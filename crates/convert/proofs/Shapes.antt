@@ -14,22 +14,21 @@ use lib.Seq.{sets}
 use Rattle.lemmas.proofs.Stores.{sets-append}
 use Rattle.universe.specs.declared.Universe.{Universe}
 use Rattle.universe.specs.declared.Block.{Block}
-use Rattle.universe.specs.Universe.{levels}
-use Rattle.universe.specs.Block.{low, high}
+use Rattle.universe.specs.Universe.{mostAxes, levels, axisAt}
 use Rattle.universe.proofs.Universes.{accepted, levels-few}
 use Rattle.bintree.specs.declared.Colour.{Colour}
 use Rattle.bintree.specs.declared.Colour.the-variants.{White, Black}
 use Rattle.bintree.specs.Shape.{Shape, leaf, halved, size, depth, openSymbol, symbolOf, symbols}
+use Rattle.bintree.specs.Walks.{noted}
 use Rattle.bintree.proofs.Shape.{length-symbols}
 use Rattle.csg.specs.Halfspace.{Mark, decided, undecided}
 use Rattle.csg.specs.Tree.{Tree}
 use Rattle.csg.specs.Raw.{examine}
 use Rattle.csg.proofs.Raw.{examine-depth}
-use Rattle.convert.specs.declared.cell.Cell.{Cell}
 use Rattle.convert.specs.Codes.{bitsOf}
-use Rattle.convert.specs.Cells.{Ready, Standing, CellReady, treesOf, blockAt, lowerCell, upperCell, judged}
+use Rattle.convert.specs.Blocks.{Ready, Standing, treesOf, blockAt, nextAxis, halvedSides, highCorner, judged}
 use Rattle.convert.specs.Shapes.{shapeOf, symbolOfBits}
-use Rattle.convert.proofs.Cells.{ready, lower-standing, upper-standing, lower-is, upper-is}
+use Rattle.convert.proofs.Blocks.{axis-few, next-is, lower-standing, upper-standing, lower-is, upper-is}
 use Rattle.convert.proofs.Judging.{written-decided, written-halved, never-last}
 
 -- ---- how long a shape can be
@@ -42,45 +41,56 @@ size-most (halved a b) =
     let q = pow-mono {i = suc (depth b)} {j = suc d} (omega (arith, le-max-right (depth a) (depth b))) in
     omega (arith, size-most a, size-most b, p, q, two-pow-succ (suc d))
 
-pub shape-small : {u : Universe} {rows : List ℤ} {first second : List ℕ} → Ready u rows first second → {left : ℕ} {cell : Cell} → Standing u left cell → size (shapeOf u rows first second left (cell .low)) < 2 ^ 41
+pub shape-small : {u : Universe} {rows : List ℤ} {first second : List ℕ} → Ready u rows first second → {left : ℕ} {low side : List ℕ} → Standing u left low side → size (shapeOf u rows first second left low) < 2 ^ 41
 unfolding shapeOf
-shape-small {u} {rows} {first} {second} r {left} {cell} s =
+shape-small {u} {rows} {first} {second} r {left} {low} s =
     let t = treesOf rows first second in
-    let b = blockAt u left (cell .low) in
+    let b = blockAt u left low in
     let d = examine-depth rows t left b in
     le-trans (size-most (examine rows t left b))
     (pow-mono {i = suc (depth (examine rows t left b))} {j = 41} (omega (arith, s .above, levels-few u (accepted u (r .accepted-universe)))))
 
+-- ---- a symbol that is noted is stored
+open-noted : (out : List ℕ) (at : ℕ) → noted out at openSymbol ≡ set out at openSymbol
+unfolding noted
+open-noted out at = refl
+
+symbol-noted : (out : List ℕ) (at : ℕ) (c : Colour) → noted out at (symbolOf c) ≡ set out at (symbolOf c)
+unfolding noted
+symbol-noted out at Black = refl
+symbol-noted out at White = refl
+
 -- ---- a block that is judged BLACK or WHITE
-pub record Closed (u : Universe) (rows : List ℤ) (first second : List ℕ) (left : ℕ) (cell : Cell) (x : ℕ) : Type 0 where
+pub record Closed (u : Universe) (rows : List ℤ) (first second : List ℕ) (left : ℕ) (low : List ℕ) (x : ℕ) : Type 0 where
   pub colour : Colour
-  pub shape : shapeOf u rows first second left (cell .low) ≡ leaf colour
+  pub shape : shapeOf u rows first second left low ≡ leaf colour
   pub symbol : symbolOfBits x ≡ symbolOf colour
   pub bits : x ≡ bitsOf (decided colour)
 
 -- a block that is undecided: its halves stand one level on
-pub record Opened (u : Universe) (rows : List ℤ) (first second : List ℕ) (left : ℕ) (cell : Cell) : Type 0 where
+pub record Opened (u : Universe) (rows : List ℤ) (first second : List ℕ) (left : ℕ) (low side : List ℕ) (axis : ℕ) : Type 0 where
   pub some : 1 ≤ left
-  pub halves : CellReady cell
-  pub lower : Standing u (left - 1) (lowerCell (u .axes) cell)
-  pub upper : Standing u (left - 1) (upperCell (u .axes) cell)
-  pub shape : shapeOf u rows first second left (cell .low) ≡ halved (shapeOf u rows first second (left - 1) (lowerCell (u .axes) cell .low)) (shapeOf u rows first second (left - 1) (upperCell (u .axes) cell .low))
+  pub axis-in : axis < mostAxes
+  pub next : nextAxis (u .axes) axis ≡ axisAt u (levels u - (left - 1))
+  pub lower : Standing u (left - 1) low (halvedSides side axis)
+  pub upper : Standing u (left - 1) (highCorner low side axis) (halvedSides side axis)
+  pub shape : shapeOf u rows first second left low ≡ halved (shapeOf u rows first second (left - 1) low) (shapeOf u rows first second (left - 1) (highCorner low side axis))
 
 module _ {u : Universe} {rows : List ℤ} {first second : List ℕ} (r : Ready u rows first second) where
   abbrev trees : Tree
   trees = treesOf rows first second
 
-  pub closed : {left : ℕ} {cell : Cell} → Standing u left cell → (x : ℕ) → x ≡ bitsOf (judged rows trees left (blockAt u left (cell .low))) → (x ≡ 0 → ⊥) → Closed u rows first second left cell x
+  pub closed : {left : ℕ} {low : List ℕ} (x : ℕ) → x ≡ bitsOf (judged rows trees left (blockAt u left low)) → (x ≡ 0 → ⊥) → Closed u rows first second left low x
   unfolding shapeOf
-  closed {left} {cell} s x e n = by (judged rows trees left (blockAt u left (cell .low))) refl
+  closed {left} {low} x e n = by (judged rows trees left (blockAt u left low)) refl
     where
-      by : (m : Mark) → judged rows trees left (blockAt u left (cell .low)) ≡ m → Closed u rows first second left cell x
+      by : (m : Mark) → judged rows trees left (blockAt u left low) ≡ m → Closed u rows first second left low x
       by (decided Black) f =
           let k : x ≡ 1 = e ∙ ap bitsOf f in
-          record { colour = Black; shape = written-decided rows trees left (blockAt u left (cell .low)) Black f; symbol = rw k; bits = k }
+          record { colour = Black; shape = written-decided rows trees left (blockAt u left low) Black f; symbol = rw k; bits = k }
       by (decided White) f =
           let k : x ≡ 2 = e ∙ ap bitsOf f in
-          record { colour = White; shape = written-decided rows trees left (blockAt u left (cell .low)) White f; symbol = rw k; bits = k }
+          record { colour = White; shape = written-decided rows trees left (blockAt u left low) White f; symbol = rw k; bits = k }
       by undecided f = absurd (n (e ∙ ap bitsOf f))
 
   undecided-bits : (m : Mark) → bitsOf m ≡ 0 → m ≡ undecided
@@ -88,58 +98,56 @@ module _ {u : Universe} {rows : List ℤ} {first second : List ℕ} (r : Ready u
   undecided-bits (decided White) e = absurd (omega arith)
   undecided-bits undecided e = refl
 
-  pub opened : {left : ℕ} {cell : Cell} → Standing u left cell → (x : ℕ) → x ≡ bitsOf (judged rows trees left (blockAt u left (cell .low))) → x ≡ 0 → Opened u rows first second left cell
+  pub opened : {left axis : ℕ} {low side : List ℕ} → Standing u left low side → axis ≡ axisAt u (levels u - left) → (x : ℕ) → x ≡ bitsOf (judged rows trees left (blockAt u left low)) → x ≡ 0 → Opened u rows first second left low side axis
   unfolding shapeOf
-  opened {left} {cell} s x e z = by left s (undecided-bits (judged rows trees left (blockAt u left (cell .low))) (sym e ∙ z))
+  opened {left} {axis} {low} {side} s turn x e z = by left s turn (undecided-bits (judged rows trees left (blockAt u left low)) (sym e ∙ z))
     where
-      by : (l : ℕ) → Standing u l cell → judged rows trees l (blockAt u l (cell .low)) ≡ undecided → Opened u rows first second l cell
-      by zero s f = absurd (never-last rows trees (blockAt u 0 (cell .low)) f)
-      by (suc n) s f =
+      by : (l : ℕ) → Standing u l low side → axis ≡ axisAt u (levels u - l) → judged rows trees l (blockAt u l low) ≡ undecided → Opened u rows first second l low side axis
+      by zero s t f = absurd (never-last rows trees (blockAt u 0 low) f)
+      by (suc n) s t f =
           let p : suc n - 1 ≡ n = omega arith in
           let e = r .accepted-universe in
-          let halves = ap₂ halved (ap (examine rows trees n) (lower-is u e n cell s)) (ap (examine rows trees n) (upper-is u e n cell s)) in
+          let halves = ap₂ halved (ap (examine rows trees n) (lower-is u e n low side s axis t)) (ap (examine rows trees n) (upper-is u e n low side s axis t)) in
           record {
             some = omega arith;
-            halves = ready u e n cell s;
-            lower = rw p (lower-standing u e n cell s);
-            upper = rw p (upper-standing u e n cell s);
-            shape = rw p (written-halved rows trees n (blockAt u (suc n) (cell .low)) f ∙ halves);
+            axis-in = axis-few u e n low side s axis t;
+            next = rw p (next-is u e n low side s axis t);
+            lower = rw p (lower-standing u e n low side s axis t);
+            upper = rw p (upper-standing u e n low side s axis t);
+            shape = rw p (written-halved rows trees n (blockAt u (suc n) low) f ∙ halves);
           }
 
--- the sizes of two halves that calls handed over are those of the shape's parts
-module _ {u : Universe} {rows : List ℤ} {first second : List ℕ} {left : ℕ} {cell low-cell high-cell : Cell} (o : Opened u rows first second left cell) (l : low-cell ≡ lowerCell (u .axes) cell) (h : high-cell ≡ upperCell (u .axes) cell) where
-  pub halves-shape : shapeOf u rows first second left (cell .low) ≡ halved (shapeOf u rows first second (left - 1) (low-cell .low)) (shapeOf u rows first second (left - 1) (high-cell .low))
-  halves-shape = rw (l, h) (o .shape)
-
-  pub halves-size : size (shapeOf u rows first second left (cell .low)) ≡ suc (size (shapeOf u rows first second (left - 1) (low-cell .low)) + size (shapeOf u rows first second (left - 1) (high-cell .low)))
-  unfolding size
-  halves-size = ap size halves-shape
-
 -- a closed block's size is 1
-pub closed-size : {u : Universe} {rows : List ℤ} {first second : List ℕ} {left : ℕ} {cell : Cell} {x : ℕ} → Closed u rows first second left cell x → size (shapeOf u rows first second left (cell .low)) ≡ 1
+pub closed-size : {u : Universe} {rows : List ℤ} {first second : List ℕ} {left : ℕ} {low : List ℕ} {x : ℕ} → Closed u rows first second left low x → size (shapeOf u rows first second left low) ≡ 1
 unfolding size
 closed-size d = ap size (d .shape)
 
 -- ---- what is written
 -- a closed block is one store
-pub closed-written : {u : Universe} {rows : List ℤ} {first second : List ℕ} {left : ℕ} {cell : Cell} {x y : ℕ} → Closed u rows first second left cell x → y ≡ symbolOfBits x → (out : List ℕ) (at : ℕ) →
-    (at + 1 ≡ at + size (shapeOf u rows first second left (cell .low))) × (set out at y ≡ sets out at (symbols (shapeOf u rows first second left (cell .low))))
+pub closed-written : {u : Universe} {rows : List ℤ} {first second : List ℕ} {left : ℕ} {low : List ℕ} {x y : ℕ} → Closed u rows first second left low x → y ≡ symbolOfBits x → (out : List ℕ) (at : ℕ) {now : List ℕ} → now ≡ noted out at y →
+    (at + 1 ≡ at + size (shapeOf u rows first second left low)) × (now ≡ sets out at (symbols (shapeOf u rows first second left low)))
 unfolding symbols
-closed-written d e out at = (rw (closed-size d), rw (d .shape, e, d .symbol))
+closed-written d e out at w = (rw (closed-size d), w ∙ rw (d .shape, e, d .symbol) (symbol-noted out at (d .colour)))
 
--- an open one is `(` and two runs of stores, the second where the first ends
-module _ {u : Universe} {rows : List ℤ} {first second : List ℕ} {left : ℕ} {cell low-cell high-cell : Cell} (o : Opened u rows first second left cell) (l : low-cell ≡ lowerCell (u .axes) cell) (h : high-cell ≡ upperCell (u .axes) cell) where
+-- an open one is `(` and two runs of stores, the second where the first ends; the high half's corner is what the code made of the block's
+module _ {u : Universe} {rows : List ℤ} {first second : List ℕ} {left : ℕ} {low side corner : List ℕ} {axis : ℕ} (o : Opened u rows first second left low side axis) (h : corner ≡ highCorner low side axis) where
   abbrev low-part : Shape
-  low-part = shapeOf u rows first second (left - 1) (low-cell .low)
+  low-part = shapeOf u rows first second (left - 1) low
 
   abbrev high-part : Shape
-  high-part = shapeOf u rows first second (left - 1) (high-cell .low)
+  high-part = shapeOf u rows first second (left - 1) corner
 
-  pub halves-written : (out one two : List ℕ) (at middle end : ℕ) → middle ≡ at + 1 + size low-part → one ≡ sets (set out at openSymbol) (at + 1) (symbols low-part) → end ≡ middle + size high-part → two ≡ sets one middle (symbols high-part) →
-      (end ≡ at + size (shapeOf u rows first second left (cell .low))) × (two ≡ sets out at (symbols (shapeOf u rows first second left (cell .low))))
+  pub halves-shape : shapeOf u rows first second left low ≡ halved low-part high-part
+  halves-shape = rw h (o .shape)
+
+  pub halves-size : size (shapeOf u rows first second left low) ≡ suc (size low-part + size high-part)
+  unfolding size
+  halves-size = ap size halves-shape
+
+  pub halves-written : (out one two three : List ℕ) (at middle end : ℕ) → one ≡ noted out at openSymbol → middle ≡ at + 1 + size low-part → two ≡ sets one (at + 1) (symbols low-part) → end ≡ middle + size high-part → three ≡ sets two middle (symbols high-part) →
+      (end ≡ at + size (shapeOf u rows first second left low)) × (three ≡ sets out at (symbols (shapeOf u rows first second left low)))
   unfolding symbols
-  halves-written out one two at middle end m p e q =
-      let s = halves-size o l h in
+  halves-written out one two three at middle end n m p e q =
       let k : middle ≡ suc at + length (symbols low-part) = omega (arith, m, length-symbols low-part) in
-      let p′ : one ≡ sets (set out at openSymbol) (suc at) (symbols low-part) = rw add-one at p in
-      (omega (arith, m, e, s), rw (halves-shape o l h) (q ∙ rw (k, p′) (sets-append (symbols low-part) (symbols high-part) (set out at openSymbol) (suc at))))
+      let p′ : two ≡ sets (set out at openSymbol) (suc at) (symbols low-part) = rw (n ∙ open-noted out at, add-one) at p in
+      (omega (arith, m, e, halves-size), rw halves-shape (q ∙ rw (k, p′) (sets-append (symbols low-part) (symbols high-part) (set out at openSymbol) (suc at))))

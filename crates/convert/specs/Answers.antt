@@ -17,7 +17,7 @@ use Rattle.csg.specs.Halfspace.{rowCount, rowsRefusal}
 use Rattle.csg.specs.Words.{treeRefusal, treeOf}
 use Rattle.csg.specs.Raw.{raw}
 use Rattle.convert.specs.declared.verdict.Clearance.{Clearance}
-use Rattle.convert.specs.Cells.{treesOf}
+use Rattle.convert.specs.Blocks.{treesOf}
 
 -- the checks before 6, of one tree and of two
 unfoldable pub refusalOfOne : Universe → List ℤ → List ℕ → ℕ
@@ -40,10 +40,6 @@ mergedOfOne u rows words = symbols (merged (raw u rows (treeOf (rowCount rows) w
 
 unfoldable pub mergedOfTwo : Universe → List ℤ → List ℕ → List ℕ → List ℕ
 mergedOfTwo u rows first second = symbols (merged (raw u rows (treesOf rows first second)))
-
--- 0 where the symbols go into the room lent, else their number
-abbrev pub lacking : ℕ → List ℕ → ℕ
-lacking lent written = cond (leb (length written) lent) 0 (length written)
 
 -- the verdict of two trees: the checks of their conversion, then 9, then 6
 unfoldable pub clearanceRefusal : Universe → List ℤ → List ℕ → List ℕ → ℕ → ℕ → ℕ

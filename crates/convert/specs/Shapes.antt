@@ -10,7 +10,7 @@ use Rattle.bintree.specs.Shape.{Shape, symbolOf, size}
 use Rattle.bintree.specs.Walks.{heldOf}
 use Rattle.csg.specs.Raw.{examine}
 use Rattle.convert.specs.declared.merged.Piece.{Piece}
-use Rattle.convert.specs.Cells.{treesOf, blockAt}
+use Rattle.convert.specs.Blocks.{treesOf, blockAt}
 
 -- the raw shape of the block with this low corner, so many levels above L
 unfoldable pub shapeOf : Universe → List ℤ → List ℕ → List ℕ → ℕ → List ℕ → Shape

@@ -4,7 +4,7 @@ ghost use mathlib.Core.Path.{_≡_};
 ghost use Prim.Native.Nat.{_+_};
 ghost use Rattle.universe.specs.Room.{room};
 ghost use Rattle.csg.specs.Words.{halfspaceWords};
-ghost use Rattle.convert.specs.Cells.{Ready, RoomReady};
+ghost use Rattle.convert.specs.Blocks.{Ready, RoomReady};
 ghost use Rattle.convert.specs.Answers.{refusalOfTwo};
 
 // 0, or the number that refuses the universe, the rows or a tree.

@@ -1,10 +1,12 @@
 // Conversion of one tree, or of two trees intersected, to the raw and to the merged expression in lent room. Read the refusal first: the length is what
 // was written where it is 0, what is needed where it is 6, and else 0.
-mod cell;
+mod block;
 mod check;
 mod judge;
 mod merged;
 mod raw;
+mod scratch;
+mod spread;
 mod verdict;
 
 pub use merged::merged_of_one;

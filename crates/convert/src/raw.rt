@@ -1,44 +1,24 @@
-// The raw expression of two trees intersected: measured, and written.
-use crate::cell::Cell;
-use crate::cell::lower;
-use crate::cell::upper;
-use crate::cell::whole_cell;
+// The raw expression of two trees intersected.
+use crate::block::next_axis;
+use crate::block::whole_sides;
 use crate::check::refusal_of;
 use crate::check::room_of;
 use crate::judge::judge;
+use crate::scratch::LONG;
+use crate::scratch::SHORT;
+use crate::scratch::copy_front;
 use bintree::Written;
 use universe::Universe;
 ghost use mathlib.Core.Path.{_≡_};
-ghost use Rattle.bintree.specs.Answers.{writtenAnswer, writtenBuffer};
-ghost use Rattle.convert.specs.Answers.{refusalOfOne, refusalOfTwo, rawOfOne, rawOfTwo, lacking};
-ghost use Prim.Native.Nat.{_+_, _≤_};
+ghost use Prim.Native.Nat.{_+_, _-_, _^_, _<_};
 ghost use lib.ListN.{length};
 ghost use lib.Seq.{sets};
+ghost use Rattle.universe.specs.Universe.{levels, axisAt};
+ghost use Rattle.bintree.specs.Answers.{writtenAnswer, writtenBuffer};
 ghost use Rattle.bintree.specs.Shape.{symbols, size};
-ghost use Rattle.convert.specs.Cells.{Ready, Standing};
+ghost use Rattle.convert.specs.Answers.{refusalOfOne, refusalOfTwo, rawOfOne, rawOfTwo};
+ghost use Rattle.convert.specs.Blocks.{Ready, Standing};
 ghost use Rattle.convert.specs.Shapes.{symbolOfBits, shapeOf};
-
-// How many symbols the raw expression of a cell's block has.
-pub(crate) fn measure_raw(
-    universe: Universe,
-    rows: &[i64],
-    first: &[u16],
-    second: &[u16],
-    cell: Cell,
-    left: u64,
-) -> u64
-    requires { ⌜ Ready universe (now rows) (now first) (now second) ⌝ }
-    requires { ⌜ Standing universe left cell ⌝ }
-    ensures { λ r. ⌜ r ≡ size (shapeOf universe (now (rows .entry)) (now (first .entry)) (now (second .entry)) left (cell .low)) ⌝ }
-{
-    if judge(universe, rows, first, second, cell, left) != 0 {
-        return 1;
-    }
-    let axes = universe.axes as usize;
-    let low = measure_raw(universe, rows, first, second, lower(axes, cell), left - 1);
-    let high = measure_raw(universe, rows, first, second, upper(axes, cell), left - 1);
-    1 + low + high
-}
 
 // The symbol of a block that is judged BLACK (1) or WHITE.
 pub(crate) fn symbol_of(mark: u8) -> u8
@@ -47,69 +27,162 @@ pub(crate) fn symbol_of(mark: u8) -> u8
     if mark == 1 { b'B' } else { b'W' }
 }
 
-// Writes the raw expression of a cell's block from `at` on, and gives the place after it.
-pub(crate) fn write_raw(
+// Writes the raw expression of a block from `at` on, as far as there is room, and gives the place after it. The low corner and the sides come back as
+// they were.
+fn write_raw(
     universe: Universe,
     rows: &[i64],
     first: &[u16],
     second: &[u16],
-    cell: Cell,
+    low: &mut [u64; 4],
+    side: &mut [u64; 4],
+    axis: usize,
     left: u64,
     out: &mut [u8],
     at: usize,
 ) -> usize
     requires { ⌜ Ready universe (now rows) (now first) (now second) ⌝ }
-    requires { ⌜ Standing universe left cell ⌝ }
-    requires { ⌜ at + size (shapeOf universe (now rows) (now first) (now second) left (cell .low)) ≤ length (now out) ⌝ }
-    ensures { λ r. ⌜ r ≡ at + size (shapeOf universe (now (rows .entry)) (now (first .entry)) (now (second .entry)) left (cell .low)) ⌝ }
-    ensures { λ _. ⌜ now (out .exit) ≡ sets (now (out .entry)) at (symbols (shapeOf universe (now (rows .entry)) (now (first .entry)) (now (second .entry)) left (cell .low))) ⌝ }
+    requires { ⌜ Standing universe left (now low) (now side) ⌝ }
+    requires { ⌜ axis ≡ axisAt universe (levels universe - left) ⌝ }
+    requires { ⌜ at + size (shapeOf universe (now rows) (now first) (now second) left (now low)) < 2 ^ 64 ⌝ }
+    ensures { λ r. ⌜ r ≡ at + size (shapeOf universe (now (rows .entry)) (now (first .entry)) (now (second .entry)) left (now (low .entry))) ⌝ }
+    ensures { λ _. ⌜ now (out .exit) ≡ sets (now (out .entry)) at (symbols (shapeOf universe (now (rows .entry)) (now (first .entry)) (now (second .entry)) left (now (low .entry)))) ⌝ }
+    ensures { λ _. ⌜ (now (low .exit) ≡ now (low .entry)) × (now (side .exit) ≡ now (side .entry)) ⌝ }
 {
-    let mark = judge(universe, rows, first, second, cell, left);
+    let mark = judge(universe, rows, first, second, low, side, left);
     if mark != 0 {
-        out[at] = symbol_of(mark);
+        bintree::note(out, at, symbol_of(mark));
         return at + 1;
     }
-    out[at] = b'(';
-    let axes = universe.axes as usize;
+    bintree::note(out, at, b'(');
+    let near = low[axis];
+    let whole = side[axis];
+    let half = whole / 2;
+    let next = next_axis(universe.axes as usize, axis);
+    side[axis] = half;
     let middle = write_raw(
         universe,
         rows,
         first,
         second,
-        lower(axes, cell),
+        low,
+        side,
+        next,
         left - 1,
         out,
         at + 1,
     );
+    low[axis] = near + half;
+    let end = write_raw(
+        universe,
+        rows,
+        first,
+        second,
+        low,
+        side,
+        next,
+        left - 1,
+        out,
+        middle,
+    );
+    low[axis] = near;
+    side[axis] = whole;
+    end
+}
+
+// Writes the raw expression of the whole universe, as far as there is room, and gives its length.
+fn write_whole(
+    universe: Universe,
+    rows: &[i64],
+    first: &[u16],
+    second: &[u16],
+    out: &mut [u8],
+) -> usize
+    requires { ⌜ Ready universe (now rows) (now first) (now second) ⌝ }
+    ensures { λ r. ⌜ r ≡ length (rawOfTwo universe (now (rows .entry)) (now (first .entry)) (now (second .entry))) ⌝ }
+    ensures { λ _. ⌜ now (out .exit) ≡ sets (now (out .entry)) 0 (rawOfTwo universe (now (rows .entry)) (now (first .entry)) (now (second .entry))) ⌝ }
+{
+    let mut low = [0u64; 4];
+    let mut side = whole_sides(universe);
+    let levels = universe.axes * universe.bits;
     write_raw(
         universe,
         rows,
         first,
         second,
-        upper(axes, cell),
-        left - 1,
+        &mut low,
+        &mut side,
+        0,
+        levels,
         out,
-        middle,
+        0,
     )
 }
 
-// 0 where the raw expression goes into so much room, else its length. Room that is as large as the room formula says is not measured for.
-fn raw_lacking(universe: Universe, rows: &[i64], first: &[u16], second: &[u16], lent: u64) -> u64
+// The raw expression by way of scratch room, where the room lent may not suffice: it is written there first, and again only where it is longer.
+fn raw_through(
+    universe: Universe,
+    rows: &[i64],
+    first: &[u16],
+    second: &[u16],
+    scratch: &mut [u8],
+    out: &mut [u8],
+) -> Written
     requires { ⌜ Ready universe (now rows) (now first) (now second) ⌝ }
-    ensures { λ r. ⌜ r ≡ lacking lent (rawOfTwo universe (now (rows .entry)) (now (first .entry)) (now (second .entry))) ⌝ }
+    ensures { λ r. ⌜ r ≡ writtenAnswer 0 (now (out .entry)) (rawOfTwo universe (now (rows .entry)) (now (first .entry)) (now (second .entry))) ⌝ }
+    ensures { λ _. ⌜ now (out .exit) ≡ writtenBuffer 0 (now (out .entry)) (rawOfTwo universe (now (rows .entry)) (now (first .entry)) (now (second .entry))) ⌝ }
 {
-    if room_of(universe, first, second) <= lent {
-        return 0;
+    let length = write_whole(universe, rows, first, second, scratch);
+    if out.len() < length {
+        return Written {
+            refusal: 6,
+            length: length as u64,
+        };
     }
-    let levels = universe.axes * universe.bits;
-    let length = measure_raw(universe, rows, first, second, whole_cell(universe), levels);
-    if length <= lent {
-        return 0;
+    if length <= scratch.len() {
+        copy_front(scratch, out, length);
+    } else {
+        write_whole(universe, rows, first, second, out);
     }
-    length
+    Written {
+        refusal: 0,
+        length: length as u64,
+    }
 }
 
-// The raw expression of two trees intersected.
+// The same with little scratch room, which suffices where little is lent.
+fn raw_short(
+    universe: Universe,
+    rows: &[i64],
+    first: &[u16],
+    second: &[u16],
+    out: &mut [u8],
+) -> Written
+    requires { ⌜ Ready universe (now rows) (now first) (now second) ⌝ }
+    ensures { λ r. ⌜ r ≡ writtenAnswer 0 (now (out .entry)) (rawOfTwo universe (now (rows .entry)) (now (first .entry)) (now (second .entry))) ⌝ }
+    ensures { λ _. ⌜ now (out .exit) ≡ writtenBuffer 0 (now (out .entry)) (rawOfTwo universe (now (rows .entry)) (now (first .entry)) (now (second .entry))) ⌝ }
+{
+    let mut scratch = [0u8; SHORT];
+    raw_through(universe, rows, first, second, &mut scratch, out)
+}
+
+// The same with much scratch room.
+fn raw_long(
+    universe: Universe,
+    rows: &[i64],
+    first: &[u16],
+    second: &[u16],
+    out: &mut [u8],
+) -> Written
+    requires { ⌜ Ready universe (now rows) (now first) (now second) ⌝ }
+    ensures { λ r. ⌜ r ≡ writtenAnswer 0 (now (out .entry)) (rawOfTwo universe (now (rows .entry)) (now (first .entry)) (now (second .entry))) ⌝ }
+    ensures { λ _. ⌜ now (out .exit) ≡ writtenBuffer 0 (now (out .entry)) (rawOfTwo universe (now (rows .entry)) (now (first .entry)) (now (second .entry))) ⌝ }
+{
+    let mut scratch = [0u8; LONG];
+    raw_through(universe, rows, first, second, &mut scratch, out)
+}
+
+// The raw expression of two trees intersected. Room that is as large as the room formula says suffices.
 pub fn raw_of_two(
     universe: Universe,
     rows: &[i64],
@@ -127,28 +200,17 @@ pub fn raw_of_two(
             length: 0,
         };
     }
-    let lacks = raw_lacking(universe, rows, first, second, out.len() as u64);
-    if lacks != 0 {
+    if room_of(universe, first, second) <= out.len() as u64 {
+        let length = write_whole(universe, rows, first, second, out);
         return Written {
-            refusal: 6,
-            length: lacks,
+            refusal: 0,
+            length: length as u64,
         };
     }
-    let levels = universe.axes * universe.bits;
-    let length = write_raw(
-        universe,
-        rows,
-        first,
-        second,
-        whole_cell(universe),
-        levels,
-        out,
-        0,
-    );
-    Written {
-        refusal: 0,
-        length: length as u64,
+    if out.len() <= SHORT {
+        return raw_short(universe, rows, first, second, out);
     }
+    raw_long(universe, rows, first, second, out)
 }
 
 // The raw expression of one tree: that tree intersected with BLACK.

@@ -1,5 +1,6 @@
--- An evaluation of accepted words, for any meaning of leaves and operators: a loop that has read i words holds what they left pending in an array
--- of 32. An operator finds two shapes and a leaf finds room, and at the end one shape stands, the meaning of the tree.
+-- An evaluation of accepted words, for any meaning of leaves and operators: a loop that has read i words holds what they left pending, the last
+-- shape apart and the others in an array of 32. An operator finds two shapes and a leaf finds room, and at the end one shape stands, the meaning of the
+-- tree.
 use Prim.Native.Nat.{ℕ, zero, suc, _+_, _-_, _≤_, _<_}
 use native.Mathlib.Omega.{arith}
 use native.Mathlib.Numerals.{add-one}
@@ -46,80 +47,87 @@ module _ {A : Type 0} {ofLeaf : Leaf → A} {ofNode : Operator → A → A → A
   pub midway-join : {pending : List A} {x y : A} {i : ℕ} → Midway ofLeaf ofNode rows ws (y ∷ x ∷ pending) i → i < length ws → isOperator (getD ws i 0) ≡ true → Midway ofLeaf ofNode rows ws (ofNode (operatorOf (getD ws i 0)) x y ∷ pending) (i + 1)
   midway-join m h o = record { read = omega arith; few = omega (arith, m .few); onward = join-next (here m h) o }
 
--- an array as the shapes pending: the first n of its elements, the last of them first; `d` stands past its end
+-- n shapes pending, the last one apart as `top`, the others in an array, from its place n − 1 down to 1; `d` stands past its end
 module _ {A : Type 0} (d : A) where
-  abbrev pub pendingIn : List A → ℕ → List A
-  pendingIn array zero = []
-  pendingIn array (suc n) = getD array n d ∷ pendingIn array n
+  abbrev below : List A → ℕ → List A
+  below array zero = []
+  below array (suc n) = getD array (suc n) d ∷ below array n
 
-  length-pending : (array : List A) (n : ℕ) → length (pendingIn array n) ≡ n
-  length-pending array zero = refl
-  length-pending array (suc n) = ap suc (length-pending array n)
+  abbrev pendingIn : List A → A → ℕ → List A
+  pendingIn array top zero = []
+  pendingIn array top (suc n) = top ∷ below array n
 
-  -- a store at n or above is not seen
-  pending-kept : (array : List A) (n k : ℕ) (x : A) → n ≤ k → pendingIn (set array k x) n ≡ pendingIn array n
-  pending-kept array zero k x h = refl
-  pending-kept array (suc n) k x h = rw (getD-set-other array k n x d (omega arith), pending-kept array n k x (omega arith))
+  length-below : (array : List A) (n : ℕ) → length (below array n) ≡ n
+  length-below array zero = refl
+  length-below array (suc n) = ap suc (length-below array n)
 
-  pending-push : (array : List A) (n : ℕ) (x : A) → n < length array → pendingIn (set array n x) (n + 1) ≡ x ∷ pendingIn array n
-  pending-push array n x h = rw (add-one, getD-set-same array n x d h, pending-kept array n n x (omega arith))
+  length-pending : (array : List A) (top : A) (n : ℕ) → length (pendingIn array top n) ≡ n
+  length-pending array top zero = refl
+  length-pending array top (suc n) = ap suc (length-below array n)
 
-  pending-two : (array : List A) (n : ℕ) → 2 ≤ n → pendingIn array n ≡ getD array (n - 1) d ∷ getD array (n - 2) d ∷ pendingIn array (n - 2)
-  pending-two array zero h = absurd (omega arith)
-  pending-two array (suc zero) h = absurd (omega arith)
-  pending-two array (suc (suc n)) h =
+  -- a store above n is not seen
+  below-kept : (array : List A) (n k : ℕ) (x : A) → n < k → below (set array k x) n ≡ below array n
+  below-kept array zero k x h = refl
+  below-kept array (suc n) k x h = rw (getD-set-other array k (suc n) x d (omega arith), below-kept array n k x (omega arith))
+
+  pending-push : (array : List A) (top : A) (n : ℕ) (x : A) → n < length array → pendingIn (set array n top) x (n + 1) ≡ x ∷ pendingIn array top n
+  pending-push array top zero x h = refl
+  pending-push array top (suc n) x h = rw (add-one, getD-set-same array (suc n) top d h, below-kept array n (suc n) top (omega arith))
+
+  pending-two : (array : List A) (top : A) (n : ℕ) → 2 ≤ n → pendingIn array top n ≡ top ∷ getD array (n - 1) d ∷ below array (n - 2)
+  pending-two array top zero h = absurd (omega arith)
+  pending-two array top (suc zero) h = absurd (omega arith)
+  pending-two array top (suc (suc n)) h =
       let last : suc (suc n) - 1 ≡ suc n = omega arith in
       let rest : suc (suc n) - 2 ≡ n = omega arith in
       rw (last, rest)
 
-  pending-join : (array : List A) (n : ℕ) (x : A) → 2 ≤ n → n ≤ length array → pendingIn (set array (n - 2) x) (n - 1) ≡ x ∷ pendingIn array (n - 2)
-  pending-join array n x h g = let e : n - 1 ≡ n - 2 + 1 = omega arith in rw e (pending-push array (n - 2) x (omega arith))
+  pending-join : (array : List A) (n : ℕ) (x : A) → 2 ≤ n → pendingIn array x (n - 1) ≡ x ∷ below array (n - 2)
+  pending-join array n x h = let e : n - 1 ≡ suc (n - 2) = omega arith in rw e
 
 -- an evaluation over an array of 32, which has read i words and holds n shapes pending
-pub record Evaluating {A : Type 0} (ofLeaf : Leaf → A) (ofNode : Operator → A → A → A) (rows : ℕ) (ws : List ℕ) (d : A) (array : List A) (n i : ℕ) : Type 0 where
+pub record Evaluating {A : Type 0} (ofLeaf : Leaf → A) (ofNode : Operator → A → A → A) (rows : ℕ) (ws : List ℕ) (d : A) (array : List A) (top : A) (n i : ℕ) : Type 0 where
   pub few : n ≤ mostPending
   pub long : length array ≡ mostPending
-  pub midway : Midway ofLeaf ofNode rows ws (pendingIn d array n) i
+  pub midway : Midway ofLeaf ofNode rows ws (pendingIn d array top n) i
 
 module _ {A : Type 0} {ofLeaf : Leaf → A} {ofNode : Operator → A → A → A} {rows : ℕ} {ws : List ℕ} {d : A} where
-  pub evaluating-start : (array : List A) → length array ≡ mostPending → treeRefusal rows ws ≡ 0 → Evaluating ofLeaf ofNode rows ws d array 0 0
-  evaluating-start array e accepted = record { few = omega arith; long = e; midway = midway-start accepted }
+  pub evaluating-start : (array : List A) (top : A) → length array ≡ mostPending → treeRefusal rows ws ≡ 0 → Evaluating ofLeaf ofNode rows ws d array top 0 0
+  evaluating-start array top e accepted = record { few = omega arith; long = e; midway = midway-start accepted }
 
-  module _ {array : List A} {n i : ℕ} (v : Evaluating ofLeaf ofNode rows ws d array n i) where
-    one-left : length ws ≤ i → pendingIn d array n ≡ fold ofLeaf ofNode (treeOf rows ws) ∷ []
-    one-left h = midway-end (v .midway) h
-
+  module _ {array : List A} {top : A} {n i : ℕ} (v : Evaluating ofLeaf ofNode rows ws d array top n i) where
     -- at the end exactly one is pending, and it is the meaning of the tree
-    pub evaluating-one : length ws ≤ i → n ≡ 1
-    evaluating-one h = omega (arith, length-pending d array n, ap length (one-left h))
-
-    pub evaluating-end : length ws ≤ i → getD array 0 d ≡ fold ofLeaf ofNode (treeOf rows ws)
-    evaluating-end h = let e = one-left h in let f : pendingIn d array 1 ≡ fold ofLeaf ofNode (treeOf rows ws) ∷ [] = rw (evaluating-one h) at e in cc
+    pub evaluating-end : length ws ≤ i → top ≡ fold ofLeaf ofNode (treeOf rows ws)
+    evaluating-end h =
+        let e = midway-end (v .midway) h in
+        let one : n ≡ 1 = omega (arith, length-pending d array top n, ap length e) in
+        let f : pendingIn d array top 1 ≡ fold ofLeaf ofNode (treeOf rows ws) ∷ [] = rw one at e in
+        cc
 
     module _ (h : i < length ws) where
       pub evaluating-leaf : isOperator (getD ws i 0) ≡ false → isLeaf rows (getD ws i 0) ≡ true
       evaluating-leaf o = midway-leaf (v .midway) h o
 
       pub evaluating-room : isOperator (getD ws i 0) ≡ false → n < mostPending
-      evaluating-room o = rw (length-pending d array n) at (midway-room (v .midway) h o)
+      evaluating-room o = rw (length-pending d array top n) at (midway-room (v .midway) h o)
 
-      pub evaluating-push : isOperator (getD ws i 0) ≡ false → (x : A) → x ≡ ofLeaf (leafOf (getD ws i 0)) → Evaluating ofLeaf ofNode rows ws d (set array n x) (n + 1) (i + 1)
+      pub evaluating-push : isOperator (getD ws i 0) ≡ false → (x : A) → x ≡ ofLeaf (leafOf (getD ws i 0)) → Evaluating ofLeaf ofNode rows ws d (set array n top) x (n + 1) (i + 1)
       evaluating-push o x e =
           let r = evaluating-room o in
           record {
             few = omega arith;
             long = simp length-set (v .long);
-            midway = rw (pending-push d array n x (omega (arith, v .long)), e) (midway-push (v .midway) h o);
+            midway = rw (pending-push d array top n x (omega (arith, v .long)), e) (midway-push (v .midway) h o);
           }
 
       pub evaluating-two : isOperator (getD ws i 0) ≡ true → 2 ≤ n
-      evaluating-two o = rw (length-pending d array n) at (midway-two (v .midway) h o)
+      evaluating-two o = rw (length-pending d array top n) at (midway-two (v .midway) h o)
 
-      pub evaluating-join : isOperator (getD ws i 0) ≡ true → (x : A) → x ≡ ofNode (operatorOf (getD ws i 0)) (getD array (n - 2) d) (getD array (n - 1) d) → Evaluating ofLeaf ofNode rows ws d (set array (n - 2) x) (n - 1) (i + 1)
+      pub evaluating-join : isOperator (getD ws i 0) ≡ true → (x : A) → x ≡ ofNode (operatorOf (getD ws i 0)) (getD array (n - 1) d) top → Evaluating ofLeaf ofNode rows ws d array x (n - 1) (i + 1)
       evaluating-join o x e =
           let r = evaluating-two o in
           record {
             few = omega (arith, v .few);
-            long = simp length-set (v .long);
-            midway = rw (pending-join d array n x r (omega (arith, v .few, v .long)), e) (midway-join (rw (pending-two d array n r) at (v .midway)) h o);
+            long = v .long;
+            midway = rw (pending-join d array n x r, e) (midway-join (rw (pending-two d array top n r) at (v .midway)) h o);
           }

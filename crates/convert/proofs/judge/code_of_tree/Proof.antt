@@ -1,5 +1,5 @@
--- `code_of_tree` reads the words over an array of pending codes: the invariant is that of reading words with any meaning, at the meaning that
--- gives leaves and operators their codes.
+-- `code_of_tree` reads the words over the pending codes, the last one apart and the others in an array: the invariant is that of reading words with
+-- any meaning, at the meaning that gives leaves and operators their codes.
 use Prim.Native.Nat.{_≤_, _-_}
 use mathlib.Core.Path.{sym, _∙_}
 use mathlib.Core.Logic.{⊎-elim}
@@ -13,11 +13,11 @@ use Rattle.convert.proofs.judge.code_of_tree.Statement.{statement}
 use Rattle.convert.proofs.judge.code_of_tree.Tie as tie
 
 abbrev Inv-loop : tie.InvT-loop
-Inv-loop axes rows words low high centre pending₀ n₀ i₀ pending n i =
-    Evaluating (codeOfLeaf axes rows low high centre) joinCode (rowCount rows) words 0 pending n i
+Inv-loop axes rows words low side centre pending₀ top₀ n₀ i₀ pending top n i =
+    Evaluating (codeOfLeaf axes rows low side centre) joinCode (rowCount rows) words 0 pending top n i
 
 abbrev μ-loop : tie.MeasureT-loop
-μ-loop axes rows words low high centre pending₀ n₀ i₀ pending n i = length words - i
+μ-loop axes rows words low side centre pending₀ top₀ n₀ i₀ pending top n i = length words - i
 
 two : (c : tie.Then1 Inv-loop μ-loop) → 2 ≤ c .before .before .before .before .loop .n
 two c =
@@ -25,7 +25,7 @@ two c =
     evaluating-two (k .before .before .before .loop .inv) (k .before .before .loop-test .taken) (sym (k .is-operator .ensures) ∙ c .if1 .taken)
 
 loop-holds : tie.Need-loop-holds Inv-loop μ-loop
-loop-holds c = evaluating-start _ (search needs) (c .before .pre .1)
+loop-holds c = evaluating-start _ 0 (search needs) (c .before .pre .1)
 
 mul-word : tie.Need-mul-word Inv-loop μ-loop
 mul-word c = search needs
@@ -36,39 +36,24 @@ shared-slice-read-word c = search needs
 is-operator-requires : tie.Need-is-operator-requires Inv-loop μ-loop
 is-operator-requires c κs = search needs
 
-sub-b : tie.Need-sub-b Inv-loop μ-loop
-sub-b c = omega (arith, two c)
+sub-n : tie.Need-sub-n Inv-loop μ-loop
+sub-n c = omega (arith, two c)
 
-array-read-b : tie.Need-array-read-b Inv-loop μ-loop
-array-read-b c = search needs
-
-sub-a : tie.Need-sub-a Inv-loop μ-loop
-sub-a c = omega (arith, two c)
-
-array-read-a : tie.Need-array-read-a Inv-loop μ-loop
-array-read-a c = search needs
+array-read-join-code : tie.Need-array-read-join-code Inv-loop μ-loop
+array-read-join-code c = search needs
 
 join-code-requires : tie.Need-join-code-requires Inv-loop μ-loop
 join-code-requires c κs = search needs
 
-sub-pending : tie.Need-sub-pending Inv-loop μ-loop
-sub-pending c = omega (arith, two (c .before))
-
 array-write-pending : tie.Need-array-write-pending Inv-loop μ-loop
-array-write-pending c = search needs
-
-sub-n : tie.Need-sub-n Inv-loop μ-loop
-sub-n c = omega (arith, two (c .before))
+array-write-pending c =
+    let k = c .before in
+    evaluating-room (k .before .before .before .loop .inv) (k .before .before .loop-test .taken) (sym (k .is-operator .ensures) ∙ c .if1 .left)
 
 code-of-word-requires : tie.Need-code-of-word-requires Inv-loop μ-loop
 code-of-word-requires c κs =
     let k = c .before in
     (k .before .before .before .before .before .pre .0, evaluating-leaf (k .before .before .before .loop .inv) (k .before .before .loop-test .taken) (sym (k .is-operator .ensures) ∙ c .if1 .left))
-
-array-write-pending-2 : tie.Need-array-write-pending-2 Inv-loop μ-loop
-array-write-pending-2 c =
-    let k = c .before .before in
-    evaluating-room (k .before .before .before .loop .inv) (k .before .before .loop-test .taken) (sym (k .is-operator .ensures) ∙ c .before .if1 .left)
 
 add-n : tie.Need-add-n Inv-loop μ-loop
 add-n c = search needs
@@ -85,12 +70,9 @@ loop-again c =
     let g = k .before .before .before .loop .inv in
     let h = k .before .before .loop-test .taken in
     ⊎-elim
-    (λ w. rw (w .2, w .3) (evaluating-join g h (sym (k .is-operator .ensures) ∙ w .0 .taken) _ (w .1 .ensures)))
-    (λ w. rw (w .2, w .3) (evaluating-push g h (sym (k .is-operator .ensures) ∙ w .0 .left) _ (w .1 .ensures)))
+    (λ w. rw (w .2, w .3, w .4) (evaluating-join g h (sym (k .is-operator .ensures) ∙ w .0 .taken) _ (w .1 .ensures)))
+    (λ w. rw (w .2, w .3, w .4) (evaluating-push g h (sym (k .is-operator .ensures) ∙ w .0 .left) _ (w .1 .ensures)))
     (c .if1 .came)
-
-array-read-result : tie.Need-array-read-result Inv-loop μ-loop
-array-read-result c = search needs
 
 returns : tie.Need-returns Inv-loop μ-loop
 unfolding codeOfTree
@@ -106,19 +88,13 @@ code-of-tree-spec =
     mul-word
     shared-slice-read-word
     is-operator-requires
-    sub-b
-    array-read-b
-    sub-a
-    array-read-a
-    join-code-requires
-    sub-pending
-    array-write-pending
     sub-n
+    array-read-join-code
+    join-code-requires
+    array-write-pending
     code-of-word-requires
-    array-write-pending-2
     add-n
     add-i
     loop-less
     loop-again
-    array-read-result
     returns)

@@ -1,34 +1,44 @@
--- `code_of_word` is the code of the leaf that a word pushes: a colour's, or that of a row that the word names.
-use mathlib.Core.Path.{_∙_}
+-- `code_of_word` is the code of the leaf that a word pushes: that of a row that the word names, or a colour's.
+use Prim.Native.Nat.{ℕ, _≤_, _<_}
+use mathlib.Core.Path.{_≡_}
+use mathlib.Core.Bool.{true}
+use native.Mathlib.Omega.{arith}
+use native.Mathlib.Decide.{decLe}
 use borrow.Author.Needs.{needs}
 use borrow.Author.Tests.{eq-eqb, ne-eqb}
-use native.Mathlib.Omega.{arith}
+use Rattle.csg.specs.Words.{isLeaf, firstHalfspace}
+use Rattle.csg.proofs.Words.{leaf-row}
 use Rattle.convert.specs.Codes.{codeOfLeaf}
-use Rattle.convert.proofs.Spans.{row-word, span-ready}
+use Rattle.convert.proofs.Spreads.{row-ready}
 use Rattle.convert.proofs.judge.code_of_word.Statement.{statement}
 use Rattle.convert.proofs.judge.code_of_word.Tie as tie
 
-returns : tie.Need-returns
-unfolding codeOfLeaf
-returns c = simp (eq-eqb _ _ (c .if1 .taken))
-
-returns-2 : tie.Need-returns-2
-unfolding codeOfLeaf
-returns-2 c = simp (ne-eqb _ _ (c .before .if1 .left), eq-eqb _ _ (c .if2 .taken))
-
-sub-code-of-row : tie.Need-sub-code-of-row
-sub-code-of-row c = omega (arith, row-word (c .before .before .pre .1) (c .before .if1 .left) (c .if2 .left))
+-- a leaf's word that names no row and is not WHITE is BLACK
+black-word : (rows w : ℕ) → isLeaf rows w ≡ true → w < firstHalfspace → (w ≡ 0 → ⊥) → w ≡ 1
+black-word rows w l h n = by (decLe 2 w)
+  where
+    by : Dec (2 ≤ w) → w ≡ 1
+    by (yes m) = absurd (omega (arith, leaf-row rows w l m .0))
+    by (no m) = omega arith
 
 cast-code-of-row : tie.Need-cast-code-of-row
 cast-code-of-row c = search needs
 
 code-of-row-requires : tie.Need-code-of-row-requires
-code-of-row-requires c κs =
-    span-ready (c .before .before .pre .0) (row-word (c .before .before .pre .1) (c .before .if1 .left) (c .if2 .left) .1)
+code-of-row-requires c κs = row-ready (c .before .pre .0) (leaf-row _ _ (c .before .pre .1) (omega arith) .1)
+
+returns : tie.Need-returns
+unfolding codeOfLeaf
+returns c = let w = c .before .before .args .word in simp (ne-eqb w 0 (omega arith), ne-eqb w 1 (omega arith)) (c .code-of-row .ensures)
+
+returns-2 : tie.Need-returns-2
+unfolding codeOfLeaf
+returns-2 c = simp (eq-eqb _ _ (c .if2 .taken))
 
 returns-3 : tie.Need-returns-3
 unfolding codeOfLeaf
-returns-3 c = simp (ne-eqb _ _ (c .before .before .if1 .left), ne-eqb _ _ (c .before .if2 .left)) (c .code-of-row .ensures)
+returns-3 c = let k = c .before in rw (black-word _ _ (k .before .pre .1) (omega arith) (c .if2 .left))
 
 pub code-of-word-spec : {M : Type 1} → statement M
-code-of-word-spec = tie.close (tie.spec returns returns-2 sub-code-of-row cast-code-of-row code-of-row-requires returns-3)
+code-of-word-spec =
+    tie.close (tie.spec cast-code-of-row code-of-row-requires returns returns-2 returns-3)

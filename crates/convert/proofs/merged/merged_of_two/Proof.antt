@@ -1,8 +1,8 @@
--- `merged_of_two` ends in a refusal, in too little room, or in what the recursion over the whole universe lays and what it held back.
-use mathlib.Core.Path.{_∙_}
-use Rattle.convert.proofs.Answers.{levels-fit, standing, answer-refused, answer-short, answer-written}
-use Rattle.convert.proofs.MergedAnswers.{whole-fits, piece-length, noted-whole, merged-fits}
+-- `merged_of_two` ends in a refusal, in what it wrote where room is lent as the formula says, or in what it came to by way of scratch room.
+use native.Mathlib.Omega.{arith}
 use borrow.Author.Needs.{needs}
+use Rattle.convert.proofs.Answers.{room-ready, answer-refused, answer-written, answer-accepted}
+use Rattle.convert.proofs.MergedAnswers.{merged-lent}
 use Rattle.convert.proofs.merged.merged_of_two.Statement.{statement}
 use Rattle.convert.proofs.merged.merged_of_two.Tie as tie
 
@@ -12,36 +12,39 @@ refusal-of-requires c κs = search needs
 returns : tie.Need-returns
 returns c = answer-refused (c .before .refusal-of .ensures .0) _ _ (c .if1 .taken)
 
-merged-lacking-requires : tie.Need-merged-lacking-requires
-merged-lacking-requires c κs = c .before .refusal-of .ensures .1 (c .if1 .left)
+room-of-requires : tie.Need-room-of-requires
+room-of-requires c κs = room-ready (c .before .refusal-of .ensures .1 (c .if1 .left))
 
-returns-2 : tie.Need-returns-2
-returns-2 c = answer-short (c .before .before .before .refusal-of .ensures .0) _ _ (c .before .before .if1 .left) (c .before .merged-lacking .ensures) (c .if2 .taken)
-
-mul-levels : tie.Need-mul-levels
-mul-levels c = record { fits = levels-fit (c .before .before .before .before .refusal-of .ensures .1 (c .before .before .before .if1 .left)) }
-
-whole-cell-requires : tie.Need-whole-cell-requires
-whole-cell-requires c κs = c .before .before .before .before .refusal-of .ensures .1 (c .before .before .before .if1 .left) .accepted-universe
-
-lay-merged-requires : tie.Need-lay-merged-requires
-lay-merged-requires c κs =
-    let r = c .before .before .before .before .before .before .refusal-of .ensures .1 (c .before .before .before .before .before .if1 .left) in
-    (r, (standing r (c .before .whole-cell .ensures), whole-fits r (c .before .whole-cell .ensures)))
-
-note-requires : tie.Need-note-requires
-note-requires c κs = search needs
+lay-whole-requires : tie.Need-lay-whole-requires
+lay-whole-requires c κs = c .before .before .before .before .refusal-of .ensures .1 (c .before .before .before .if1 .left)
 
 same-length : tie.Need-same-length
 same-length c = search needs
 
+returns-2 : tie.Need-returns-2
+returns-2 c =
+    let r = c .before .before .before .before .before .before .before .refusal-of .ensures .1 (c .before .before .before .before .before .before .if1 .left) in
+    let e = c .before .before .lay-whole .ensures in
+    answer-accepted (c .before .before .before .before .before .before .before .refusal-of .ensures .0) (c .before .before .before .before .before .before .if1 .left) _ _
+    (answer-written _ _ (e .0) (omega (arith, e .0, merged-lent r (c .before .before .before .before .before .room-of .ensures) (c .before .before .before .before .if2 .taken))) (e .1))
+
+merged-short-requires : tie.Need-merged-short-requires
+merged-short-requires c κs = c .before .before .before .before .before .refusal-of .ensures .1 (c .before .before .before .before .if1 .left)
+
+same-length-2 : tie.Need-same-length-2
+same-length-2 c = search needs
+
 returns-3 : tie.Need-returns-3
-returns-3 c =
-    let r = c .before .before .before .before .before .before .before .before .before .before .before .before .before .refusal-of .ensures .1 (c .before .before .before .before .before .before .before .before .before .before .before .before .if1 .left) in
-    let e = c .before .before .before .before .before .before .before .before .whole-cell .ensures in
-    let p = c .before .before .before .before .before .before .lay-merged .ensures .0 in
-    answer-written (c .before .before .before .before .before .before .before .before .before .before .before .before .before .refusal-of .ensures .0) _ _ (c .before .before .before .before .before .before .before .before .before .before .before .before .if1 .left) (merged-fits r _ _ (c .before .before .before .before .before .before .before .before .before .before .before .merged-lacking .ensures) (c .before .before .before .before .before .before .before .before .before .before .if2 .left)) (piece-length r e p)
-    (noted-whole r e p _ (c .before .before .before .before .before .before .lay-merged .ensures .1) (c .before .before .note .ensures))
+returns-3 c = answer-accepted (c .before .before .before .before .before .before .before .before .refusal-of .ensures .0) (c .before .before .before .before .before .before .before .if1 .left) _ _ (c .before .before .merged-short .ensures)
+
+merged-long-requires : tie.Need-merged-long-requires
+merged-long-requires c κs = c .before .before .before .before .before .refusal-of .ensures .1 (c .before .before .before .before .if1 .left)
+
+same-length-3 : tie.Need-same-length-3
+same-length-3 c = search needs
+
+returns-4 : tie.Need-returns-4
+returns-4 c = answer-accepted (c .before .before .before .before .before .before .before .before .refusal-of .ensures .0) (c .before .before .before .before .before .before .before .if1 .left) _ _ (c .before .before .merged-long .ensures)
 
 pub merged-of-two-spec : {M : Type 1} → statement M
 merged-of-two-spec =
@@ -49,11 +52,13 @@ merged-of-two-spec =
     (tie.spec
     refusal-of-requires
     returns
-    merged-lacking-requires
-    returns-2
-    mul-levels
-    whole-cell-requires
-    lay-merged-requires
-    note-requires
+    room-of-requires
+    lay-whole-requires
     same-length
-    returns-3)
+    returns-2
+    merged-short-requires
+    same-length-2
+    returns-3
+    merged-long-requires
+    same-length-3
+    returns-4)

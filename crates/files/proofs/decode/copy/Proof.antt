@@ -3,18 +3,19 @@ use Prim.Native.Nat.{_-_}
 use native.Mathlib.Omega.{arith}
 use borrow.Author.Needs.{needs}
 use lib.ListN.{length}
-use Rattle.files.proofs.Lent.{Copying, copying-start, copying-next, copying-length, copying-end}
+use native.Mathlib.Nat.{le-refl}
+use Rattle.lemmas.proofs.Stores.{Copying, copying-start, copying-next, copying-end}
 use Rattle.files.proofs.decode.copy.Statement.{statement}
 use Rattle.files.proofs.decode.copy.Tie as tie
 
 abbrev Inv-loop : tie.InvT-loop
-Inv-loop bytes out₀ at i₀ out i = Copying bytes out₀ at i out
+Inv-loop bytes out₀ at i₀ out i = Copying bytes out₀ at (length bytes) i out
 
 abbrev μ-loop : tie.MeasureT-loop
 μ-loop bytes out₀ at i₀ out i = length bytes - i
 
 loop-holds : tie.Need-loop-holds Inv-loop μ-loop
-loop-holds c = copying-start _ _ _ (c .pre)
+loop-holds c = copying-start _ _ _ _ (le-refl _) (c .pre)
 
 shared-slice-read-out : tie.Need-shared-slice-read-out Inv-loop μ-loop
 shared-slice-read-out c = search needs
@@ -35,7 +36,7 @@ loop-again : tie.Need-loop-again Inv-loop μ-loop
 loop-again c = copying-next (c .before .before .loop .inv) (c .before .loop-test .taken)
 
 same-length : tie.Need-same-length Inv-loop μ-loop
-same-length c = copying-length (c .before .loop .inv)
+same-length c = c .before .loop .inv .long
 
 returns : tie.Need-returns Inv-loop μ-loop
 returns c = copying-end (c .before .loop .inv) (c .loop-test .left)

@@ -1,4 +1,4 @@
--- The state of the conversion's recursion: a cell, the two ends of a block along each axis and the axis to halve, with the levels left below it.
+-- The state of the conversion's recursion: a block's low corner and its sides, the levels left below it, and the axis to halve.
 use Prim.Native.Nat.{ℕ, zero, suc, _+_, _-_, _/_, _≤_, _<_}
 use mathlib.Core.Path.{_≡_}
 use mathlib.Core.Bool.{cond}
@@ -14,8 +14,7 @@ use Rattle.csg.specs.Tree.{Tree}
 use Rattle.csg.specs.Words.{mostWords, treeRefusal, treeOf}
 use Rattle.csg.specs.Marks.{treeMark, treeColour}
 use Rattle.csg.specs.Raw.{both}
-use Rattle.convert.specs.declared.cell.Cell.{Cell}
-use Rattle.convert.specs.Small.{SmallCorner}
+use Rattle.convert.specs.Small.{SmallPlace}
 
 -- two trees that are intersected: what a run converts
 abbrev pub treesOf : List ℤ → List ℕ → List ℕ → Tree
@@ -38,39 +37,31 @@ pub record RoomReady (u : Universe) (first second : List ℕ) : Type 0 where
 abbrev pub blockAt : Universe → ℕ → List ℕ → Block
 blockAt u left low = record { universe = u; level = levels u - left; low = low }
 
--- a cell whose axis is one of four, and whose places are small
-pub record CellReady (cell : Cell) : Type 0 where
-  pub axis-few : cell .axis < mostAxes
-  pub lows : SmallCorner (cell .low)
-  pub highs : SmallCorner (cell .high)
-
--- a cell holds the ends of that block
-pub record Standing (u : Universe) (left : ℕ) (cell : Cell) : Type 0 where
+-- an array holds the low corner of that block, another its sides
+pub record Standing (u : Universe) (left : ℕ) (low side : List ℕ) : Type 0 where
   pub above : left ≤ levels u
-  pub low-places : length (cell .low) ≡ mostAxes
-  pub high-places : length (cell .high) ≡ mostAxes
-  pub lows : SmallCorner (cell .low)
-  pub highs : SmallCorner (cell .high)
-  pub ends : (i : ℕ) → i < u .axes → getD (cell .high) i 0 ≡ getD (cell .low) i 0 + blockSide u (levels u - left) i
-  pub axis : cell .axis ≡ axisAt u (levels u - left)
+  pub low-places : length low ≡ mostAxes
+  pub side-places : length side ≡ mostAxes
+  pub inside : (i : ℕ) → SmallPlace (getD low i 0 + getD side i 0)
+  pub along : (i : ℕ) → i < u .axes → getD side i 0 ≡ blockSide u (levels u - left) i
 
--- the cell of the whole universe
-abbrev pub wholeCell : Universe → Cell
-wholeCell u = record { low = replicate mostAxes 0; high = replicate mostAxes (sideAlong u 0); axis = 0 }
+-- the sides of the whole universe's block, whose low corner is 0 along each axis
+abbrev pub wholeSides : Universe → List ℕ
+wholeSides u = replicate mostAxes (sideAlong u 0)
 
 -- the axis after this one, in turn
 abbrev pub nextAxis : ℕ → ℕ → ℕ
 nextAxis axes axis = cond (eqb (axis + 1) axes) 0 (axis + 1)
 
--- the middle of a cell along its axis, and its halves
-abbrev pub middle : Cell → ℕ
-middle cell = (getD (cell .low) (cell .axis) 0 + getD (cell .high) (cell .axis) 0) / 2
+-- half a block's side along an axis; the sides of both halves, and the low corner of the high one
+abbrev pub halfSide : List ℕ → ℕ → ℕ
+halfSide side axis = getD side axis 0 / 2
 
-abbrev pub lowerCell : ℕ → Cell → Cell
-lowerCell axes cell = record { low = cell .low; high = set (cell .high) (cell .axis) (middle cell); axis = nextAxis axes (cell .axis) }
+abbrev pub halvedSides : List ℕ → ℕ → List ℕ
+halvedSides side axis = set side axis (halfSide side axis)
 
-abbrev pub upperCell : ℕ → Cell → Cell
-upperCell axes cell = record { low = set (cell .low) (cell .axis) (middle cell); high = cell .high; axis = nextAxis axes (cell .axis) }
+abbrev pub highCorner : List ℕ → List ℕ → ℕ → List ℕ
+highCorner low side axis = set low axis (getD low axis 0 + halfSide side axis)
 
 -- how a block is judged: by the tree's mark, at level L by its colour at the centre
 unfoldable pub judged : List ℤ → Tree → ℕ → Block → Mark

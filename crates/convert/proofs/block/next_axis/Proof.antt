@@ -1,8 +1,8 @@
 -- `next_axis` is the axis in turn: by its test.
 use borrow.Author.Tests.{eq-eqb, ne-eqb}
 use borrow.Author.Needs.{needs}
-use Rattle.convert.proofs.cell.next_axis.Statement.{statement}
-use Rattle.convert.proofs.cell.next_axis.Tie as tie
+use Rattle.convert.proofs.block.next_axis.Statement.{statement}
+use Rattle.convert.proofs.block.next_axis.Tie as tie
 
 add-if1 : tie.Need-add-if1
 add-if1 c = search needs
