@@ -4,6 +4,7 @@ use bintree::Verdict;
 use bintree::Written;
 use convert::Clearance;
 use libc::STDOUT_FILENO;
+use reader::Symbol;
 use universe::Universe;
 
 const LENT: usize = 20;
@@ -152,6 +153,46 @@ fn colour(expression: &[u8], voxel: [u64; 4]) {
     }
 }
 
+fn symbol(given: Symbol) {
+    match given {
+        Symbol::Halved => say(b"("),
+        Symbol::Black => say(b"B"),
+        Symbol::White => say(b"W"),
+        Symbol::End => say(b" End"),
+    }
+}
+
+// The symbol at a place, and the place that a reader goes on to.
+fn step(held: &[u8], place: usize) -> usize {
+    symbol(reader::symbol_at(held, place));
+    reader::place_after(held, place)
+}
+
+// A reader: its number, its first symbol, and five symbols in turn.
+fn read_on(universe: Universe, expression: &[u8]) {
+    say(expression);
+    say(b" reader ");
+    number(reader::refusal(universe, expression));
+    say(b" ");
+    symbol(reader::first(universe, expression));
+    say(b" then ");
+    let held = reader::held(universe, expression);
+    let second = step(held, 0);
+    let third = step(held, second);
+    let fourth = step(held, third);
+    let fifth = step(held, fourth);
+    step(held, fifth);
+    say(b"\n");
+}
+
+// Readers of expressions that are taken, and that are refused 7 and 2.
+fn readers() {
+    read_on(square(), b"(BW");
+    read_on(square(), b"(B(WB");
+    read_on(square(), b"(B");
+    read_on(Universe { axes: 0, bits: 2 }, b"B");
+}
+
 // Room for so many leaves.
 fn room_for(axes: u64, bits: u64, leaves: u64) {
     let answer = Universe {
@@ -251,6 +292,7 @@ fn refusals() {
 fn main() {
     conversions();
     readings();
+    readers();
     refusals();
     room_for(2, 2, 1);
     room_for(2, 2, 2);

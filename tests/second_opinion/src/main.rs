@@ -12,8 +12,12 @@ use second_opinion::generate::{self, Random};
 use second_opinion::plain::{self, Universe};
 use std::fmt::Write;
 
-/// Conversions of more blocks than this are not compared: d 4, k 10 can have 2^41 − 1 of them.
+/// Conversions of more blocks than this are compared among the long ones alone.
 const MOST_BLOCKS: u64 = 8_400;
+
+/// The long ones have more blocks than the first, and at most the last; every other has more than the middle one. The
+/// library's scratch room is as large as the first two. d 4, k 10 can have 2^41 − 1 blocks: those are not compared.
+const LONG_BLOCKS: [u64; 3] = [4_096, 65_536, 140_000];
 
 const GUARD: usize = 24;
 
@@ -258,18 +262,26 @@ fn two_trees(line: &mut Line, random: &mut Random, plain: RawTwo, library: RawTw
         plain(case.axes, case.bits, &case.rows, &case.first, &case.second, &mut [], &mut need);
     }
     let lent = lent_for(random, need[0], formula);
+    compare_two_trees(line, &case, lent, plain, library);
+}
+
+fn compare_two_trees(line: &mut Line, case: &generate::RunCase, lent: usize, plain: RawTwo, library: RawTwo) {
     let [plain, library] = [plain, library].map(|convert| {
         let (mut out, mut answer) = (bytes(lent), longs(1));
         let number = convert(case.axes, case.bits, &case.rows, &case.first, &case.second, out.lent(), answer.array());
         Outcome { number, contents: vec![("answer", answer.into()), ("out", out.into())] }
     });
-    line.compare(plain, library, || run_text(&case, 2, lent));
+    line.compare(plain, library, || run_text(case, 2, lent));
 }
 
 fn verdicts(line: &mut Line, random: &mut Random) {
     let case = generate::run(random);
     let Some((blocks, formula)) = needed(&case, &[&case.first, &case.second]) else { return };
     let lent = lent_for(random, blocks, formula);
+    compare_verdicts(line, &case, lent);
+}
+
+fn compare_verdicts(line: &mut Line, case: &generate::RunCase, lent: usize) {
     let [plain, library] = [plain::verdict as Verdict, face::verdict].map(|judge| {
         let (mut out, mut answer) = (bytes(lent), longs(5));
         let number = judge(
@@ -279,8 +291,42 @@ fn verdicts(line: &mut Line, random: &mut Random) {
         Outcome { number, contents: vec![("answer", answer.into()), ("out", out.into())] }
     });
     line.compare(plain, library, || {
-        format!("{}\nfirst_frame = {}\nlast_frame = {}", run_text(&case, 2, lent), case.first_frame, case.last_frame)
+        format!("{}\nfirst_frame = {}\nlast_frame = {}", run_text(case, 2, lent), case.first_frame, case.last_frame)
     });
+}
+
+/// A conversion of many blocks, and the room to lend: around what is needed, around the scratch room, around the formula's.
+fn long_run(line: &Line, random: &mut Random, need: impl Fn(&generate::RunCase, u64) -> u64) -> (generate::RunCase, usize) {
+    let least = LONG_BLOCKS[line.cases as usize % 2];
+    loop {
+        let case = generate::run(random);
+        let Ok(run) = Run::checked(case.axes, case.bits, &case.rows, &[&case.first, &case.second]) else { continue };
+        match run.blocks_within(LONG_BLOCKS[2]) {
+            Some(blocks) if least < blocks => {
+                let around = match random.below(4) {
+                    0 => random.pick(&LONG_BLOCKS[..2]),
+                    1 if run.room() < 1 << 24 => run.room(),
+                    _ => need(&case, blocks),
+                };
+                return (case, (around + random.pick(&[0, 0, 1]) - random.pick(&[0, 0, 1])) as usize);
+            }
+            _ => {}
+        }
+    }
+}
+
+fn long_two_trees(line: &mut Line, random: &mut Random, plain: RawTwo, library: RawTwo) {
+    let (case, lent) = long_run(line, random, |case, _| {
+        let mut need = [0];
+        plain(case.axes, case.bits, &case.rows, &case.first, &case.second, &mut [], &mut need);
+        need[0]
+    });
+    compare_two_trees(line, &case, lent, plain, library);
+}
+
+fn long_verdicts(line: &mut Line, random: &mut Random) {
+    let (case, lent) = long_run(line, random, |_, blocks| blocks);
+    compare_verdicts(line, &case, lent);
 }
 
 fn reading_text(case: &generate::ReadingCase) -> String {
@@ -407,25 +453,28 @@ fn cuts(line: &mut Line, random: &mut Random) {
 
 type Compare = fn(&mut Line, &mut Random);
 
-/// Name, share of the rounds in percent, comparison.
-const ENTRY_POINTS: [(&str, u64, Compare); 17] = [
-    ("durbizhan_room", 100, rooms),
-    ("durbizhan_leaves", 100, leaves),
-    ("durbizhan_raw_one", 100, |line, random| one_tree(line, random, plain::raw_one, face::raw_one, false)),
-    ("durbizhan_raw_two", 100, |line, random| two_trees(line, random, plain::raw_two, face::raw_two, false)),
-    ("durbizhan_merged_one", 100, |line, random| one_tree(line, random, plain::merged_one, face::merged_one, true)),
-    ("durbizhan_merged_two", 100, |line, random| two_trees(line, random, plain::merged_two, face::merged_two, true)),
-    ("durbizhan_verdict", 100, verdicts),
-    ("durbizhan_well_formed", 200, well_formed),
-    ("durbizhan_volume", 100, volumes),
-    ("durbizhan_colour", 200, colours),
-    ("durbizhan_part", 200, parts),
-    ("durbizhan_merge", 200, |line, random| rewriting(line, random, plain::merge, face::merge)),
-    ("durbizhan_scene", 100, scenes),
-    ("durbizhan_shape_read", 200, shape_reads),
-    ("durbizhan_shape_write", 200, |line, random| rewriting(line, random, plain::shape_write, face::shape_write)),
-    ("durbizhan_box", 200, boxes),
-    ("durbizhan_cut", 200, cuts),
+/// Name, share of the rounds in a thousand, comparison.
+const ENTRY_POINTS: [(&str, u64, Compare); 20] = [
+    ("durbizhan_room", 1000, rooms),
+    ("durbizhan_leaves", 1000, leaves),
+    ("durbizhan_raw_one", 1000, |line, random| one_tree(line, random, plain::raw_one, face::raw_one, false)),
+    ("durbizhan_raw_two", 1000, |line, random| two_trees(line, random, plain::raw_two, face::raw_two, false)),
+    ("durbizhan_merged_one", 1000, |line, random| one_tree(line, random, plain::merged_one, face::merged_one, true)),
+    ("durbizhan_merged_two", 1000, |line, random| two_trees(line, random, plain::merged_two, face::merged_two, true)),
+    ("durbizhan_verdict", 1000, verdicts),
+    ("durbizhan_raw_two, long", 1, |line, random| long_two_trees(line, random, plain::raw_two, face::raw_two)),
+    ("durbizhan_merged_two, long", 1, |line, random| long_two_trees(line, random, plain::merged_two, face::merged_two)),
+    ("durbizhan_verdict, long", 1, long_verdicts),
+    ("durbizhan_well_formed", 2000, well_formed),
+    ("durbizhan_volume", 1000, volumes),
+    ("durbizhan_colour", 2000, colours),
+    ("durbizhan_part", 2000, parts),
+    ("durbizhan_merge", 2000, |line, random| rewriting(line, random, plain::merge, face::merge)),
+    ("durbizhan_scene", 1000, scenes),
+    ("durbizhan_shape_read", 2000, shape_reads),
+    ("durbizhan_shape_write", 2000, |line, random| rewriting(line, random, plain::shape_write, face::shape_write)),
+    ("durbizhan_box", 2000, boxes),
+    ("durbizhan_cut", 2000, cuts),
 ];
 
 /// What a command writes, given this on its standard input.
@@ -492,7 +541,7 @@ fn main() {
         }
         let mut line = Line { name, seed, cases: 0, counts: [0; 11] };
         let mut random = Random::new(seed.wrapping_mul(1000).wrapping_add(place as u64));
-        let wanted = rounds * share / 100;
+        let wanted = rounds * share / 1000;
         while line.cases < wanted {
             compare(&mut line, &mut random);
         }
