@@ -7,7 +7,7 @@ use native.Mathlib.Nat.{mul-le-mul}
 use native.Mathlib.Decide.{ℕ-discrete}
 use native.Mathlib.Omega.{arith}
 use borrow.Author.Tests.{eq-eqb, ne-eqb, le-leb, lt-leb}
-use lib.ListN.{length, take, drop}
+use lib.ListN.{length, drop}
 use Rattle.universe.specs.declared.Universe.{Universe}
 use Rattle.universe.specs.Refusals.{firstRefusal}
 use Rattle.universe.specs.Universe.{universeRefusal, levels}

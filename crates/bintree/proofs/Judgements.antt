@@ -1,16 +1,15 @@
 -- What src/window.rt answers of a whole expression: the checks in the order 2, 7, 9, then the verdict that the walk's contact is. Each law takes its
 -- premises in the form that code leaves them; `verdict-accepted` is for callers that know the expression's shape.
 use mathlib.Core.Path.{_≡_, refl, sym, ap, _∙_}
-use mathlib.Core.List.{List, _++_}
-use Prim.Native.Nat.{ℕ, _*_, _%_, _^_, _≤_, _<_}
+use mathlib.Core.List.{List}
+use Prim.Native.Nat.{ℕ, _≤_, _<_}
 use native.Mathlib.Nat.{le-refl, sub-self, sub-zero}
 use native.Mathlib.Decide.{ℕ-discrete}
 use native.Mathlib.Omega.{arith}
 use borrow.Author.Needs.{needs}
 use borrow.Author.Tests.{eq-eqb, ne-eqb, leb-true, ltb-true}
 use lib.Dec.{leb, ltb}
-use lib.ListN.{length, take}
-use lib.Seq.{take-at}
+use lib.ListN.{length}
 use Rattle.lemmas.proofs.Sums.{and-left, and-right}
 use Rattle.universe.specs.declared.Universe.{Universe}
 use Rattle.universe.specs.Universe.{universeRefusal, levels, frameAxis, frameCount}
@@ -23,14 +22,13 @@ use Rattle.bintree.specs.declared.Verdict.the-variants.{Clear, Hit}
 use Rattle.bintree.specs.declared.Judged.{Judged}
 use Rattle.bintree.specs.declared.window.Swept.{Swept}
 use Rattle.bintree.specs.declared.window.Swept.the-variants.{Until, Nothing}
-use Rattle.bintree.specs.Shape.{Shape, symbols, size, depth}
+use Rattle.bintree.specs.Shape.{Shape}
 use Rattle.bintree.specs.Reading.{none, read, readAt, expression}
 use Rattle.bintree.specs.Verdicts.{verdict}
 use Rattle.bintree.specs.Windows.{noContact, contactFrom, Carried, swept, refusedWith, verdictOf, judgedAt}
 use Rattle.bintree.specs.Answers.{windowChecks, verdictAnswer}
 use Rattle.bintree.proofs.Answers.{levels-fit}
-use Rattle.bintree.proofs.Shape.{length-symbols}
-use Rattle.bintree.proofs.Reading.{expression-none, expression-rest, expression-read, none-refused, shape-accepted, read-is, reads-back}
+use Rattle.bintree.proofs.Reading.{expression-none, expression-rest, expression-read, none-refused, shape-accepted, read-is}
 use Rattle.bintree.proofs.Windows.{contact-tells, verdict-is}
 use Rattle.bintree.proofs.Sweeps.{nothing-none, Reached, reached}
 
@@ -79,12 +77,6 @@ module _ (u : Universe) (s : List ℕ) (first last : ℕ) where
   verdict-accepted a ok x w =
       let e : windowChecks u s first last ≡ 0 = rw (eq-eqb (universeRefusal u) 0 ok, shape-accepted u s a x, eq-eqb (windowRefusal u first last) 0 w) in
       judged-eq e (rw (e, x))
-
--- the same for symbols that a caller wrote into the front of lent room
-pub verdict-written : (u : Universe) (a : Shape) (first last n : ℕ) (out rest : List ℕ) → universeRefusal u ≡ 0 → depth a ≤ levels u → windowRefusal u first last ≡ 0 → n ≡ size a → out ≡ symbols a ++ rest → verdictAnswer u (take n out) first last ≡ record { refusal = 0; verdict = verdict u a first last }
-verdict-written u a first last n out rest ok h w e f =
-    let front : take n out ≡ symbols a = rw (e, f) (take-at (symbols a) rest (size a) (length-symbols a)) in
-    verdict-accepted u (take n out) first last a ok (ap (expression u) front ∙ reads-back u a h) w
 
 -- the laws of `verdict_of`: `number` is the universe's own check, and the walk begins at the first symbol
 module _ (u : Universe) (s : List ℕ) (first last number : ℕ) (e : number ≡ universeRefusal u) where

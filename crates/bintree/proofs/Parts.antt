@@ -11,10 +11,11 @@ use lib.Seq.{take-at, drop-at, drop-drop}
 use Rattle.lemmas.specs.Sums.{every}
 use Rattle.lemmas.proofs.Sums.{and-left, and-right, and-both, every-all, all-every}
 use Rattle.universe.proofs.Refusals.{unless-holds, holds-unless}
+use Rattle.universe.proofs.Voxel.{path-length}
 use Rattle.universe.specs.declared.Universe.{Universe}
 use Rattle.universe.specs.Refusals.{unless}
 use Rattle.universe.specs.Universe.{levels}
-use Rattle.universe.specs.Voxel.{pathFrom, pathTo}
+use Rattle.universe.specs.Voxel.{pathTo}
 use Rattle.bintree.specs.declared.Colour.{Colour}
 use Rattle.bintree.specs.Shape.{Shape, leaf, halved, symbols, size, depth}
 use Rattle.bintree.specs.Parts.{part, partStart, pathRefusal}
@@ -116,13 +117,8 @@ pub leaf-part : (s : Shape) (path : List ℕ) → depth s ≤ length path → (c
 leaf-part s path h = flat-leaf (part s path) (omega (arith, depth-part s (length path) path h))
 
 -- a voxel's path has L halves
-pub length-pathFrom : (u : Universe) (v : List ℕ) (l n : ℕ) → length (pathFrom u v l n) ≡ n
-unfolding pathFrom
-length-pathFrom u v l zero = refl
-length-pathFrom u v l (suc n) = ap suc (length-pathFrom u v (suc l) n)
-
 pub length-path : (u : Universe) (v : List ℕ) → length (pathTo u v) ≡ levels u
-length-path u v = length-pathFrom u v 0 (levels u)
+length-path u v = path-length u v 0 (levels u)
 
 pub voxel-leaf : (u : Universe) (s : Shape) (v : List ℕ) → depth s ≤ levels u → (c : Colour) × (part s (pathTo u v) ≡ leaf c)
 voxel-leaf u s v h = leaf-part s (pathTo u v) (omega (arith, length-path u v))

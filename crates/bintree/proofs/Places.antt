@@ -19,13 +19,13 @@ use Rattle.bintree.specs.declared.count.Walked.{Walked}
 use Rattle.bintree.specs.declared.count.Walked.the-variants.{Past, Nowhere}
 use Rattle.bintree.specs.declared.place.Traced.{Traced}
 use Rattle.bintree.specs.declared.place.Traced.the-variants.{Led, Lost}
-use Rattle.bintree.specs.Shape.{Shape, leaf, halved, openSymbol, symbolOf, size}
+use Rattle.bintree.specs.Shape.{Shape, leaf, halved, openSymbol, size}
 use Rattle.bintree.specs.Reading.{Reading, none, read, readAt, expression}
 use Rattle.bintree.specs.Parts.{part, partStart, pathRefusal}
-use Rattle.bintree.specs.Walks.{walked, traced, judgedAt}
+use Rattle.bintree.specs.Walks.{walked, traced, placedAt}
 use Rattle.bintree.specs.Answers.{pathChecks, placeAnswer, partAnswer, cutAt}
 use Rattle.bintree.proofs.Reading.{leaf-at, other-at, end-at, deep-at, low-missing, high-missing, both-read, expression-none, expression-rest, expression-read}
-use Rattle.bintree.proofs.Parts.{IsPath, path-accepted, path-refused, part-empty, start-empty}
+use Rattle.bintree.proofs.Parts.{path-accepted, path-refused, part-empty, start-empty}
 use Rattle.bintree.proofs.Answers.{levels-few, levels-fit, path-universe, path-none, path-read, placed-eq, placed-refused, placed-read, placed-checks, placed-within}
 use Rattle.bintree.proofs.Walks.{Passed, passed, nowhere-none}
 
@@ -211,12 +211,12 @@ pub ruleset trace-laws = (needs, trace-done, trace-end, trace-leaf, trace-deep, 
 
 -- the laws of `judged`
 module _ (u : Universe) (path : List ℕ) (k m nine : ℕ) (e : nine ≡ pathRefusal u path) where
-  pub judged-outside : (nine ≡ 0 → ⊥) → record { refusal = nine; start = 0; length = 0 } ≡ judgedAt u path k m
-  unfolding judgedAt
+  pub judged-outside : (nine ≡ 0 → ⊥) → record { refusal = nine; start = 0; length = 0 } ≡ placedAt u path k m
+  unfolding placedAt
   judged-outside n = rw (← e, ne-eqb nine 0 n)
 
-  pub judged-inside : nine ≡ 0 → record { refusal = 0; start = k; length = m } ≡ judgedAt u path k m
-  unfolding judgedAt
+  pub judged-inside : nine ≡ 0 → record { refusal = 0; start = k; length = m } ≡ placedAt u path k m
+  unfolding placedAt
   judged-inside z = rw (← e, eq-eqb nine 0 z) (placed-eq (sym z) refl refl)
 
 pub ruleset judged-laws = (needs, judged-outside, judged-inside)
@@ -243,8 +243,8 @@ module _ (u : Universe) (s path : List ℕ) (number : ℕ) (e : number ≡ unive
       all-followed : q ≡ length s → expression u s ≡ read (first-followed .shape)
       all-followed k = let w = first-followed in expression-read u s (w .shape) (w .is) (omega (arith, w .after))
 
-      pub place-judged : (judged : Placed) → q ≡ length s → judged ≡ judgedAt u path k m → judged ≡ placeAnswer u s path
-      unfolding judgedAt
+      pub place-judged : (judged : Placed) → q ≡ length s → judged ≡ placedAt u path k m → judged ≡ placeAnswer u s path
+      unfolding placedAt
       place-judged judged l h = h ∙ go (ℕ-discrete (pathRefusal u path) 0)
         where
           a : Shape
@@ -253,7 +253,7 @@ module _ (u : Universe) (s path : List ℕ) (number : ℕ) (e : number ≡ unive
           checks : pathChecks u s path ≡ pathRefusal u path
           checks = path-read u number e s path a z (all-followed l)
 
-          go : Dec (pathRefusal u path ≡ 0) → judgedAt u path k m ≡ placeAnswer u s path
+          go : Dec (pathRefusal u path ≡ 0) → placedAt u path k m ≡ placeAnswer u s path
           go (yes n) =
               let starts : k ≡ partStart a path = omega (arith, first-followed .starts) in
               rw (eq-eqb (pathRefusal u path) 0 n) (placed-eq n starts (first-followed .long) ∙ placed-read u s path a (checks ∙ n) (all-followed l))

@@ -51,8 +51,8 @@ traced p none path = Lost
 traced p (read a) path = Led (p + size a) (p + partStart a path) (size (part a path))
 
 -- the answer for a path of a well-formed expression
-unfoldable pub judgedAt : Universe → List ℕ → ℕ → ℕ → Placed
-judgedAt u path start length =
+unfoldable pub placedAt : Universe → List ℕ → ℕ → ℕ → Placed
+placedAt u path start length =
     record {
       refusal = pathRefusal u path;
       start = cond (eqb (pathRefusal u path) 0) start 0;

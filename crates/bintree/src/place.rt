@@ -6,7 +6,7 @@ ghost use lib.ListN.{drop};
 ghost use Rattle.universe.specs.Universe.{universeRefusal};
 ghost use Rattle.bintree.specs.Reading.{readAt};
 ghost use Rattle.bintree.specs.Parts.{pathRefusal};
-ghost use Rattle.bintree.specs.Walks.{traced, judgedAt};
+ghost use Rattle.bintree.specs.Walks.{traced, placedAt};
 ghost use Rattle.bintree.specs.Answers.{pathChecks, placeAnswer, partAnswer};
 use crate::Placed;
 use crate::count::Walked;
@@ -84,7 +84,7 @@ fn trace(expression: &[u8], at: usize, left: u64, path: &[u8], step: usize) -> T
 // The answer for a path of a well-formed expression: the place found, or 9 where the path is refused.
 fn judged(universe: Universe, path: &[u8], start: usize, length: usize) -> Placed
     requires { ⌜ universeRefusal universe ≡ 0 ⌝ }
-    ensures { λ r. ⌜ r ≡ judgedAt universe (now (path .entry)) start length ⌝ }
+    ensures { λ r. ⌜ r ≡ placedAt universe (now (path .entry)) start length ⌝ }
 {
     let nine = strayed(universe, path);
     if nine != 0 {

@@ -1,11 +1,11 @@
 -- Document 01's P cases hold: the closed ones by computation, both sides being computed and compared; the quantified ones since no level is
 -- counted where there are no halfspace words, and there are no levels where there are no bits.
-use Prim.Native.Nat.{ℕ, zero, suc, _+_, _*_, _-_, _^_, min}
-use mathlib.Core.Path.{_≡_, refl, sym, ap, _∙_}
-use mathlib.Core.List.{List, [], _∷_, map}
+use Prim.Native.Nat.{ℕ, zero, suc}
+use mathlib.Core.Path.{_≡_, refl}
+use mathlib.Core.List.{List, [], map}
 use native.Mathlib.Nat.{mul-zero}
 use native.Mathlib.Omega.{arith}
-use lib.IntN.{ℤ, pos}
+use lib.IntN.{ℤ}
 use lib.ListN.{length}
 use Rattle.lemmas.specs.Sums.{sum, total, product, every}
 use Rattle.universe.specs.declared.Universe.{Universe}
@@ -24,7 +24,7 @@ use Rattle.csg.specs.Halfspace.{Mark, decided, undecided, centreValue, colourAt
 use Rattle.csg.specs.Tree.{Tree, plain, reversal}
 use Rattle.csg.specs.Words.{meaning, step, finish, run, parse, treeOf, halfspaceWords}
 use Rattle.csg.specs.Marks.{unionMark, intersectionMark, unionColour, intersectionColour, leafMark, leafColour, plainMark, plainColour, treeMark, treeColour}
-use Rattle.csg.specs.Raw.{examine, raw}
+use Rattle.csg.specs.Raw.{examine}
 use Rattle.cases.specs.Cases.{closed, cases, Every, NoLeavesRoom, NoBitsOneSymbol, NoBitsRoom, universe}
 
 computed : map (λ c. c .computed) closed ≡ map (λ c. c .expected) closed

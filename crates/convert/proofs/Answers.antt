@@ -22,9 +22,8 @@ use Rattle.bintree.proofs.Answers.{written-refused, kept-refused, written-short
 use Rattle.lemmas.proofs.Stores.{sets-first, stores-copied}
 use Rattle.csg.specs.Halfspace.{rowCount, rowsRefusal, mostRows}
 use Rattle.csg.specs.Tree.{leaves}
-use Rattle.csg.specs.Words.{mostWords, treeRefusal, treeOf, halfspaceWords}
-use Rattle.csg.specs.Raw.{raw, examine}
-use Rattle.csg.proofs.Words.{accepted-length, tree-leaves, halfspace-words-most}
+use Rattle.csg.specs.Words.{treeRefusal, halfspaceWords}
+use Rattle.csg.proofs.Words.{accepted-length, tree-leaves}
 use Rattle.demands.proofs.Room.{raw-room}
 use Rattle.convert.specs.Blocks.{Ready, RoomReady, Standing, treesOf, wholeSides}
 use Rattle.convert.specs.Shapes.{shapeOf}

@@ -1,23 +1,20 @@
 -- The block that the arrays hold. Halving the side along the axis in turn gives both halves: the low one has the block's own corner, the high one lies half
 -- a side further along that axis.
 use Prim.Native.Nat.{ℕ, zero, suc, _+_, _-_, _*_, _/_, _%_, _^_, _≤_, _<_}
-use mathlib.Core.Path.{_≡_, refl, sym, ap, subst, _∙_}
-use mathlib.Core.Bool.{Bool, true, false, cond}
+use mathlib.Core.Path.{_≡_, refl, sym, ap, _∙_}
 use mathlib.Core.List.{List}
 use native.Mathlib.Nat.{mod-eq-of-lt, mod-lt, div-add-mod', suc-mul}
 use native.Mathlib.Omega.{arith}
 use native.Mathlib.Decide.{ℕ-discrete}
 use borrow.Author.Tests.{eq-eqb, ne-eqb}
-use lib.ListN.{length, getD, set, replicate, length-set, getD-replicate}
+use lib.ListN.{getD, replicate, length-set, getD-replicate}
 use lib.Seq.{getD-set-same, getD-set-other}
 use lib.Arith.{digits-mod}
-use lib.Dec.{eqb}
 use Rattle.universe.specs.declared.Universe.{Universe}
-use Rattle.universe.specs.declared.Block.{Block}
 use Rattle.universe.specs.Universe.{mostAxes, mostBits, universeRefusal, levels, axisAt, sideAlong, blockSide}
 use Rattle.universe.specs.Block.{wholeBlock, low, high}
 use Rattle.universe.proofs.Universes.{Accepted, accepted, side-few, axis-below, side-first, side-halved, side-kept}
-use Rattle.convert.specs.Small.{SmallPlace, SmallCorner}
+use Rattle.convert.specs.Small.{SmallCorner}
 use Rattle.convert.specs.Blocks.{Standing, blockAt, wholeSides, nextAxis, halfSide, halvedSides, highCorner}
 
 -- a block that ends inside the universe has a small corner and small sides

@@ -7,7 +7,7 @@ use native.Mathlib.Omega.{arith}
 use native.Mathlib.Decide.{decLe}
 use borrow.Author.Tests.{eq-eqb, ne-eqb, le-leb, lt-leb}
 use lib.IntN.{ℤ}
-use lib.ListN.{length, take, drop, length-append, length-drop}
+use lib.ListN.{length, take, drop, length-append}
 use lib.Seq.{take-append-seam}
 use Rattle.universe.specs.declared.Universe.{Universe}
 use Rattle.universe.specs.Voxel.{windowRefusal}
@@ -18,7 +18,7 @@ use Rattle.bintree.specs.declared.Verdict.the-variants.{Clear}
 use Rattle.bintree.specs.Reading.{read, expression}
 use Rattle.bintree.specs.Verdicts.{verdict}
 use Rattle.bintree.specs.Answers.{writtenAnswer, writtenBuffer, verdictAnswer}
-use Rattle.bintree.proofs.Answers.{kept-refused, written-short, kept-short, written-all, left-all}
+use Rattle.bintree.proofs.Answers.{kept-refused, written-short, written-all, left-all}
 use Rattle.bintree.proofs.Judgements.{verdict-accepted}
 use Rattle.csg.specs.Raw.{raw}
 use Rattle.demands.proofs.Colours.{raw-shows}

@@ -8,7 +8,7 @@ use lib.ListN.{length}
 use lib.Seq.{sets}
 use Rattle.universe.specs.declared.Universe.{Universe}
 use Rattle.universe.specs.Room.{room}
-use Rattle.bintree.specs.Shape.{symbols, size}
+use Rattle.bintree.specs.Shape.{symbols}
 use Rattle.bintree.specs.Merging.{merged}
 use Rattle.bintree.specs.Walks.{noted, laid}
 use Rattle.bintree.proofs.Shape.{length-symbols}

@@ -3,7 +3,6 @@ use Prim.Native.Nat.{ℕ, zero, suc}
 use mathlib.Core.Path.{_≡_, refl, sym, ap, ap₂, _∙_}
 use mathlib.Core.List.{List, [], _∷_}
 use lib.IntN.{ℤ}
-use lib.ListN.{length}
 use Rattle.universe.specs.declared.Universe.{Universe}
 use Rattle.universe.specs.declared.Block.{Block}
 use Rattle.universe.specs.Universe.{levels}
@@ -18,7 +17,7 @@ use Rattle.csg.specs.Halfspace.{Mark, decided, undecided, rowCount}
 use Rattle.csg.specs.Tree.{Tree, leaf, black, plain}
 use Rattle.csg.specs.Words.{meaning, step, finish, run, parse, treeRefusal, treeOf}
 use Rattle.csg.specs.Marks.{intersectionMark, intersectionColour, plainMark, plainColour, treeMark, treeColour}
-use Rattle.csg.specs.Raw.{both, examine, raw}
+use Rattle.csg.specs.Raw.{both, examine}
 use Rattle.csg.proofs.Raw.{examine-decided, examine-undecided, examine-voxel}
 use Rattle.convert.specs.Answers.{refusalOfOne, refusalOfTwo, rawOfOne, rawOfTwo, mergedOfOne, mergedOfTwo}
 

@@ -1,14 +1,12 @@
 -- Laying the merged shape of a block: two halves that merge to one leaf are held back together, else `(` and what was held back of them is written.
-use Prim.Native.Nat.{ℕ, suc, _+_, _-_, _^_, _≤_, _<_}
+use Prim.Native.Nat.{ℕ, suc, _+_, _-_, _^_, _<_}
 use mathlib.Core.Path.{_≡_, refl, sym, ap, _∙_}
 use mathlib.Core.Bool.{Bool, true, false}
 use mathlib.Core.List.{List}
 use native.Mathlib.Omega.{arith}
 use lib.IntN.{ℤ}
-use lib.ListN.{length}
 use Rattle.universe.specs.declared.Universe.{Universe}
-use Rattle.bintree.specs.declared.Colour.{Colour}
-use Rattle.bintree.specs.Shape.{Shape, leaf, halved, size, symbolOf}
+use Rattle.bintree.specs.Shape.{Shape, leaf, halved, size}
 use Rattle.bintree.specs.Merging.{merged}
 use Rattle.bintree.specs.Walks.{heldOf, isAlike, opened, laid}
 use Rattle.bintree.proofs.Merging.{merged-size}

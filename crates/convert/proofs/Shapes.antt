@@ -1,19 +1,17 @@
 -- What the recursion meets at a block: judged BLACK or WHITE it is one leaf, undecided it is halved, and both halves stand one level on. A shape of n
 -- levels has fewer than 2^(n+1) symbols, so that lengths fit.
-use Prim.Native.Nat.{ℕ, zero, suc, _+_, _-_, _*_, _^_, _≤_, _<_, max}
+use Prim.Native.Nat.{ℕ, zero, suc, _+_, _-_, _^_, _≤_, _<_, max}
 use mathlib.Core.Path.{_≡_, refl, sym, ap, ap₂, _∙_}
-use mathlib.Core.Bool.{Bool, true, false}
 use mathlib.Core.List.{List}
 use native.Mathlib.Nat.{le-max-left, le-max-right, two-pow-succ, le-trans}
 use native.Mathlib.Numerals.{add-one}
 use native.Mathlib.Omega.{arith}
 use lib.IntN.{ℤ}
-use lib.Pow.{pow-mono, pow-pos}
+use lib.Pow.{pow-mono}
 use lib.ListN.{length, set}
 use lib.Seq.{sets}
 use Rattle.lemmas.proofs.Stores.{sets-append}
 use Rattle.universe.specs.declared.Universe.{Universe}
-use Rattle.universe.specs.declared.Block.{Block}
 use Rattle.universe.specs.Universe.{mostAxes, levels, axisAt}
 use Rattle.universe.proofs.Universes.{accepted, levels-few}
 use Rattle.bintree.specs.declared.Colour.{Colour}

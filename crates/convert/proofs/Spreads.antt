@@ -3,21 +3,21 @@
 -- against 0, and over a voxel's block it is twice the value at the centre.
 use Prim.Native.Nat.{ℕ, zero, suc, _+_, _*_, _≤_, _<_}
 use mathlib.Core.Path.{_≡_, refl, sym, ap, _∙_}
-use mathlib.Core.Logic.{⊎-elim}
 use mathlib.Core.Bool.{Bool, true, false, cond}
 use mathlib.Core.List.{List}
 use native.Mathlib.Omega.{arith}
 use lib.Dec.{lit≤, lit<}
-use lib.IntN.{ℤ, pos, negsuc, natAbs, _+ℤ_, _-ℤ_, _*ℤ_}
+use lib.IntN.{ℤ, pos, natAbs, _+ℤ_, _-ℤ_, _*ℤ_}
 use lib.ListN.{getD}
-use lib.Signed.{_≤ℤ_, _<ℤ_, leZ, ltZ}
+use lib.Signed.{leZ, ltZ}
 use mir.Syntax.{w64}
 use mir.Val.{SFits, toZ, ofZ}
 use mir.ValLaws.{toZ-ofZ}
 use Rattle.lemmas.specs.Sums.{sum}
 use Rattle.lemmas.proofs.Sums.{sum-cong}
 use Rattle.lemmas.proofs.Machine.{Near, near, near-lit, near-nat, near-cast, near-add, near-sub, near-mul, near-call, near-back, near-fits, near-as, natAbs-parts, size-add}
-use Rattle.lemmas.proofs.Whole.{up, dn, Is, is-nat, is-self, is-add, is-mul, is-eq, is-le, is-lt, le-is, lt-is, le-or-lt, le-leZ, lt-leZ, ltZ-true, ι, ν, _⊕_, _⊗_, eq-by}
+use Rattle.lemmas.proofs.Totals.{weighted-add}
+use Rattle.lemmas.proofs.Whole.{up, dn, Is, is-nat, is-self, is-add, is-mul, is-eq, negative-size, positive-size, doubled-test, ι, ν, _⊕_, _⊗_, eq-by}
 use Rattle.universe.specs.declared.Block.{Block}
 use Rattle.universe.specs.Universe.{offsetLimit, coefficientLimit, mostAxes}
 use Rattle.universe.specs.Block.{lowAlong, lengthAlong}
@@ -26,29 +26,6 @@ use Rattle.csg.proofs.Halfspace.{axesOf, endAlong, added, taken, rise, fall, le
 use Rattle.convert.specs.declared.spread.Spread.{Spread}
 use Rattle.convert.specs.Codes.{spreadWith, spreadOf, spreadCode, leafCode}
 use Rattle.convert.specs.Small.{SmallCoefficient, SmallPlace, SmallSpread, SmallDoubled, SpreadReady, JudgeReady, spreadLimit}
-
--- ---- whole numbers: how far one is from 0
-pub negative-size : (z : ℤ) → ltZ z (pos 0) ≡ true → pos 0 -ℤ z ≡ pos (natAbs z)
-negative-size (pos n) e = absurd (omega (arith, lt-is (is-nat n) (is-nat 0) (ltZ-true (pos n) (pos 0) e)))
-negative-size (negsuc n) e = ap pos (omega arith)
-
-pub positive-size : (z : ℤ) → ltZ z (pos 0) ≡ false → z ≡ pos (natAbs z)
-positive-size (pos n) e = refl
-positive-size (negsuc n) e = let z : _≡_ {A = ℕ} 0 1 = cc in absurd (omega arith)
-
--- where b − a is twice d − c, one test is the other
-pub doubled-test : {a b c d : ℤ} {p n q m s t v w : ℕ} → Is a p n → Is b q m → Is c s t → Is d v w → p + m + 2 * (v + t) ≡ q + n + 2 * (s + w) → leZ a b ≡ leZ c d
-doubled-test {a} {b} i j k l e =
-    ⊎-elim
-    (λ (h : a ≤ℤ b). le-leZ h ∙ sym (le-leZ (is-le k l (omega (arith, le-is i j h)))))
-    (λ (h : b <ℤ a). lt-leZ h ∙ sym (lt-leZ (is-lt l k (omega (arith, lt-is j i h)))))
-    (le-or-lt a b)
-
--- a weighted sum of sums
-pub weighted-add : (n : ℕ) (u x y : ℕ → ℕ) → sum n (λ i. u i * (x i + y i)) ≡ sum n (λ i. u i * x i) + sum n (λ i. u i * y i)
-unfolding sum
-weighted-add zero u x y = refl
-weighted-add (suc n) u x y = omega (arith, weighted-add n u x y)
 
 -- ---- a small spread, and its two tests, as the machine computes them
 -- what the machine reads of a number that it holds

@@ -12,7 +12,7 @@ use lib.Signed.{_≤ℤ_, _<ℤ_, leZ, <ℤ-≤ℤ-trans}
 use lib.ListN.{length, getD, set}
 use lib.Seq.{getD-set-same, getD-set-other, set-out}
 use Rattle.lemmas.specs.Sums.{sum}
-use Rattle.lemmas.proofs.Whole.{up, dn, up-neg, dn-neg, one-part, Is, is-le, is-lt, is-eq, le-is, lt-is, is-nat, is-self, is-add, is-neg, is-mul, is-scale, leZ-true, leZ-false, le-leZ, lt-leZ, ι, ν, ⊝, lt-by, lt-of}
+use Rattle.lemmas.proofs.Whole.{up, dn, up-neg, dn-neg, one-part, Is, is-le, is-lt, is-eq, le-is, lt-is, is-nat, is-self, is-add, is-neg, is-mul, is-scale, leZ-true, leZ-false, le-leZ, lt-leZ}
 use Rattle.lemmas.proofs.Sums.{sum-cong, sum-zero, total-cong}
 use Rattle.lemmas.proofs.Totals.{le-then-le, below-negated, negated-below, total-is, weighted-le, weighted-lt, weightless, centre-above, centre-below, centre-between}
 use Rattle.universe.specs.declared.Universe.{Universe}
@@ -356,14 +356,6 @@ module _ (h : Halfspace) where
   pub negated-marks : (b : Block) → markOver (negated h) b ≡ cond (leZ (greatest h b) (pos 0)) (decided Black) (cond (leZ (pos 0) (least h b)) (decided White) undecided)
   unfolding markOver
   negated-marks b = rw (least-negated b, greatest-negated b, below-negated (greatest h b), negated-below (least h b))
-
-  -- an active leaf crosses, reversed too
-  pub active-crosses-negated : (b : Block) → markOver (negated h) b ≡ undecided → (least h b <ℤ pos 0) × (pos 0 <ℤ greatest h b)
-  active-crosses-negated b e =
-      let m = active-crosses (negated h) b e in (
-        lt-by (ι (least h b)) (ν 0) (omega (arith, lt-of (ν 0) (⊝ (ι (least h b))) (rw (greatest-negated b) at (m .1)))),
-        lt-by (ν 0) (ι (greatest h b)) (omega (arith, lt-of (⊝ (ι (greatest h b))) (ν 0) (rw (least-negated b) at (m .0)))),
-      )
 
 -- ---- the all-zero halfspace is BLACK over every block, and so is its reversal
 module _ (h : Halfspace) (b : Block) (no-offset : h .offset ≡ pos 0) (no-slope : (i : ℕ) → i < axesOf b → h .coefficient i ≡ pos 0) where

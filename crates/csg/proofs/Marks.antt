@@ -3,22 +3,21 @@
 -- Of halfspaces only `leaf-sound`, `leaf-persistent` and, where a tree is undecided, the mark of a leaf are used.
 use Prim.Native.Nat.{ℕ, _<_}
 use mathlib.Core.Path.{_≡_, refl, ap, _∙_}
-use mathlib.Core.Bool.{Bool, true, false}
+use mathlib.Core.Bool.{Bool}
 use mathlib.Core.Logic.{_⊎_, inl, inr, ⊎-elim}
 use mathlib.Core.List.{List}
 use native.Mathlib.Omega.{arith}
-use lib.IntN.{ℤ, pos}
-use lib.Signed.{_<ℤ_}
+use lib.IntN.{ℤ}
 use Rattle.universe.specs.declared.Block.{Block}
 use Rattle.universe.specs.Universe.{levels}
 use Rattle.universe.specs.Block.{low, high}
 use Rattle.universe.specs.Voxel.{Within}
 use Rattle.bintree.specs.declared.Colour.{Colour}
 use Rattle.bintree.specs.declared.Colour.the-variants.{White, Black}
-use Rattle.csg.specs.Halfspace.{Mark, decided, undecided, rowAt, least, greatest}
+use Rattle.csg.specs.Halfspace.{Mark, decided, undecided}
 use Rattle.csg.specs.Tree.{Plain, colour, side, unionOf, intersectionOf}
 use Rattle.csg.specs.Marks.{unionMark, intersectionMark, unionColour, intersectionColour, standing, leafMark, leafColour, plainMark, plainColour}
-use Rattle.csg.proofs.Halfspace.{Nested, low-nested, high-nested, mark-sound, mark-nested, active-crosses, active-crosses-negated}
+use Rattle.csg.proofs.Halfspace.{Nested, low-nested, high-nested, mark-sound, mark-nested}
 use Rattle.csg.proofs.Tree.{HasSide, itself, union-first, union-second, intersection-first, intersection-second}
 
 -- ---- leaves
@@ -30,12 +29,6 @@ module _ (rows : List ℤ) (turned : Bool) (i : ℕ) where
   pub leaf-persistent : (b part : Block) → Nested part b → (c : Colour) → leafMark rows turned i b ≡ decided c → leafMark rows turned i part ≡ decided c
   unfolding leafMark
   leaf-persistent b part = mark-nested (standing rows turned i) part b
-
--- an active leaf crosses, as it is or reversed: the halfspace itself has values below and above 0
-pub leaf-crosses : (rows : List ℤ) (turned : Bool) (i : ℕ) (b : Block) → leafMark rows turned i b ≡ undecided → (least (rowAt rows i) b <ℤ pos 0) × (pos 0 <ℤ greatest (rowAt rows i) b)
-unfolding leafMark
-leaf-crosses rows true i b e = active-crosses-negated (rowAt rows i) b e
-leaf-crosses rows false i b e = active-crosses (rowAt rows i) b e
 
 -- ---- one mark, n, follows another, m
 pub record Follows (m n : Mark) : Type 0 where

@@ -90,9 +90,6 @@ sides-plain (node union a b) = ap₂ _+_ (sides-plain a) (sides-plain b)
 sides-plain (node intersection a b) = ap₂ _+_ (sides-plain a) (sides-plain b)
 sides-plain (node minus a b) = ap₂ _+_ (sides-plain a) (ap sides (reversal-turned b) ∙ sides-turned (plain b) ∙ sides-plain b)
 
-pub sides-reversal : (t : Tree) → sides (reversal t) ≡ leaves t
-sides-reversal t = ap sides (reversal-turned t) ∙ sides-turned (plain t) ∙ sides-plain t
-
 -- the side `flag i` stands in a plain tree
 pub data HasSide : Plain → Bool → ℕ → Type 0 where
   itself : {flag : Bool} {i : ℕ} → HasSide (side flag i) flag i

@@ -109,15 +109,6 @@ module _ {A : Type 0} (ofLeaf : Leaf → A) (ofNode : Operator → A → A → A
   run-parse rows ws = run-fold rows ws []
 
 -- words that are not refused
-pub refusal-cases : (rows : ℕ) (ws : List ℕ) (G : Type 0) → (treeRefusal rows ws ≡ 0 → G) → (treeRefusal rows ws ≡ 4 → G) → (treeRefusal rows ws ≡ 5 → G) → G
-unfolding treeRefusal
-refusal-cases rows ws G none four five = by (parse rows ws) refl
-  where
-    by : (o : Outcome Tree) → parse rows ws ≡ o → G
-    by (made t) e = none (ap refusalOf e)
-    by (refused malformed) e = four (ap refusalOf e)
-    by (refused overfull) e = five (ap refusalOf e)
-
 module _ (rows : ℕ) (ws : List ℕ) (accepted : treeRefusal rows ws ≡ 0) where
   parsed : parse rows ws ≡ made (treeOf rows ws)
   unfolding treeRefusal treeOf

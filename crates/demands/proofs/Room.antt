@@ -26,7 +26,7 @@ use Rattle.bintree.proofs.Merging.{merged-size}
 use Rattle.csg.specs.Halfspace.{Mark, decided, undecided}
 use Rattle.csg.specs.Tree.{Tree, Plain, colour, side, unionOf, intersectionOf, plain, leaves, sides}
 use Rattle.csg.specs.Marks.{standing, leafMark, plainMark, unionMark, intersectionMark, treeMark}
-use Rattle.csg.specs.Raw.{raw, examined, blocksExamined}
+use Rattle.csg.specs.Raw.{raw, blocksExamined}
 use Rattle.csg.proofs.Tree.{sides-plain}
 use Rattle.csg.proofs.Raw.{raw-length}
 use Rattle.demands.specs.Room.{RoomSuffices}

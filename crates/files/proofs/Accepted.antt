@@ -1,5 +1,5 @@
--- What a caller of `read_scene` knows by its contract: the number is sceneRefusal; where it is 0, the fronts of the lent arrays are the rows and words
--- of the scene, and every check accepts them, so that no further refusal is needed.
+-- What a caller of `read_scene` knows by its contract: the number is sceneRefusal; where it is 0, every check accepts the scene's rows and words, so
+-- that no further refusal is needed, and the lent arrays are long enough for them.
 use Prim.Native.Nat.{ℕ, _*_, _/_, _≤_}
 use native.Mathlib.Omega.{arith}
 use native.Mathlib.Decide.{ℕ-discrete}
@@ -11,14 +11,14 @@ use borrow.Author.Tests.{eq-eqb, ne-eqb}
 use Rattle.universe.specs.Universe.{universeRefusal}
 use Rattle.universe.specs.Voxel.{windowRefusal}
 use Rattle.csg.specs.Halfspace.{mostRows, rowLength, rowCount, rowsRefusal}
-use Rattle.csg.specs.Words.{mostWords, treeRefusal}
+use Rattle.csg.specs.Words.{treeRefusal}
 use Rattle.files.specs.declared.Scene.{Scene}
 use Rattle.files.specs.Lent.{overwritten}
 use Rattle.files.specs.Numbers.{listed}
 use Rattle.files.specs.Scenes.{sceneHeader, rowsOf, firstWordsOf, secondWordsOf, sceneRefusal, refusedScene, sceneAnswer, rowsAfter, firstWordsAfter, secondWordsAfter}
 use Rattle.files.proofs.Lent.{written}
 use Rattle.files.proofs.Numbers.{listed-length, front-is}
-use Rattle.files.proofs.Scenes.{scene-accepts, header-rows-few, header-first-few, header-second-few}
+use Rattle.files.proofs.Scenes.{scene-accepts, header-rows-few}
 
 -- a scene with its rows and words that every check accepts
 pub record Ready (s : Scene) (numbers : List ℤ) (first second : List ℕ) : Type 0 where
@@ -29,8 +29,6 @@ pub record Ready (s : Scene) (numbers : List ℤ) (first second : List ℕ) : Ty
   pub other : treeRefusal (s .counts .rows) second ≡ 0
   pub window : windowRefusal (s .universe) (s .window .first) (s .window .last) ≡ 0
   pub few-rows : s .counts .rows ≤ mostRows
-  pub few-words : s .counts .first ≤ mostWords
-  pub few-others : s .counts .second ≤ mostWords
 
 header-ready : (bytes : List ℕ) → sceneRefusal bytes ≡ 0 → Ready (sceneHeader bytes .scene) (rowsOf bytes (sceneHeader bytes)) (firstWordsOf bytes (sceneHeader bytes)) (secondWordsOf bytes (sceneHeader bytes))
 header-ready bytes z =
@@ -44,8 +42,6 @@ header-ready bytes z =
       other = a .second;
       window = a .window;
       few-rows = header-rows-few bytes refl z;
-      few-words = header-first-few bytes refl z;
-      few-others = header-second-few bytes refl z;
     }
 
 module _ (bytes : List ℕ) {s : Scene} (e : s ≡ sceneAnswer bytes) where
@@ -73,15 +69,6 @@ module _ (bytes : List ℕ) {s : Scene} (e : s ≡ sceneAnswer bytes) where
 
     front-of : {A : Type 0} (n : ℕ) (f : ℕ → A) (before : List A) {now : List A} → now ≡ overwritten (sceneRefusal bytes) (listed n f) before → take n now ≡ listed n f
     front-of n f before q = front-is n f _ (q ∙ sym (written (listed n f) before none (sym (listed-length f n))))
-
-    pub rows-front : (before : List ℤ) {now : List ℤ} → now ≡ rowsAfter bytes before → take (rowLength * s .counts .rows) now ≡ rowsOf bytes (sceneHeader bytes)
-    rows-front before q = rw answer-scene (front-of _ _ before q)
-
-    pub first-front : (before : List ℕ) {now : List ℕ} → now ≡ firstWordsAfter bytes before → take (s .counts .first) now ≡ firstWordsOf bytes (sceneHeader bytes)
-    first-front before q = rw answer-scene (front-of _ _ before q)
-
-    pub second-front : (before : List ℕ) {now : List ℕ} → now ≡ secondWordsAfter bytes before → take (s .counts .second) now ≡ secondWordsOf bytes (sceneHeader bytes)
-    second-front before q = rw answer-scene (front-of _ _ before q)
 
     -- so many numbers, or words, stand at the front of the lent array
     held : {A : Type 0} (n : ℕ) (now : List A) (f : ℕ → A) → take n now ≡ listed n f → (n ≤ length now) × (n ≡ length (take n now))

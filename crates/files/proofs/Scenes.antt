@@ -1,23 +1,20 @@
 -- Scene files: each test of `isScene` alone decides where those before it hold; what a header tells of is there; an accepted scene is accepted by
 -- every check (`scene-accepts`); and the answer and the lent arrays of both outcomes.
-use Prim.Native.Nat.{ℕ, _+_, _*_, _%_, _^_, _≤_, _<_}
+use Prim.Native.Nat.{ℕ, _+_, _*_, _≤_, _<_}
 use native.Mathlib.Omega.{arith}
 use native.Mathlib.Decide.{decLe}
-use native.Mathlib.Nat.{one-mul}
 use mathlib.Core.Path.{_≡_, refl, sym, ap, _∙_}
 use mathlib.Core.Bool.{Bool, true, false, cond, _&&_}
 use mathlib.Core.List.{List, _++_}
 use lib.Dec.{leb, eqb}
 use lib.IntN.{ℤ}
-use lib.Pow.{shl-exact}
 use lib.ListN.{length, getD, drop}
-use borrow.Author.Tests.{le-leb, lt-leb, eq-eqb, ne-eqb, eqb-true, lt-ltb, le-ltb}
+use borrow.Author.Tests.{le-leb, lt-leb, eq-eqb, ne-eqb, eqb-true}
 use Rattle.lemmas.proofs.Sums.{and-right}
 use Rattle.universe.specs.declared.Universe.{Universe}
 use Rattle.universe.specs.Refusals.{firstRefusal}
-use Rattle.universe.specs.Universe.{universeRefusal, frameCount}
+use Rattle.universe.specs.Universe.{universeRefusal}
 use Rattle.universe.specs.Voxel.{windowRefusal}
-use Rattle.universe.proofs.Universes.{accepted}
 use Rattle.csg.specs.Halfspace.{mostRows, rowLength, rowsRefusal}
 use Rattle.csg.specs.Words.{mostWords, treeRefusal}
 use Rattle.csg.proofs.Rows.{rows-too-many}

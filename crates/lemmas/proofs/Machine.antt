@@ -1,21 +1,17 @@
 -- Whole numbers that the machine holds. `Near z x b`: what the machine reads, z, is the whole number x, and |x| ≤ b. The bounds are numerals that
 -- compute, so that a sum or a product of i64s fits is `near-fits .. tt`.
 use mathlib.Core.Path.{_≡_, refl, sym, ap, ap₂, _∙_, subst}
-use Prim.Native.Nat.{ℕ, zero, suc, _+_, _*_, _%_, _^_, _≤_, _<_}
+use Prim.Native.Nat.{ℕ, _+_, _*_, _%_, _^_, _≤_, _<_}
 use native.Mathlib.Omega.{arith}
 use native.Mathlib.Nat.{mul-le-mul, le-refl, one-mul}
-use native.Mathlib.Decide.{decLe}
 use lib.Pow.{shl-exact}
-use mathlib.Core.List.{List}
-use lib.ListN.{length, getD, List·getD-eq-default}
-use mathlib.Core.Bool.{true}
-use lib.Dec.{T, leb, leb→le, ltb, ltb→lt}
+use lib.Dec.{T, ltb, ltb→lt}
 use lib.IntN.{ℤ, pos, negsuc, negℤ, natAbs, _+ℤ_, _-ℤ_, _*ℤ_}
-use lib.Signed.{mag, nonNeg, yes-nonNeg, pos-natAbs, _≤ℤ_, leZ}
+use lib.Signed.{mag, nonNeg, yes-nonNeg, _≤ℤ_}
 use mir.Syntax.{w64}
 use mir.Val.{Fits, SFits, toZ, ofZ}
 use mir.ValLaws.{toZ-ofZ, toZ-pos}
-use Rattle.lemmas.proofs.Whole.{up, dn, add-parts, up-mul, dn-mul, up-neg, dn-neg, one-part, Is, is-self, le-of, ι, ν, ⊝, leZ-true}
+use Rattle.lemmas.proofs.Whole.{up, dn, add-parts, up-mul, dn-mul, up-neg, dn-neg, one-part, is-self, le-of, ι, ν, ⊝}
 
 pub natAbs-parts : (z : ℤ) → natAbs z ≡ up z + dn z
 unfolding up dn
@@ -92,13 +88,6 @@ near-call e n t = near-back (record { same = e ∙ n .same; size = n .size }) t
 pub near-as : {z x y : ℤ} {b d : ℕ} → Near z x b → x ≡ y → b ≤ d → Near z y d
 near-as {z} {x} {y} {b} {d} n e l = record { same = n .same ∙ e; size = subst (λ (u : ℤ). natAbs u ≤ d) e (omega (arith, n .size)) }
 
-pub size-in : {z x : ℤ} {b d : ℕ} → Near z x b → T (leb b d) → Size z d
-size-in {z} {x} {b} {d} n t = record { most = subst (λ (y : ℤ). natAbs y ≤ d) (sym (n .same)) (omega (arith, n .size, leb→le b d t)) }
-
--- what the machine reads is of the same size
-pub size-held : {x : ℤ} {b : ℕ} → Size x b → T (ltb b (2 ^ 63)) → Size (toZ w64 (ofZ w64 x)) b
-size-held h t = near-size (near h t)
-
 -- a call's result by what the call ensures of it, where its size is not known but its range (`.ok`) is
 pub read-call : {t x : ℤ} → mag t < 2 ^ 63 → t ≡ x → toZ w64 (ofZ w64 t) ≡ x
 read-call {t} l e = toZ-ofZ w64 t (record { sfits = l }) ∙ e
@@ -111,32 +100,12 @@ range z b h k = record {
       (λ e. omega (arith, natAbs-parts z, le-of (⊝ (ν b)) (ι z) k));
 }
 
--- two tests that say so
-pub range-tests : {z : ℤ} → SFits w64 z → (b : ℕ) → leZ (toZ w64 (ofZ w64 z)) (pos b) ≡ true → leZ (negℤ (pos b)) (toZ w64 (ofZ w64 z)) ≡ true → Size z b
-range-tests {z} f b s t =
-    let e = toZ-ofZ w64 z f in
-    range z b (leZ-true z (pos b) (rw e at s)) (leZ-true (negℤ (pos b)) z (rw e at t))
-
-pub size-plain : {z : ℤ} {b : ℕ} → mag z < 2 ^ 63 → Size (toZ w64 (ofZ w64 z)) b → Size z b
-size-plain {z} {b} l h = subst (λ (y : ℤ). Size y b) (read-call l refl) h
-
--- what holds below the length holds at every index, since past the end a list reads as 0
-pub size-all : (a : List ℤ) (b : ℕ) → ((k : ℕ) → k < length a → Size (getD a k (pos 0)) b) → (k : ℕ) → Size (getD a k (pos 0)) b
-size-all a b f k = go (decLe (suc k) (length a))
-  where
-    go : Dec (k < length a) → Size (getD a k (pos 0)) b
-    go (yes p) = f k p
-    go (no p) = subst (λ (y : ℤ). Size y b) (sym (List·getD-eq-default a (pos 0) (omega arith))) (record { most = omega arith })
-
 -- `z as u64` of a number that is not negative
 nonneg-as : {z x : ℤ} → z ≡ x → pos 0 ≤ℤ x → T (nonNeg z)
 nonneg-as e h = subst (λ (y : ℤ). T (nonNeg y)) (sym e) (yes-nonNeg h)
 
 pub near-unsigned : {z x : ℤ} {b : ℕ} → Near z x b → T (ltb b (2 ^ 63)) → pos 0 ≤ℤ x → T (nonNeg z) × Fits w64 (natAbs z)
 near-unsigned {z} {x} {b} n t h = (nonneg-as (n .same) h, record { fits = omega (arith, near-size n .most, ltb→lt b (2 ^ 63) t) })
-
-pub unsigned-is : {z x : ℤ} {b : ℕ} → Near z x b → pos 0 ≤ℤ x → pos (natAbs z) ≡ x
-unsigned-is {z} n h = pos-natAbs z (nonneg-as (n .same) h) ∙ n .same
 
 -- a shift of 1 by fewer than 64 places loses nothing
 pub shifted-one : (n : ℕ) → n < 64 → 1 * 2 ^ n % 18446744073709551616 ≡ 2 ^ n

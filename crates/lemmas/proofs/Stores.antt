@@ -5,7 +5,7 @@ use Prim.Native.Nat.{ℕ, zero, suc, _+_, _≤_, _<_}
 use native.Mathlib.Omega.{arith}
 use native.Mathlib.Numerals.{add-one}
 use lib.ListN.{length, getD, set, take, drop, length-set}
-use lib.Seq.{sets, set-comm, set-getD, sets-eq, length-sets, take-at, paste, paste-zero, paste-suc}
+use lib.Seq.{sets, set-comm, set-getD, sets-eq, take-at, paste, paste-zero, paste-suc}
 
 -- ---- a place that is put back
 set-twice : (l : List ℕ) (i x y : ℕ) → set (set l i x) i y ≡ set l i y

@@ -32,11 +32,6 @@ unfolding sum
 sum-add zero f g = refl
 sum-add (suc n) f g = omega (arith, sum-add n f g)
 
-pub sum-times : (k n : ℕ) (f : ℕ → ℕ) → sum n (λ i. k * f i) ≡ k * sum n f
-unfolding sum
-sum-times k zero f = omega arith
-sum-times k (suc n) f = omega (arith, sum-times k n f)
-
 pub sum-zero : (n : ℕ) (f : ℕ → ℕ) → ((i : ℕ) → i < n → f i ≡ 0) → sum n f ≡ 0
 unfolding sum
 sum-zero zero f h = refl
@@ -148,8 +143,3 @@ one-not-every n p i l e = go (every n p) refl
     go : (b : Bool) → every n p ≡ b → b ≡ false
     go true h = sym (every-all n p h i l) ∙ e
     go false h = refl
-
-pub every-cong : (n : ℕ) (p q : ℕ → Bool) → ((i : ℕ) → i < n → p i ≡ q i) → every n p ≡ every n q
-unfolding every
-every-cong zero p q h = refl
-every-cong (suc n) p q h = ap₂ _&&_ (every-cong n p q (below h)) (top h)

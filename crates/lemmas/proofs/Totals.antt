@@ -42,6 +42,12 @@ unfolding sum
 weighted-lt zero u x y h = omega arith
 weighted-lt (suc n) u x y h = omega (arith, weighted-lt n u x y (below h), mul-le-mul-left (u n) (top h))
 
+-- a weighted sum of sums
+pub weighted-add : (n : ℕ) (u x y : ℕ → ℕ) → sum n (λ i. u i * (x i + y i)) ≡ sum n (λ i. u i * x i) + sum n (λ i. u i * y i)
+unfolding sum
+weighted-add zero u x y = refl
+weighted-add (suc n) u x y = omega (arith, weighted-add n u x y)
+
 -- no weight, no sum
 pub weightless : (n : ℕ) (u x : ℕ → ℕ) → sum n u ≡ 0 → sum n (λ i. u i * x i) ≡ 0
 unfolding sum

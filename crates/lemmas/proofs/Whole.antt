@@ -7,9 +7,9 @@ use Prim.Native.Nat.{ℕ, zero, suc, _+_, _*_, _-_, _≤_, _<_}
 use mathlib.Core.Logic.{_⊎_, inl, inr, ⊎-elim}
 use native.Mathlib.Omega.{arith}
 use native.Mathlib.Decide.{decLe}
-use lib.Dec.{T, ltb, leb, ltb→lt, nltb→le, lt→ltb, leb→le, le→leb}
-use lib.IntN.{ℤ, pos, negsuc, negℤ, subℕ, _+ℤ_, _-ℤ_, _*ℤ_}
-use lib.Signed.{_≤ℤ_, _<ℤ_, ltZ, leZ, nonNeg}
+use lib.Dec.{T, ltb, ltb→lt, nltb→le, lt→ltb, leb→le, le→leb}
+use lib.IntN.{ℤ, pos, negsuc, negℤ, natAbs, subℕ, _+ℤ_, _-ℤ_, _*ℤ_}
+use lib.Signed.{_≤ℤ_, _<ℤ_, ltZ, leZ}
 
 -- the two parts
 unfoldable pub up : ℤ → ℕ
@@ -227,30 +227,8 @@ is-neg {a} i = record { is = omega (arith, up-neg a, dn-neg a, i .is) }
 pub is-mul : {a : ℤ} {p n : ℕ} → Is a p n → (k : ℕ) → Is (a *ℤ pos k) (p * k) (n * k)
 is-mul {a} {p} {n} i k = record { is = omega (arith, mul-is a (pos k) p n k 0 (i .is) (is-nat k .is)) }
 
-pub is-times : {a b : ℤ} {p n q m : ℕ} → Is a p n → Is b q m → Is (a *ℤ b) (p * q + n * m) (p * m + n * q)
-is-times {a} {b} {p} {n} {q} {m} i j = record { is = mul-is a b p n q m (i .is) (j .is) }
-
 pub is-scale : (k : ℕ) {a : ℤ} {p n : ℕ} → Is a p n → Is (pos k *ℤ a) (k * p) (k * n)
 is-scale k {a} {p} {n} i = record { is = omega (arith, mul-is (pos k) a k 0 p n (is-nat k .is) (i .is)) }
-
-pub nonneg-dn : (z : ℤ) → T (nonNeg z) → dn z ≡ 0
-unfolding dn
-nonneg-dn (pos n) t = refl
-nonneg-dn (negsuc n) t = absurd t
-
-pub neg-up : (z : ℤ) → T (not (nonNeg z)) → up z ≡ 0
-unfolding up
-neg-up (pos n) t = absurd t
-neg-up (negsuc n) t = refl
-
--- the test  0 ≤ z  of code
-pub leZ-nonNeg : (z : ℤ) → leZ (pos 0) z ≡ nonNeg z
-leZ-nonNeg (pos n) = go (leb 0 n) (le→leb 0 n (omega arith))
-  where
-    go : (b : Bool) → T b → b ≡ true
-    go true t = refl
-    go false t = absurd t
-leZ-nonNeg (negsuc n) = refl
 
 -- what a test of two whole numbers tells, and the test from the fact
 is-true : (b : Bool) → T b → b ≡ true
@@ -292,5 +270,19 @@ lt-ltZ {a} {b} h = is-true (ltZ a b) (h .lt)
 pub le-ltZ : {a b : ℤ} → b ≤ℤ a → ltZ a b ≡ false
 le-ltZ {a} {b} h = is-false (ltZ a b) (λ t. let k : a <ℤ b = record { lt = t } in omega (arith, le-out, lt-out))
 
-pub clash : {a b : ℤ} → a <ℤ b → b ≤ℤ a → ⊥
-clash h k = omega (arith, le-out, lt-out)
+-- how far a whole number is from 0, by the test  z < 0
+pub negative-size : (z : ℤ) → ltZ z (pos 0) ≡ true → pos 0 -ℤ z ≡ pos (natAbs z)
+negative-size (pos n) e = absurd (omega (arith, lt-is (is-nat n) (is-nat 0) (ltZ-true (pos n) (pos 0) e)))
+negative-size (negsuc n) e = ap pos (omega arith)
+
+pub positive-size : (z : ℤ) → ltZ z (pos 0) ≡ false → z ≡ pos (natAbs z)
+positive-size (pos n) e = refl
+positive-size (negsuc n) e = let z : _≡_ {A = ℕ} 0 1 = cc in absurd (omega arith)
+
+-- where b − a is twice d − c, one test is the other
+pub doubled-test : {a b c d : ℤ} {p n q m s t v w : ℕ} → Is a p n → Is b q m → Is c s t → Is d v w → p + m + 2 * (v + t) ≡ q + n + 2 * (s + w) → leZ a b ≡ leZ c d
+doubled-test {a} {b} i j k l e =
+    ⊎-elim
+    (λ (h : a ≤ℤ b). le-leZ h ∙ sym (le-leZ (is-le k l (omega (arith, le-is i j h)))))
+    (λ (h : b <ℤ a). lt-leZ h ∙ sym (lt-leZ (is-lt l k (omega (arith, lt-is j i h)))))
+    (le-or-lt a b)

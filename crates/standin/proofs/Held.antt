@@ -17,7 +17,7 @@ use Rattle.standin.specs.declared.Plane.{Plane}
 use Rattle.standin.specs.declared.Scaled.{Scaled}
 use Rattle.standin.specs.declared.ScaledTriple.{ScaledTriple}
 use Rattle.standin.specs.Sixteenths.{sixteenths, isTaken, cornerLimit, normalLimit}
-use Rattle.standin.specs.Rows.{takesTriple, takesBox, takesCut, inOrder, rowsOfBox, rowOfCut, dotSixteenths}
+use Rattle.standin.specs.Rows.{takesTriple, takesBox, takesCut, inOrder, rowsOfBox, rowOfCut, dot}
 use Rattle.standin.specs.Held.{isLimit, held, scaledOf, scaledTriple, scaledBox, scaledCut, Within, ordered, negatedTriple, dotOf, sixRows, oneRow}
 use Rattle.standin.proofs.Sixteenths.{test-le, size-signed}
 use Rattle.standin.proofs.Parts.{parts, box-parts, cut-parts}
@@ -79,7 +79,7 @@ module _ {a b : ScaledTriple} (h : Reads normalLimit a) (k : Reads normalLimit b
   two = near-add (near-back (near-mul (h .x) (k .x)) tt) (near-back (near-mul (h .y) (k .y)) tt)
 
   pub three : Near (back (back (back (a .x) *ℤ back (b .x)) +ℤ back (back (a .y) *ℤ back (b .y))) +ℤ back (back (a .z) *ℤ back (b .z))) (dotOf a b) 3145728
-  unfolding dotOf
+  unfolding dot
   three = near-add (near-back two tt) (near-back (near-mul (h .z) (k .z)) tt)
 
 -- what a call of `dot` gave
@@ -135,7 +135,7 @@ unfolding scaledCut takesCut takesTriple
 cut-taken p v = refl
 
 pub cut-row : (p : Plane) (v : Triple) → takesCut p v ≡ true → oneRow (scaledCut p v .normal) (scaledCut p v .offset) (scaledCut p v .displacement) ≡ rowOfCut p v
-unfolding scaledCut rowOfCut dotOf dotSixteenths
+unfolding scaledCut rowOfCut dot
 cut-row p v t =
     let b = cut-parts p v t in
     let n = exact normalLimit (p .normal) (b .normal) in

@@ -21,7 +21,7 @@ use Rattle.standin.specs.declared.Plane.{Plane}
 use Rattle.standin.specs.declared.Solid.{Solid}
 use Rattle.standin.specs.declared.Solid.the-variants.{Box, Cut}
 use Rattle.standin.specs.Sixteenths.{sixteenths, isTaken, cornerLimit, normalLimit}
-use Rattle.standin.specs.Rows.{takesBox, takesCut, zeroRow, zeroRows, rowsOfBox, rowOfCut, dotSixteenths, solidBoxRows, solidCutRow}
+use Rattle.standin.specs.Rows.{takesBox, takesCut, zeroRow, zeroRows, rowsOfBox, rowOfCut, dot, solidBoxRows, solidCutRow}
 use Rattle.standin.specs.Points.{flat}
 use Rattle.standin.proofs.Held.{taken-small}
 use Rattle.standin.proofs.Parts.{Parts, parts, box-parts, cut-parts}
@@ -156,7 +156,7 @@ dot-small a b c d e f h i j k l m =
     )
 
 cut-keeps : (a : Plane) (v : Triple) → takesCut a v ≡ true → (u : Universe) → u .axes ≡ 4 → rowsRefusal u (rowOfCut a v) ≡ 0
-unfolding rowsRefusal every rowOfCut dotSixteenths
+unfolding rowsRefusal every rowOfCut dot
 cut-keeps a v h u e =
     let b = cut-parts a v h in
     let n = parts normalLimit (a .normal) (b .normal) in

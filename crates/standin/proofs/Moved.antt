@@ -15,7 +15,7 @@ use Rattle.standin.specs.declared.Triple.{Triple}
 use Rattle.standin.specs.declared.Corners.{Corners}
 use Rattle.standin.specs.declared.Plane.{Plane}
 use Rattle.standin.specs.Sixteenths.{sixteenths, cornerLimit, normalLimit}
-use Rattle.standin.specs.Rows.{takesBox, takesCut, rowsOfBox, rowOfCut, dotSixteenths}
+use Rattle.standin.specs.Rows.{takesBox, takesCut, rowsOfBox, rowOfCut, dot}
 use Rattle.standin.specs.Points.{Fraction, _⊕_, _⊖_, _⊗_, _≼_, value, Point, HoldsAt, BoxHolds, CutHolds, flat}
 use Rattle.standin.proofs.Points.{Worth, worth-add, worth-mul, worth-times, worth-scale, worth-grow, worth-whole, worth-le, Common, common, same-gap, same-order, halfspace-at}
 use Rattle.standin.proofs.Parts.{box-parts, cut-parts}
@@ -147,7 +147,7 @@ cut-value l m n f g w d k x y z t =
     ∙ ap₂ _+ℤ_ (ap₂ _+ℤ_ (ap₂ _+ℤ_ (along-is l f x t) (along-is m g y t)) (along-is n w z t)) (eq-by (ν 16 *ᴱ ι d *ᴱ ν k) (ι d *ᴱ ν (k * 16)) (omega arith))
 
 pub cut-at : (a : Plane) (v : Triple) (q : Point) → takesCut a v ≡ true → HoldsAt (rowAt (rowOfCut a v) 0) q ↔ CutHolds a v q
-unfolding rowOfCut dotSixteenths
+unfolding rowOfCut dot
 cut-at a v q h =
     let o = common q in
     let K = 16 * (o .k * 16) in

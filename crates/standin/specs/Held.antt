@@ -2,10 +2,9 @@
 -- is not taken is held as 0, so what is held always keeps the limits.
 use Prim.Native.Nat.{ℕ, _≤_}
 use mathlib.Core.Bool.{Bool, false, cond, _&&_}
-use mathlib.Core.List.{List, [], _∷_}
+use mathlib.Core.List.{List}
 use lib.Dec.{leb}
-use lib.IntN.{ℤ, pos, negsuc, negℤ, natAbs, _+ℤ_, _*ℤ_}
-use lib.Signed.{leZ}
+use lib.IntN.{ℤ, pos, negsuc, negℤ, natAbs}
 use lib.Ieee.{Float}
 use Rattle.standin.specs.declared.Triple.{Triple}
 use Rattle.standin.specs.declared.Corners.{Corners}
@@ -15,7 +14,7 @@ use Rattle.standin.specs.declared.ScaledTriple.{ScaledTriple}
 use Rattle.standin.specs.declared.ScaledBox.{ScaledBox}
 use Rattle.standin.specs.declared.ScaledCut.{ScaledCut}
 use Rattle.standin.specs.Sixteenths.{sixteenths, isTaken, cornerLimit, normalLimit}
-use Rattle.standin.specs.Rows.{row}
+use Rattle.standin.specs.Rows.{Numbers, atMost, rowsBetween, dot, rowAcross}
 
 -- a limit of the code's is from 0 to that of a corner
 abbrev pub isLimit : ℤ → Bool
@@ -39,9 +38,12 @@ scaledTriple p limit =
       z = held (natAbs limit) (p .z);
     }
 
--- a ≤ b on each axis
+-- the numbers of a triple that is held, and whether a ≤ b on each axis
+abbrev pub heldNumbers : ScaledTriple → Numbers
+heldNumbers a = record { x = a .x; y = a .y; z = a .z }
+
 abbrev pub ordered : ScaledTriple → ScaledTriple → Bool
-ordered a b = leZ (a .x) (b .x) && leZ (a .y) (b .y) && leZ (a .z) (b .z)
+ordered a b = atMost (heldNumbers a) (heldNumbers b)
 
 -- a Box and a Cut, with their displacement
 unfoldable pub scaledBox : Corners → Triple → ScaledBox
@@ -74,19 +76,12 @@ negatedTriple a = record { taken = a .taken; x = negℤ (a .x); y = negℤ (a .y
 
 -- the rows made of what is held: those of a Box with the corners a and b and the displacement v
 abbrev pub sixRows : ScaledTriple → ScaledTriple → ScaledTriple → List (List ℤ)
-sixRows a b v =
-    row (negℤ (a .x)) (pos 16) (pos 0) (pos 0) (negℤ (v .x))
-    ∷ row (b .x) (negsuc 15) (pos 0) (pos 0) (v .x)
-    ∷ row (negℤ (a .y)) (pos 0) (pos 16) (pos 0) (negℤ (v .y))
-    ∷ row (b .y) (pos 0) (negsuc 15) (pos 0) (v .y)
-    ∷ row (negℤ (a .z)) (pos 0) (pos 0) (pos 16) (negℤ (v .z))
-    ∷ row (b .z) (pos 0) (pos 0) (negsuc 15) (v .z)
-    ∷ []
+sixRows a b v = rowsBetween (heldNumbers a) (heldNumbers b) (heldNumbers v)
 
 -- a·b
-unfoldable pub dotOf : ScaledTriple → ScaledTriple → ℤ
-dotOf a b = a .x *ℤ b .x +ℤ a .y *ℤ b .y +ℤ a .z *ℤ b .z
+abbrev pub dotOf : ScaledTriple → ScaledTriple → ℤ
+dotOf a b = dot (heldNumbers a) (heldNumbers b)
 
 -- and the row of a Cut with the normal n, the offset c and the displacement v
 abbrev pub oneRow : ScaledTriple → ℤ → ScaledTriple → List ℤ
-oneRow n c v = row (pos 16 *ℤ c) (pos 16 *ℤ n .x) (pos 16 *ℤ n .y) (pos 16 *ℤ n .z) (negℤ (dotOf n v))
+oneRow n c v = rowAcross (heldNumbers n) c (heldNumbers v)

@@ -17,12 +17,21 @@ use Rattle.standin.specs.Sixteenths.{sixteenths, isTaken, cornerLimit, n
 unfoldable pub takesTriple : ℕ → Triple → Bool
 takesTriple limit p = isTaken limit (p .x) && isTaken limit (p .y) && isTaken limit (p .z)
 
+-- the three numbers of a corner, normal or displacement, in sixteenths
+pub record Numbers : Type 0 where
+  pub x : ℤ
+  pub y : ℤ
+  pub z : ℤ
+
+abbrev pub numbersOf : Triple → Numbers
+numbersOf p = record { x = sixteenths (p .x); y = sixteenths (p .y); z = sixteenths (p .z) }
+
 -- "Near ≤ far on each axis; equality is accepted."
+abbrev pub atMost : Numbers → Numbers → Bool
+atMost near far = leZ (near .x) (far .x) && leZ (near .y) (far .y) && leZ (near .z) (far .z)
+
 unfoldable pub inOrder : Corners → Bool
-inOrder c =
-    leZ (sixteenths (c .near .x)) (sixteenths (c .far .x))
-    && leZ (sixteenths (c .near .y)) (sixteenths (c .far .y))
-    && leZ (sixteenths (c .near .z)) (sixteenths (c .far .z))
+inOrder c = atMost (numbersOf (c .near)) (numbersOf (c .far))
 
 -- a Box and a Cut all of whose numbers are taken
 unfoldable pub takesBox : Corners → Triple → Bool
@@ -50,26 +59,29 @@ abbrev pub zeroRows : List (List ℤ)
 zeroRows = zeroRow ∷ zeroRow ∷ zeroRow ∷ zeroRow ∷ zeroRow ∷ zeroRow ∷ []
 
 -- "The x near row is (−16·near, 16, 0, 0, −16·v); the x far row is (16·far, −16, 0, 0, 16·v)", "x near, x far, then y, then z"
-unfoldable pub rowsOfBox : Corners → Triple → List (List ℤ)
-rowsOfBox c v =
-    row (negℤ (sixteenths (c .near .x))) (pos 16) (pos 0) (pos 0) (negℤ (sixteenths (v .x)))
-    ∷ row (sixteenths (c .far .x)) (negsuc 15) (pos 0) (pos 0) (sixteenths (v .x))
-    ∷ row (negℤ (sixteenths (c .near .y))) (pos 0) (pos 16) (pos 0) (negℤ (sixteenths (v .y)))
-    ∷ row (sixteenths (c .far .y)) (pos 0) (negsuc 15) (pos 0) (sixteenths (v .y))
-    ∷ row (negℤ (sixteenths (c .near .z))) (pos 0) (pos 0) (pos 16) (negℤ (sixteenths (v .z)))
-    ∷ row (sixteenths (c .far .z)) (pos 0) (pos 0) (negsuc 15) (sixteenths (v .z))
+abbrev pub rowsBetween : Numbers → Numbers → Numbers → List (List ℤ)
+rowsBetween near far v =
+    row (negℤ (near .x)) (pos 16) (pos 0) (pos 0) (negℤ (v .x))
+    ∷ row (far .x) (negsuc 15) (pos 0) (pos 0) (v .x)
+    ∷ row (negℤ (near .y)) (pos 0) (pos 16) (pos 0) (negℤ (v .y))
+    ∷ row (far .y) (pos 0) (negsuc 15) (pos 0) (v .y)
+    ∷ row (negℤ (near .z)) (pos 0) (pos 0) (pos 16) (negℤ (v .z))
+    ∷ row (far .z) (pos 0) (pos 0) (negsuc 15) (v .z)
     ∷ []
 
+unfoldable pub rowsOfBox : Corners → Triple → List (List ℤ)
+rowsOfBox c v = rowsBetween (numbersOf (c .near)) (numbersOf (c .far)) (numbersOf v)
+
 -- 256·n·v
-unfoldable pub dotSixteenths : Triple → Triple → ℤ
-dotSixteenths n v = sixteenths (n .x) *ℤ sixteenths (v .x) +ℤ sixteenths (n .y) *ℤ sixteenths (v .y) +ℤ sixteenths (n .z) *ℤ sixteenths (v .z)
+unfoldable pub dot : Numbers → Numbers → ℤ
+dot n v = n .x *ℤ v .x +ℤ n .y *ℤ v .y +ℤ n .z *ℤ v .z
 
 -- "(256·c, 256·n1, 256·n2, 256·n3, −256·n·v)": 256·c is 16 times 16·c
+abbrev pub rowAcross : Numbers → ℤ → Numbers → List ℤ
+rowAcross n c v = row (pos 16 *ℤ c) (pos 16 *ℤ n .x) (pos 16 *ℤ n .y) (pos 16 *ℤ n .z) (negℤ (dot n v))
+
 unfoldable pub rowOfCut : Plane → Triple → List ℤ
-rowOfCut p v =
-    row (pos 16 *ℤ sixteenths (p .offset))
-    (pos 16 *ℤ sixteenths (p .normal .x)) (pos 16 *ℤ sixteenths (p .normal .y)) (pos 16 *ℤ sixteenths (p .normal .z))
-    (negℤ (dotSixteenths (p .normal) v))
+rowOfCut p v = rowAcross (numbersOf (p .normal)) (sixteenths (p .offset)) (numbersOf v)
 
 -- the rows of a Box and of a Cut that are not refused; of the other kind there are none, and zeros stand there
 abbrev pub solidBoxRows : Solid → Triple → List (List ℤ)

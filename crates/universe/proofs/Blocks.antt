@@ -245,14 +245,6 @@ placed-given (suc l) u w len p = half-of u l w len p (placed-given l u)
 pub given-is : (b : Block) → length (b .low) ≡ 4 → isGiven b ≡ true → Given b
 given-is b len h = placed-given (b .level) (b .universe) (b .low) len (test-placed b h)
 
--- ---- what being given says
-
-pub given-accepted : {b : Block} → Given b → Accepted (b .universe)
-given-accepted g = given-placed g .taken
-
-pub given-level : {b : Block} → Given b → b .level ≤ levels (b .universe)
-given-level g = given-placed g .level-most
-
 -- ---- the halves: of a given block above the last level, and of any other
 
 -- where the test of `lowHalf` and `highHalf` holds, and where it does not

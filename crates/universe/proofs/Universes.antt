@@ -184,6 +184,3 @@ voxels-last u = product-one (u .axes) (blockSide u (levels u)) (side-last u)
 pub voxels-left : (u : Universe) → 0 < u .axes → (n l : ℕ) → l + n ≡ levels u → product (u .axes) (blockSide u l) ≡ 2 ^ n
 voxels-left u h zero l e = rw (let z : l ≡ levels u = omega arith in z) (voxels-last u)
 voxels-left u h (suc n) l e = voxels-halved u h l (omega arith) ∙ ap (λ (x : ℕ). 2 * x) (voxels-left u h n (suc l) (omega arith)) ∙ sym (pow-succ' 2 n)
-
-pub voxels-whole : (u : Universe) → 0 < u .axes → product (u .axes) (blockSide u 0) ≡ 2 ^ levels u
-voxels-whole u h = voxels-left u h (levels u) 0 (omega arith)

@@ -1,25 +1,25 @@
--- Voxels: an accepted voxel lies in the whole block; a voxel of a block lies in the half that `halfAt` names, and in no other; a block at the last
--- level holds the voxel at its own low corner and no other. Along the axis of a halving this is arithmetic of multiples, along the others nothing changes.
-use mathlib.Core.Path.{_≡_, refl, ap, _∙_}
+-- Voxels: an accepted voxel lies in the whole block; a voxel of a block lies in the half that `halfAt` names; a block at the last level holds the voxel
+-- at its own low corner and no other. Along the axis of a halving this is arithmetic of multiples, along the others nothing changes.
+use mathlib.Core.Path.{_≡_, refl, ap}
 use mathlib.Core.Bool.{Bool, true, cond}
 use mathlib.Core.Logic.{_⊎_, inl, inr}
 use mathlib.Core.List.{List}
-use Prim.Native.Nat.{ℕ, zero, suc, _+_, _*_, _≤_, _<_}
+use Prim.Native.Nat.{ℕ, zero, suc, _+_, _≤_, _<_}
 use native.Mathlib.Omega.{arith}
-use native.Mathlib.Nat.{le-refl, not-suc-le-zero, add-zero}
+use native.Mathlib.Nat.{le-refl}
 use native.Mathlib.Decide.{ℕ-discrete, decLt}
 use lib.Dec.{ltb, eqb}
-use lib.ListN.{length, getD}
+use lib.ListN.{length}
 use borrow.Author.Tests.{ltb-true, eqb-true, lt-ltb, le-ltb, eq-eqb}
 use Rattle.lemmas.proofs.Sums.{every-all, all-every}
 use Rattle.universe.specs.declared.Universe.{Universe}
 use Rattle.universe.specs.declared.Block.{Block}
-use Rattle.universe.specs.Universe.{mostAxes, levels, axisAt, sideAlong}
+use Rattle.universe.specs.Universe.{mostAxes, levels, sideAlong}
 use Rattle.universe.specs.Block.{lowAlong, lengthAlong, wholeBlock, axisOf, low, high, Given}
 use Rattle.universe.specs.Voxel.{placeAlong, voxelRefusal, Within, halfAt, pathFrom}
 use Rattle.universe.proofs.Refusals.{unless-holds, holds-unless}
 use Rattle.universe.proofs.Universes.{Accepted, side-first, side-last, side-kept, side-positive}
-use Rattle.universe.proofs.Multiples.{low-place, high-place, in-low, in-high}
+use Rattle.universe.proofs.Multiples.{in-low, in-high}
 use Rattle.universe.proofs.Blocks.{Placed, given-placed, given-length, zero-low, halfLength, high-here, high-kept, axis-few, length-halved, low-even}
 
 -- ---- accepted voxels
@@ -91,37 +91,6 @@ module _ {b : Block} (g : Given b) (h : b .level < levels (b .universe)) (v : Li
       below i l (yes q) = rw (← q, here) (omega (arith, w .below (axisOf b) (axis-few b p h), length-halved b p h))
       below i l (no n) = rw (side-kept (b .universe) (b .level) i n, high-kept b i n) (w .below i l)
 
-  -- a voxel of a half lies in the block, and its place names the half
-  pub low-within : Within (low b) v → Within b v
-  low-within w = record { above = w .above; below = λ i l. below i l (ℕ-discrete (axisOf b) i) }
-    where
-      below : (i : ℕ) → i < b .universe .axes → Dec (axisOf b ≡ i) → placeAlong v i < lowAlong b i + lengthAlong b i
-      below i l (yes q) = rw (← q) (omega (arith, w .below (axisOf b) (axis-few b p h), length-halved b p h))
-      below i l (no n) = rw (← side-kept (b .universe) (b .level) i n) (w .below i l)
-
-  pub low-half-at : Within (low b) v → halfAt (b .universe) (b .level) (placeAlong v (axisOf b)) ≡ 0
-  low-half-at w = low-place _ _ _ (low-even b p h) (w .above (axisOf b) (axis-few b p h)) (w .below (axisOf b) (axis-few b p h))
-
-  high-from : Within (high b) v → lowAlong b (axisOf b) + halfLength b ≤ placeAlong v (axisOf b)
-  high-from w = rw here at (w .above (axisOf b) (axis-few b p h))
-
-  high-to : Within (high b) v → placeAlong v (axisOf b) < lowAlong b (axisOf b) + 2 * halfLength b
-  high-to w = omega (arith, here, w .below (axisOf b) (axis-few b p h))
-
-  pub high-within : Within (high b) v → Within b v
-  high-within w = record { above = λ i l. above i l (ℕ-discrete (axisOf b) i); below = λ i l. below i l (ℕ-discrete (axisOf b) i) }
-    where
-      above : (i : ℕ) → i < b .universe .axes → Dec (axisOf b ≡ i) → lowAlong b i ≤ placeAlong v i
-      above i l (yes q) = rw (← q) (omega (arith, high-from w))
-      above i l (no n) = rw (← high-kept b i n) (w .above i l)
-
-      below : (i : ℕ) → i < b .universe .axes → Dec (axisOf b ≡ i) → placeAlong v i < lowAlong b i + lengthAlong b i
-      below i l (yes q) = rw (← q, length-halved b p h) (high-to w)
-      below i l (no n) = rw (← side-kept (b .universe) (b .level) i n, ← high-kept b i n) (w .below i l)
-
-  pub high-half-at : Within (high b) v → halfAt (b .universe) (b .level) (placeAlong v (axisOf b)) ≡ 1
-  high-half-at w = high-place _ _ _ (low-even b p h) (high-from w) (high-to w)
-
 -- ---- corners, and the last level
 
 pub corner-within : {b : Block} → Given b → Within b (b .low)
@@ -130,32 +99,14 @@ corner-within {b} g = record {
   below = λ i l. omega (arith, side-positive (b .universe) (b .level) i);
 }
 
--- the low corner of a given block is an accepted voxel
-pub corner-accepted : {b : Block} → Given b → voxelRefusal (b .universe) (b .low) ≡ 0
-corner-accepted {b} g = taken-voxel (b .universe) (b .low) (record { inside = given-placed g .inside; above = given-placed g .above })
-
 -- at the last level there is no other
 pub at-last : {b : Block} → Given b → b .level ≡ levels (b .universe) → (v : List ℕ) → Within b v → (i : ℕ) → i < b .universe .axes → placeAlong v i ≡ lowAlong b i
 at-last {b} g e v w i l =
     let one : lengthAlong b i ≡ 1 = rw e (side-last (b .universe) i l) in
     omega (arith, w .above i l, w .below i l)
 
--- ---- paths
-
+-- the path to a voxel has a step for each level
 pub path-length : (u : Universe) (v : List ℕ) (l n : ℕ) → length (pathFrom u v l n) ≡ n
 unfolding pathFrom
 path-length u v l zero = refl
 path-length u v l (suc n) = ap suc (path-length u v (suc l) n)
-
--- each step is the half of its level
-pub path-at : (u : Universe) (v : List ℕ) (l n i : ℕ) → i < n → getD (pathFrom u v l n) i 0 ≡ halfAt u (l + i) (placeAlong v (axisAt u (l + i)))
-unfolding pathFrom
-path-at u v l zero i h = absurd (not-suc-le-zero h)
-path-at u v l (suc n) zero h = rw (add-zero l)
-path-at u v l (suc n) (suc i) h =
-    let e : suc l + i ≡ l + suc i = omega arith in
-    path-at u v (suc l) n i (omega arith) ∙ ap (λ (m : ℕ). halfAt u m (placeAlong v (axisAt u m))) e
-
--- so a path is one of halves, as paths are asked
-pub path-bits : (u : Universe) (v : List ℕ) (l n i : ℕ) → i < n → getD (pathFrom u v l n) i 0 < 2
-path-bits u v l n i h = rw (path-at u v l n i h) (omega arith)

@@ -1,4 +1,4 @@
--- `judged` gives judgedAt: 9 and zeros where the path is refused, else the place.
+-- `judged` gives placedAt: 9 and zeros where the path is refused, else the place.
 use Rattle.bintree.proofs.Places.{judged-laws}
 use Rattle.bintree.proofs.place.judged.Statement.{statement}
 use Rattle.bintree.proofs.place.judged.Tie as tie

@@ -1,6 +1,4 @@
 -- `lay_whole` begins the recursion at the whole universe, and writes the one leaf that it may have held back.
-use mathlib.Core.Path.{_≡_, _∙_}
-use native.Mathlib.Omega.{arith}
 use borrow.Author.Needs.{needs}
 use Rattle.convert.proofs.Answers.{levels-fit, standing, first-axis, whole-fits}
 use Rattle.convert.proofs.MergedAnswers.{piece-length, noted-whole}

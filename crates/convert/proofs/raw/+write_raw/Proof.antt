@@ -1,6 +1,6 @@
 -- `write_raw` stores the symbols of what the rule writes from a place on: one for a block that is judged BLACK or WHITE, else `(` and those of both
 -- halves, the second run where the first ends. What it changes of the low corner and of the sides it puts back.
-use mathlib.Core.Path.{_≡_, refl, sym, ap, _∙_}
+use mathlib.Core.Path.{refl, ap, _∙_}
 use native.Mathlib.Omega.{arith}
 use borrow.Author.Needs.{needs}
 use mathlib.Core.List.{List}

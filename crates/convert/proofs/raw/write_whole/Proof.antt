@@ -1,6 +1,5 @@
 -- `write_whole` begins the recursion at the whole universe: its low corner is 0 and its sides are 2^bits along each axis.
-use mathlib.Core.Path.{_≡_, refl, sym, ap, _∙_}
-use mathlib.Core.List.{List}
+use mathlib.Core.Path.{ap, _∙_}
 use native.Mathlib.Omega.{arith}
 use borrow.Author.Needs.{needs}
 use lib.Seq.{sets}

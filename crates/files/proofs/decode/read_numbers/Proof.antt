@@ -1,6 +1,6 @@
+-- `read_numbers` stores the numbers one by one: after i turns the first i places are filled.
 use mathlib.Core.Path.{ap, _∙_}
 use Rattle.lemmas.proofs.Machine.{read-call}
--- `read_numbers` stores the numbers one by one: after i turns the first i places are filled.
 use borrow.Author.Needs.{needs}
 use Prim.Native.Nat.{_+_, _*_, _-_}
 use Rattle.files.specs.Numbers.{u64At, signed}
