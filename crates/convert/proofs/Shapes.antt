@@ -18,14 +18,14 @@ use Rattle.bintree.specs.declared.Colour.{Colour}
 use Rattle.bintree.specs.declared.Colour.the-variants.{White, Black}
 use Rattle.bintree.specs.Shape.{Shape, leaf, halved, size, depth, openSymbol, symbolOf, symbols}
 use Rattle.bintree.specs.Walks.{noted}
-use Rattle.bintree.proofs.Shape.{length-symbols}
+use Rattle.bintree.proofs.Shape.{length-symbols, size-positive}
 use Rattle.csg.specs.Halfspace.{Mark, decided, undecided}
 use Rattle.csg.specs.Tree.{Tree}
 use Rattle.csg.specs.Raw.{examine}
 use Rattle.csg.proofs.Raw.{examine-depth}
 use Rattle.convert.specs.Codes.{bitsOf}
 use Rattle.convert.specs.Blocks.{Ready, Standing, treesOf, blockAt, nextAxis, halvedSides, highCorner, judged}
-use Rattle.convert.specs.Shapes.{shapeOf, symbolOfBits}
+use Rattle.convert.specs.Shapes.{shapeOf, symbolOfBits, leafEnd, leafWritten}
 use Rattle.convert.proofs.Blocks.{axis-few, next-is, lower-standing, upper-standing, lower-is, upper-is}
 use Rattle.convert.proofs.Judging.{written-decided, written-halved, never-last}
 
@@ -91,14 +91,15 @@ module _ {u : Universe} {rows : List ℤ} {first second : List ℕ} (r : Ready u
           record { colour = White; shape = written-decided rows trees left (blockAt u left low) White f; symbol = rw k; bits = k }
       by undecided f = absurd (n (e ∙ ap bitsOf f))
 
-  undecided-bits : (m : Mark) → bitsOf m ≡ 0 → m ≡ undecided
-  undecided-bits (decided Black) e = absurd (omega arith)
-  undecided-bits (decided White) e = absurd (omega arith)
-  undecided-bits undecided e = refl
+  -- its mark, by the bits that judging gave
+  pub left-open : (m : Mark) (x : ℕ) → x ≡ bitsOf m → x ≡ 0 → m ≡ undecided
+  left-open (decided Black) x e z = absurd (omega arith)
+  left-open (decided White) x e z = absurd (omega arith)
+  left-open undecided x e z = refl
 
-  pub opened : {left axis : ℕ} {low side : List ℕ} → Standing u left low side → axis ≡ axisAt u (levels u - left) → (x : ℕ) → x ≡ bitsOf (judged rows trees left (blockAt u left low)) → x ≡ 0 → Opened u rows first second left low side axis
+  pub opened : {left axis : ℕ} {low side : List ℕ} → Standing u left low side → axis ≡ axisAt u (levels u - left) → judged rows trees left (blockAt u left low) ≡ undecided → Opened u rows first second left low side axis
   unfolding shapeOf
-  opened {left} {axis} {low} {side} s turn x e z = by left s turn (undecided-bits (judged rows trees left (blockAt u left low)) (sym e ∙ z))
+  opened {left} {axis} {low} {side} = by left
     where
       by : (l : ℕ) → Standing u l low side → axis ≡ axisAt u (levels u - l) → judged rows trees l (blockAt u l low) ≡ undecided → Opened u rows first second l low side axis
       by zero s t f = absurd (never-last rows trees (blockAt u 0 low) f)
@@ -121,11 +122,38 @@ unfolding size
 closed-size d = ap size (d .shape)
 
 -- ---- what is written
--- a closed block is one store
-pub closed-written : {u : Universe} {rows : List ℤ} {first second : List ℕ} {left : ℕ} {low : List ℕ} {x y : ℕ} → Closed u rows first second left low x → y ≡ symbolOfBits x → (out : List ℕ) (at : ℕ) {now : List ℕ} → now ≡ noted out at y →
-    (at + 1 ≡ at + size (shapeOf u rows first second left low)) × (now ≡ sets out at (symbols (shapeOf u rows first second left low)))
-unfolding symbols
-closed-written d e out at w = (rw (closed-size d), w ∙ rw (d .shape, e, d .symbol) (symbol-noted out at (d .colour)))
+-- there is a place after the first symbol
+pub one-fits : (s : Shape) (at : ℕ) → at + size s < 2 ^ 64 → at + 1 < 2 ^ 64
+one-fits s at h = omega (arith, size-positive s)
+
+-- a closed block is one store, an open one is none yet
+pub leaf-open : (m : Mark) (x : ℕ) (out : List ℕ) (at : ℕ) → x ≡ bitsOf m → x ≡ 0 → (0 ≡ leafEnd at m) × (out ≡ leafWritten out at m)
+unfolding leafEnd leafWritten
+leaf-open (decided Black) x out at e z = absurd (omega arith)
+leaf-open (decided White) x out at e z = absurd (omega arith)
+leaf-open undecided x out at e z = (refl, refl)
+
+pub leaf-closed : (m : Mark) (x : ℕ) (out : List ℕ) (at : ℕ) {y : ℕ} {now : List ℕ} → x ≡ bitsOf m → (x ≡ 0 → ⊥) → y ≡ symbolOfBits x → now ≡ noted out at y → (at + 1 ≡ leafEnd at m) × (now ≡ leafWritten out at m)
+unfolding leafEnd leafWritten
+leaf-closed (decided Black) x out at e n f g = (refl, g ∙ rw (f, e) (symbol-noted out at Black))
+leaf-closed (decided White) x out at e n f g = (refl, g ∙ rw (f, e) (symbol-noted out at White))
+leaf-closed undecided x out at e n f g = absurd (n e)
+
+-- which of the two it was, by the place that came back
+pub end-open : (m : Mark) (at x : ℕ) (out : List ℕ) {now : List ℕ} → x ≡ leafEnd at m → x ≡ 0 → now ≡ leafWritten out at m → (m ≡ undecided) × (now ≡ out)
+unfolding leafEnd leafWritten
+end-open (decided c) at x out e z g = absurd (omega arith)
+end-open undecided at x out e z g = (refl, g)
+
+pub end-closed : {u : Universe} {rows : List ℤ} {first second : List ℕ} → Ready u rows first second → {left : ℕ} {low side : List ℕ} → Standing u left low side → (at x : ℕ) (out : List ℕ) {now : List ℕ} → x ≡ leafEnd at (judged rows (treesOf rows first second) left (blockAt u left low)) → (x ≡ 0 → ⊥) → now ≡ leafWritten out at (judged rows (treesOf rows first second) left (blockAt u left low)) →
+    (x ≡ at + size (shapeOf u rows first second left low)) × (now ≡ sets out at (symbols (shapeOf u rows first second left low)))
+unfolding leafEnd leafWritten shapeOf size symbols
+end-closed {u} {rows} {first} {second} r {left} {low} s at x out {now} e n g = by (judged rows (treesOf rows first second) left (blockAt u left low)) refl e g
+  where
+    by : (m : Mark) → judged rows (treesOf rows first second) left (blockAt u left low) ≡ m → x ≡ leafEnd at m → now ≡ leafWritten out at m →
+        (x ≡ at + size (shapeOf u rows first second left low)) × (now ≡ sets out at (symbols (shapeOf u rows first second left low)))
+    by (decided c) f p q = rw (written-decided rows (treesOf rows first second) left (blockAt u left low) c f) (p, q)
+    by undecided f p q = absurd (n p)
 
 -- an open one is `(` and two runs of stores, the second where the first ends; the high half's corner is what the code made of the block's
 module _ {u : Universe} {rows : List ℤ} {first second : List ℕ} {left : ℕ} {low side corner : List ℕ} {axis : ℕ} (o : Opened u rows first second left low side axis) (h : corner ≡ highCorner low side axis) where

@@ -4,10 +4,12 @@ use mathlib.Core.Bool.{cond}
 use mathlib.Core.List.{List}
 use lib.Dec.{eqb}
 use lib.IntN.{ℤ}
+use lib.ListN.{set}
 use Rattle.universe.specs.declared.Universe.{Universe}
 use Rattle.bintree.specs.declared.Colour.the-variants.{White, Black}
 use Rattle.bintree.specs.Shape.{Shape, symbolOf, size}
 use Rattle.bintree.specs.Walks.{heldOf}
+use Rattle.csg.specs.Halfspace.{Mark, decided, undecided}
 use Rattle.csg.specs.Raw.{examine}
 use Rattle.convert.specs.declared.merged.Piece.{Piece}
 use Rattle.convert.specs.Blocks.{treesOf, blockAt}
@@ -19,6 +21,15 @@ shapeOf u rows first second left low = examine rows (treesOf rows first second) 
 -- the symbol of a mark's bits
 abbrev pub symbolOfBits : ℕ → ℕ
 symbolOfBits bits = cond (eqb bits 1) (symbolOf Black) (symbolOf White)
+
+-- the place after the leaf of a block that is so judged, and room with its symbol; 0 and the room as it was where it is undecided
+unfoldable pub leafEnd : ℕ → Mark → ℕ
+leafEnd at (decided c) = at + 1
+leafEnd at undecided = 0
+
+unfoldable pub leafWritten : List ℕ → ℕ → Mark → List ℕ
+leafWritten out at (decided c) = set out at (symbolOf c)
+leafWritten out at undecided = out
 
 -- what laying a merged shape from a place on comes to
 abbrev pub pieceOf : ℕ → Shape → Piece

@@ -20,7 +20,8 @@ ghost use Rattle.bintree.specs.Shape.{size};
 ghost use Rattle.bintree.specs.Merging.{merged};
 ghost use Rattle.bintree.specs.Walks.{laid};
 ghost use Rattle.convert.specs.Answers.{refusalOfOne, refusalOfTwo, mergedOfOne, mergedOfTwo};
-ghost use Rattle.convert.specs.Blocks.{Ready, Standing};
+ghost use Rattle.csg.specs.Halfspace.{undecided};
+ghost use Rattle.convert.specs.Blocks.{Ready, Standing, treesOf, blockAt, judged};
 ghost use Rattle.convert.specs.Shapes.{shapeOf, pieceOf};
 
 // What laying a block's merged shape comes to: the symbol of a shape that is one leaf, which is held back, or else 0; and the place past what is
@@ -31,7 +32,7 @@ pub(crate) struct Piece {
 }
 
 // Lays the merged shape of a block from `at` on, as far as there is room; a leaf is held back. The low corner and the sides come back as they were.
-fn lay_merged(
+fn lay_block(
     universe: Universe,
     rows: &[i64],
     first: &[u16],
@@ -58,12 +59,48 @@ fn lay_merged(
             end: at + 1,
         };
     }
+    lay_halves(
+        universe,
+        rows,
+        first,
+        second,
+        low,
+        side,
+        axis,
+        left,
+        out,
+        at,
+    )
+}
+
+// The same of a block that is undecided: both halves are laid, and joined.
+fn lay_halves(
+    universe: Universe,
+    rows: &[i64],
+    first: &[u16],
+    second: &[u16],
+    low: &mut [u64; 4],
+    side: &mut [u64; 4],
+    axis: usize,
+    left: u64,
+    out: &mut [u8],
+    at: usize,
+) -> Piece
+    requires { ⌜ Ready universe (now rows) (now first) (now second) ⌝ }
+    requires { ⌜ Standing universe left (now low) (now side) ⌝ }
+    requires { ⌜ axis ≡ axisAt universe (levels universe - left) ⌝ }
+    requires { ⌜ at + size (shapeOf universe (now rows) (now first) (now second) left (now low)) < 2 ^ 64 ⌝ }
+    requires { ⌜ judged (now rows) (treesOf (now rows) (now first) (now second)) left (blockAt universe left (now low)) ≡ undecided ⌝ }
+    ensures { λ r. ⌜ r ≡ pieceOf at (merged (shapeOf universe (now (rows .entry)) (now (first .entry)) (now (second .entry)) left (now (low .entry)))) ⌝ }
+    ensures { λ _. ⌜ now (out .exit) ≡ laid (now (out .entry)) at (merged (shapeOf universe (now (rows .entry)) (now (first .entry)) (now (second .entry)) left (now (low .entry)))) ⌝ }
+    ensures { λ _. ⌜ (now (low .exit) ≡ now (low .entry)) × (now (side .exit) ≡ now (side .entry)) ⌝ }
+{
     let near = low[axis];
     let whole = side[axis];
     let half = whole / 2;
     let next = next_axis(universe.axes as usize, axis);
     side[axis] = half;
-    let below = lay_merged(
+    let below = lay_block(
         universe,
         rows,
         first,
@@ -77,7 +114,7 @@ fn lay_merged(
     );
     low[axis] = near + half;
     let middle = below.end;
-    let above = lay_merged(
+    let above = lay_block(
         universe,
         rows,
         first,
@@ -119,7 +156,12 @@ fn lay_whole(
     let mut low = [0u64; 4];
     let mut side = whole_sides(universe);
     let levels = universe.axes * universe.bits;
-    let piece = lay_merged(
+    let mark = judge(universe, rows, first, second, &low, &side, levels);
+    if mark != 0 {
+        bintree::note(out, 0, symbol_of(mark));
+        return 1;
+    }
+    let piece = lay_halves(
         universe,
         rows,
         first,

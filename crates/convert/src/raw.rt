@@ -17,8 +17,9 @@ ghost use Rattle.universe.specs.Universe.{levels, axisAt};
 ghost use Rattle.bintree.specs.Answers.{writtenAnswer, writtenBuffer};
 ghost use Rattle.bintree.specs.Shape.{symbols, size};
 ghost use Rattle.convert.specs.Answers.{refusalOfOne, refusalOfTwo, rawOfOne, rawOfTwo};
-ghost use Rattle.convert.specs.Blocks.{Ready, Standing};
-ghost use Rattle.convert.specs.Shapes.{symbolOfBits, shapeOf};
+ghost use Rattle.csg.specs.Halfspace.{undecided};
+ghost use Rattle.convert.specs.Blocks.{Ready, Standing, treesOf, blockAt, judged};
+ghost use Rattle.convert.specs.Shapes.{symbolOfBits, shapeOf, leafEnd, leafWritten};
 
 // The symbol of a block that is judged BLACK (1) or WHITE.
 pub(crate) fn symbol_of(mark: u8) -> u8
@@ -27,9 +28,35 @@ pub(crate) fn symbol_of(mark: u8) -> u8
     if mark == 1 { b'B' } else { b'W' }
 }
 
+// Writes the symbol of a block that is judged BLACK or WHITE, where there is room, and gives the place after it; 0 where the block is undecided.
+fn write_leaf(
+    universe: Universe,
+    rows: &[i64],
+    first: &[u16],
+    second: &[u16],
+    low: &[u64; 4],
+    side: &[u64; 4],
+    left: u64,
+    out: &mut [u8],
+    at: usize,
+) -> usize
+    requires { ⌜ Ready universe (now rows) (now first) (now second) ⌝ }
+    requires { ⌜ Standing universe left (now low) (now side) ⌝ }
+    requires { ⌜ at + size (shapeOf universe (now rows) (now first) (now second) left (now low)) < 2 ^ 64 ⌝ }
+    ensures { λ r. ⌜ r ≡ leafEnd at (judged (now (rows .entry)) (treesOf (now (rows .entry)) (now (first .entry)) (now (second .entry))) left (blockAt universe left (now (low .entry)))) ⌝ }
+    ensures { λ _. ⌜ now (out .exit) ≡ leafWritten (now (out .entry)) at (judged (now (rows .entry)) (treesOf (now (rows .entry)) (now (first .entry)) (now (second .entry))) left (blockAt universe left (now (low .entry)))) ⌝ }
+{
+    let mark = judge(universe, rows, first, second, low, side, left);
+    if mark == 0 {
+        return 0;
+    }
+    bintree::note(out, at, symbol_of(mark));
+    at + 1
+}
+
 // Writes the raw expression of a block from `at` on, as far as there is room, and gives the place after it. The low corner and the sides come back as
 // they were.
-fn write_raw(
+fn write_block(
     universe: Universe,
     rows: &[i64],
     first: &[u16],
@@ -49,18 +76,53 @@ fn write_raw(
     ensures { λ _. ⌜ now (out .exit) ≡ sets (now (out .entry)) at (symbols (shapeOf universe (now (rows .entry)) (now (first .entry)) (now (second .entry)) left (now (low .entry)))) ⌝ }
     ensures { λ _. ⌜ (now (low .exit) ≡ now (low .entry)) × (now (side .exit) ≡ now (side .entry)) ⌝ }
 {
-    let mark = judge(universe, rows, first, second, low, side, left);
-    if mark != 0 {
-        bintree::note(out, at, symbol_of(mark));
-        return at + 1;
+    let end = write_leaf(universe, rows, first, second, low, side, left, out, at);
+    if end != 0 {
+        return end;
     }
+    write_halves(
+        universe,
+        rows,
+        first,
+        second,
+        low,
+        side,
+        axis,
+        left,
+        out,
+        at,
+    )
+}
+
+// The same of a block that is undecided: `(` and both halves.
+fn write_halves(
+    universe: Universe,
+    rows: &[i64],
+    first: &[u16],
+    second: &[u16],
+    low: &mut [u64; 4],
+    side: &mut [u64; 4],
+    axis: usize,
+    left: u64,
+    out: &mut [u8],
+    at: usize,
+) -> usize
+    requires { ⌜ Ready universe (now rows) (now first) (now second) ⌝ }
+    requires { ⌜ Standing universe left (now low) (now side) ⌝ }
+    requires { ⌜ axis ≡ axisAt universe (levels universe - left) ⌝ }
+    requires { ⌜ at + size (shapeOf universe (now rows) (now first) (now second) left (now low)) < 2 ^ 64 ⌝ }
+    requires { ⌜ judged (now rows) (treesOf (now rows) (now first) (now second)) left (blockAt universe left (now low)) ≡ undecided ⌝ }
+    ensures { λ r. ⌜ r ≡ at + size (shapeOf universe (now (rows .entry)) (now (first .entry)) (now (second .entry)) left (now (low .entry))) ⌝ }
+    ensures { λ _. ⌜ now (out .exit) ≡ sets (now (out .entry)) at (symbols (shapeOf universe (now (rows .entry)) (now (first .entry)) (now (second .entry)) left (now (low .entry)))) ⌝ }
+    ensures { λ _. ⌜ (now (low .exit) ≡ now (low .entry)) × (now (side .exit) ≡ now (side .entry)) ⌝ }
+{
     bintree::note(out, at, b'(');
     let near = low[axis];
     let whole = side[axis];
     let half = whole / 2;
     let next = next_axis(universe.axes as usize, axis);
     side[axis] = half;
-    let middle = write_raw(
+    let middle = write_block(
         universe,
         rows,
         first,
@@ -73,7 +135,7 @@ fn write_raw(
         at + 1,
     );
     low[axis] = near + half;
-    let end = write_raw(
+    let end = write_block(
         universe,
         rows,
         first,
@@ -105,7 +167,11 @@ fn write_whole(
     let mut low = [0u64; 4];
     let mut side = whole_sides(universe);
     let levels = universe.axes * universe.bits;
-    write_raw(
+    let end = write_leaf(universe, rows, first, second, &low, &side, levels, out, 0);
+    if end != 0 {
+        return end;
+    }
+    write_halves(
         universe,
         rows,
         first,
