@@ -1,4 +1,5 @@
-//! Document 01's example scene, converted and judged from Rust, through a safe wrapper. At the repository's top, on x86-64:
+//! Document 01's example scene, converted and judged from Rust, through a safe wrapper. At the repository's top, on x86-64 (on another processor
+//! `tests/native` builds the archive, as target/native/libexport.a):
 //!
 //! ```sh
 //! rt staticlib export

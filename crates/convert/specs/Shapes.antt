@@ -8,7 +8,7 @@ use lib.ListN.{set}
 use Rattle.universe.specs.declared.Universe.{Universe}
 use Rattle.bintree.specs.declared.Colour.the-variants.{White, Black}
 use Rattle.bintree.specs.Shape.{Shape, symbolOf, size}
-use Rattle.bintree.specs.Walks.{heldOf}
+use Rattle.bintree.specs.Walks.{heldOf, isAlike, opened}
 use Rattle.csg.specs.Halfspace.{Mark, decided, undecided}
 use Rattle.csg.specs.Raw.{examine}
 use Rattle.convert.specs.declared.merged.Piece.{Piece}
@@ -34,3 +34,11 @@ leafWritten out at undecided = out
 -- what laying a merged shape from a place on comes to
 abbrev pub pieceOf : ℕ → Shape → Piece
 pieceOf at s = record { held = heldOf s; end = at + size s }
+
+-- two halves that are laid, joined: leaves of one colour are held back as one, else `(` and what was held back of them is written
+abbrev pub joinedPiece : ℕ → Piece → Piece → Piece
+joinedPiece at low high =
+    cond (isAlike (low .held) (high .held)) (record { held = low .held; end = at + 1 }) (record { held = 0; end = high .end })
+
+abbrev pub joinedRoom : List ℕ → ℕ → Piece → Piece → List ℕ
+joinedRoom out at low high = cond (isAlike (low .held) (high .held)) out (opened out at (low .held) (low .end) (high .held))

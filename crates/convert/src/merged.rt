@@ -22,13 +22,32 @@ ghost use Rattle.bintree.specs.Walks.{laid};
 ghost use Rattle.convert.specs.Answers.{refusalOfOne, refusalOfTwo, mergedOfOne, mergedOfTwo};
 ghost use Rattle.csg.specs.Halfspace.{undecided};
 ghost use Rattle.convert.specs.Blocks.{Ready, Standing, treesOf, blockAt, judged};
-ghost use Rattle.convert.specs.Shapes.{shapeOf, pieceOf};
+ghost use Rattle.convert.specs.Shapes.{shapeOf, pieceOf, joinedPiece, joinedRoom};
 
 // What laying a block's merged shape comes to: the symbol of a shape that is one leaf, which is held back, or else 0; and the place past what is
 // written or held back.
 pub(crate) struct Piece {
     pub held: u8,
     pub end: usize,
+}
+
+// Joins two halves that are laid behind the place of their `(`: leaves of one colour are held back as one, else `(` and what was held back is written.
+fn join(out: &mut [u8], at: usize, below: Piece, above: Piece) -> Piece
+    requires { ⌜ at + 1 < 2 ^ 64 ⌝ }
+    ensures { λ r. ⌜ r ≡ joinedPiece at below above ⌝ }
+    ensures { λ _. ⌜ now (out .exit) ≡ joinedRoom (now (out .entry)) at below above ⌝ }
+{
+    if bintree::is_alike(below.held, above.held) {
+        return Piece {
+            held: below.held,
+            end: at + 1,
+        };
+    }
+    bintree::open(out, at, below.held, below.end, above.held);
+    Piece {
+        held: 0,
+        end: above.end,
+    }
 }
 
 // Lays the merged shape of a block from `at` on, as far as there is room; a leaf is held back. The low corner and the sides come back as they were.
@@ -128,17 +147,7 @@ fn lay_halves(
     );
     low[axis] = near;
     side[axis] = whole;
-    if bintree::is_alike(below.held, above.held) {
-        return Piece {
-            held: below.held,
-            end: at + 1,
-        };
-    }
-    bintree::open(out, at, below.held, middle, above.held);
-    Piece {
-        held: 0,
-        end: above.end,
-    }
+    join(out, at, below, above)
 }
 
 // Writes the merged expression of the whole universe, as far as there is room, and gives its length.

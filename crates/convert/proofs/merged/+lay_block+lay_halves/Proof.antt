@@ -7,8 +7,8 @@ use borrow.Author.Needs.{needs}
 use lib.ListN.{getD, set}
 use Rattle.lemmas.proofs.Stores.{restored}
 use Rattle.convert.specs.Blocks.{halfSide}
-use Rattle.convert.proofs.Shapes.{opened, left-open, closed, closed-size, halves-size}
-use Rattle.convert.proofs.Pieces.{piece-closed, piece-alike, piece-apart, piece-fits}
+use Rattle.convert.proofs.Shapes.{opened, left-open, closed, closed-size, halves-size, one-fits}
+use Rattle.convert.proofs.Pieces.{piece-closed, piece-joined, piece-fits}
 use Prim.Native.Nat.{ℕ, _+_, _*_, _<_}
 use borrow.Fn.Kinds.{In}
 use borrow.Fn.PlainCycle.{Measures, is, falls, and}
@@ -18,10 +18,9 @@ use Rattle.convert.proofs.merged.+lay_block+lay_halves.Lts-lay_block as
 use Rattle.convert.proofs.merged.lay_halves.Reads as lay-halves
 use Rattle.convert.proofs.merged.lay_halves.Kinds as lay-halves-kinds
 use Rattle.convert.proofs.merged.+lay_block+lay_halves.Lts-lay_halves as lay-halves-lts
-use Rattle.bintree.proofs.is_alike.Reads as is-alike-reads
-use Rattle.bintree.proofs.open.Reads as open-reads
 use Rattle.convert.proofs.block.next_axis.Reads as next-axis-reads
 use Rattle.convert.proofs.judge.judge.Reads as judge-reads
+use Rattle.convert.proofs.merged.join.Reads as join-reads
 use Rattle.convert.proofs.raw.symbol_of.Reads as symbol-of-reads
 use Rattle.convert.proofs.merged.+lay_block+lay_halves.{statement}
 use Rattle.convert.proofs.merged.+lay_block+lay_halves.Tie.{close}
@@ -53,7 +52,7 @@ lay-block-claims t =
 
 abbrev lay-halves-claims : ℕ → lay-halves-lts.Claims
 lay-halves-claims t =
-    (next-axis-reads.Asked, next-axis-reads.Learnt, lay-block-below t, lay-block.Post, is-alike-reads.Asked, is-alike-reads.Learnt, open-reads.Asked, open-reads.Learnt)
+    (next-axis-reads.Asked, next-axis-reads.Learnt, lay-block-below t, lay-block.Post, join-reads.Asked, join-reads.Learnt)
 
 lay-block-judge-requires : (t : ℕ) → lay-block-lts.Need-judge-requires (lay-block-claims t) (lay-block-at t) lay-block.Post
 lay-block-judge-requires t c κs = let k = c .before .before .before .before .before in (k .pre .1 .0, k .pre .1 .1 .0)
@@ -144,41 +143,21 @@ lay-halves-mul-side-2 t c = let k = c .before .before .before .before .before .b
 lay-halves-element-write-side-2 : (t : ℕ) → lay-halves-lts.Need-element-write-side-2 (lay-halves-claims t) (lay-halves-at t) lay-halves.Post
 lay-halves-element-write-side-2 t c = let k = c .before .before .before .before .before .before .before .before .before .before .before .before .before .before .before .before .before .before in opened (k .pre .1 .0) (k .pre .1 .1 .0) (k .pre .1 .1 .1 .0) (k .pre .1 .1 .1 .1 .1) .axis-in
 
-lay-halves-is-alike-requires : (t : ℕ) → lay-halves-lts.Need-is-alike-requires (lay-halves-claims t) (lay-halves-at t) lay-halves.Post
-lay-halves-is-alike-requires t c κs = search needs
-
-lay-halves-add-t41 : (t : ℕ) → lay-halves-lts.Need-add-t41 (lay-halves-claims t) (lay-halves-at t) lay-halves.Post
-lay-halves-add-t41 t c = let k = c .before .before .before .before .before .before .before .before .before .before .before .before .before .before .before .before .before .before .before .before in record { fits = omega (arith, k .pre .1 .1 .1 .1 .0, halves-size (opened (k .pre .1 .0) (k .pre .1 .1 .0) (k .pre .1 .1 .1 .0) (k .pre .1 .1 .1 .1 .1)) refl) }
+lay-halves-join-requires : (t : ℕ) → lay-halves-lts.Need-join-requires (lay-halves-claims t) (lay-halves-at t) lay-halves.Post
+lay-halves-join-requires t c κs = let k = c .before .before .before .before .before .before .before .before .before .before .before .before .before .before .before .before .before .before .before in one-fits _ _ (k .pre .1 .1 .1 .1 .0)
 
 lay-halves-same-length : (t : ℕ) → lay-halves-lts.Need-same-length (lay-halves-claims t) (lay-halves-at t) lay-halves.Post
-lay-halves-same-length t c = c .before .before .before .before .lay-block2 .kept .1 .1 .1 .1 .1 .1 .1 .1 .0 ∙ c .before .before .before .before .before .before .before .before .before .before .lay-block .kept .1 .1 .1 .1 .1 .1 .1 .1 .0
+lay-halves-same-length t c = c .before .before .join .kept .0 ∙ c .before .before .before .before .before .before .lay-block2 .kept .1 .1 .1 .1 .1 .1 .1 .1 .0 ∙ c .before .before .before .before .before .before .before .before .before .before .before .before .lay-block .kept .1 .1 .1 .1 .1 .1 .1 .1 .0
 
 lay-halves-returns : (t : ℕ) → lay-halves-lts.Need-returns (lay-halves-claims t) (lay-halves-at t) lay-halves.Post
 lay-halves-returns t c =
-    let k = c .before .before .before .before .before .before .before .before .before .before .before .before .before .before .before .before .before .before .before .before in
-    let e = c .before .before .before .before .before .before .before .before .before .before .lay-block .ensures in
-    let f = c .before .before .before .before .lay-block2 .ensures in
+    let k = c .before .before .before .before .before .before .before .before .before .before .before .before .before .before .before .before .before .before .before .before .before .before in
+    let e = c .before .before .before .before .before .before .before .before .before .before .before .before .lay-block .ensures in
+    let f = c .before .before .before .before .before .before .lay-block2 .ensures in
+    let j = c .before .before .join .ensures in
     let x = getD (k .args .low .now) (k .args .axis) 0 + halfSide (k .args .side .now) (k .args .axis) in
     let h = ap (λ (l : List ℕ). set l (k .args .axis) x) (e .1 .1 .0) in
-    let w = piece-alike (opened (k .pre .1 .0) (k .pre .1 .1 .0) (k .pre .1 .1 .1 .0) (k .pre .1 .1 .1 .1 .1)) h _ _ _ _ _ _ (e .0) (e .1 .0) (f .0) (f .1 .0) (c .before .is-alike .ensures) (c .if1 .taken) in
-    let low = ap (λ (l : List ℕ). set l (k .args .axis) (getD (k .args .low .now) (k .args .axis) 0)) (f .1 .1 .0 ∙ h) ∙ restored (k .args .low .now) (k .args .axis) x in
-    let side = ap (λ (l : List ℕ). set l (k .args .axis) (getD (k .args .side .now) (k .args .axis) 0)) (f .1 .1 .1 ∙ e .1 .1 .1) ∙ restored (k .args .side .now) (k .args .axis) (halfSide (k .args .side .now) (k .args .axis)) in
-    (w .0, (w .1, (low, side)))
-
-lay-halves-open-requires : (t : ℕ) → lay-halves-lts.Need-open-requires (lay-halves-claims t) (lay-halves-at t) lay-halves.Post
-lay-halves-open-requires t c κs = search needs
-
-lay-halves-same-length-2 : (t : ℕ) → lay-halves-lts.Need-same-length-2 (lay-halves-claims t) (lay-halves-at t) lay-halves.Post
-lay-halves-same-length-2 t c = c .before .before .«open» .kept .0 ∙ c .before .before .before .before .before .before .before .before .lay-block2 .kept .1 .1 .1 .1 .1 .1 .1 .1 .0 ∙ c .before .before .before .before .before .before .before .before .before .before .before .before .before .before .lay-block .kept .1 .1 .1 .1 .1 .1 .1 .1 .0
-
-lay-halves-returns-2 : (t : ℕ) → lay-halves-lts.Need-returns-2 (lay-halves-claims t) (lay-halves-at t) lay-halves.Post
-lay-halves-returns-2 t c =
-    let k = c .before .before .before .before .before .before .before .before .before .before .before .before .before .before .before .before .before .before .before .before .before .before .before .before in
-    let e = c .before .before .before .before .before .before .before .before .before .before .before .before .before .before .lay-block .ensures in
-    let f = c .before .before .before .before .before .before .before .before .lay-block2 .ensures in
-    let x = getD (k .args .low .now) (k .args .axis) 0 + halfSide (k .args .side .now) (k .args .axis) in
-    let h = ap (λ (l : List ℕ). set l (k .args .axis) x) (e .1 .1 .0) in
-    let w = piece-apart (opened (k .pre .1 .0) (k .pre .1 .1 .0) (k .pre .1 .1 .1 .0) (k .pre .1 .1 .1 .1 .1)) h _ _ _ _ _ _ (e .0) (e .1 .0) (f .0) (f .1 .0) (c .before .before .before .before .before .is-alike .ensures) (c .before .before .before .before .if1 .left) (c .before .before .«open» .ensures) in
+    let w = piece-joined (opened (k .pre .1 .0) (k .pre .1 .1 .0) (k .pre .1 .1 .1 .0) (k .pre .1 .1 .1 .1 .1)) h _ _ _ _ _ _ (e .0) (e .1 .0) (f .0) (f .1 .0) (j .0) (j .1) in
     let low = ap (λ (l : List ℕ). set l (k .args .axis) (getD (k .args .low .now) (k .args .axis) 0)) (f .1 .1 .0 ∙ h) ∙ restored (k .args .low .now) (k .args .axis) x in
     let side = ap (λ (l : List ℕ). set l (k .args .axis) (getD (k .args .side .now) (k .args .axis) 0)) (f .1 .1 .1 ∙ e .1 .1 .1) ∙ restored (k .args .side .now) (k .args .axis) (halfSide (k .args .side .now) (k .args .axis)) in
     (w .0, (w .1, (low, side)))
@@ -216,10 +195,6 @@ pub +lay-block+lay-halves-spec : {M : Type 1} → statement M
     (lay-halves-element-write-low-2 t)
     (lay-halves-mul-side-2 t)
     (lay-halves-element-write-side-2 t)
-    (lay-halves-is-alike-requires t)
-    (lay-halves-add-t41 t)
+    (lay-halves-join-requires t)
     (lay-halves-same-length t)
     (lay-halves-returns t)
-    (lay-halves-open-requires t)
-    (lay-halves-same-length-2 t)
-    (lay-halves-returns-2 t)

@@ -30,7 +30,7 @@ same-length c = search needs
 returns : tie.Need-returns
 returns c =
     let r = c .before .before .before .before .before .before .before .before .before .before .before .before .before .before .pre in
-    let w = piece-closed (closed r _ (c .before .before .before .before .before .before .judge .ensures) (c .before .before .before .before .before .if1 .taken)) (c .before .before .before .symbol-of .ensures) _ 0 in
+    let w = piece-closed (closed r _ (c .before .before .before .before .before .before .judge .ensures) (c .before .before .before .before .before .if1 .taken)) (c .before .before .before .symbol-of .ensures) (c .before .before .before .before .before .before .before .before .before .before .before .before .before .before .args .out .now) 0 in
     (omega (arith, piece-length r (w .0)), noted-whole r (w .0) _ (w .1) (c .before .before .note .ensures))
 
 lay-halves-requires : tie.Need-lay-halves-requires
