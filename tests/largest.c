@@ -1,0 +1,73 @@
+/* tests/largest.c: a shape file at both sides of its largest symbol count, 4,294,967,295. It needs some 9 GiB of memory and a
+ * minute or two, so the gate does not run it. At the repository's top, with the archive that tests/native builds:
+ *
+ *   cc -std=c11 -O2 -Wall -Wextra -Iinclude tests/largest.c target/native/libexport.a -o target/largest && target/largest
+ *
+ * The shape is the full tree of 31 halvings over leaves W and B in turn, which is merged and has 2^32 - 1 symbols; one leaf
+ * halved makes it two symbols more. Each is written with all the room it needs; the shorter one with one byte less, too.
+ */
+#include <inttypes.h>
+#include <stdio.h>
+#include <stdlib.h>
+#include <string.h>
+
+#include "durbizhan.h"
+
+#define AXES 4
+#define BITS 10
+#define LEVELS 31
+
+static int failures = 0;
+
+static void expect(const char *what, uint64_t got, uint64_t wanted) {
+    if (got != wanted) {
+        printf("%s: %" PRIu64 ", and not %" PRIu64 "\n", what, got, wanted);
+        failures++;
+    }
+}
+
+/* The tree of so many halvings, by doubling that of one less; gives its length. */
+static size_t grow(uint8_t *symbols, int levels) {
+    size_t length = 3;
+    memcpy(symbols, "(WB", 3);
+    for (int level = 1; level < levels; level++) {
+        memmove(symbols + 1, symbols, length);
+        symbols[0] = '(';
+        memcpy(symbols + 1 + length, symbols + 1, length);
+        length = 2 * length + 1;
+    }
+    return length;
+}
+
+int main(void) {
+    const uint64_t most = UINT64_C(4294967295);
+    uint8_t *symbols = malloc(most + 2), *out = malloc(most + 13);
+    if (!symbols || !out) {
+        puts("there is too little memory");
+        return 2;
+    }
+    size_t length = grow(symbols, LEVELS);
+    expect("symbols", length, most);
+    uint64_t answer[1];
+
+    memset(out, '.', most + 13);
+    expect("one byte short", durbizhan_shape_write(AXES, BITS, symbols, length, out, length + 10, answer), 6);
+    expect("its need", answer[0], length + 11);
+    expect("its first byte", out[0], '.');
+    expect("its last byte", out[length + 9], '.');
+    expect("the most symbols", durbizhan_shape_write(AXES, BITS, symbols, length, out, length + 13, answer), 0);
+    expect("its length", answer[0], length + 11);
+    expect("its symbols differ", memcmp(out + 11, symbols, length) != 0, 0);
+    expect("the byte past it", out[length + 11], '.');
+
+    symbols[length - 1] = '(';
+    symbols[length] = 'W';
+    symbols[length + 1] = 'B';
+    memset(out, '.', most + 13);
+    expect("two symbols more", durbizhan_shape_write(AXES, BITS, symbols, length + 2, out, length + 13, answer), 6);
+    expect("their need", answer[0], length + 13);
+    expect("their first byte", out[0], '.');
+    expect("their last byte", out[length + 12], '.');
+    printf("tests/largest: %d differences\n", failures);
+    return failures != 0;
+}
