@@ -6,7 +6,6 @@ use Rattle.lemmas.specs.Sums.{product}
 use Rattle.universe.specs.declared.Universe.{Universe}
 use Rattle.universe.specs.Universe.{axisAt, frameAxis, blockSide}
 use Rattle.universe.specs.Voxel.{halfAt}
-use Rattle.bintree.specs.declared.Colour.{Colour}
 use Rattle.bintree.specs.declared.Colour.the-variants.{White, Black}
 use Rattle.bintree.specs.Shape.{Shape, leaf, halved}
 

@@ -1,7 +1,6 @@
 -- Document 01, "Verdicts": Clear, or Hit with first frame, last frame and black voxel count, over frames first to last, both ends in.
 use Prim.Native.Nat.{ℕ, zero, suc, _+_, _-_}
 use mathlib.Core.Bool.{Bool, cond}
-use mathlib.Core.List.{List, [], _∷_}
 use lib.Dec.{ltb}
 use Rattle.lemmas.specs.Sums.{sum}
 use Rattle.universe.specs.declared.Universe.{Universe}

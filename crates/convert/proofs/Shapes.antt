@@ -1,7 +1,7 @@
 -- What the recursion meets at a block: judged BLACK or WHITE it is one leaf, undecided it is halved, and both halves stand one level on. A shape of n
 -- levels has fewer than 2^(n+1) symbols, so that lengths fit.
 use Prim.Native.Nat.{ℕ, zero, suc, _+_, _-_, _^_, _≤_, _<_, max}
-use mathlib.Core.Path.{_≡_, refl, sym, ap, ap₂, _∙_}
+use mathlib.Core.Path.{_≡_, refl, ap, ap₂, _∙_}
 use mathlib.Core.List.{List}
 use native.Mathlib.Nat.{le-max-left, le-max-right, two-pow-succ, le-trans}
 use native.Mathlib.Numerals.{add-one}

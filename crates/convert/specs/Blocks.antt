@@ -8,7 +8,7 @@ use lib.IntN.{ℤ}
 use lib.ListN.{length, getD, set, replicate}
 use Rattle.universe.specs.declared.Universe.{Universe}
 use Rattle.universe.specs.declared.Block.{Block}
-use Rattle.universe.specs.Universe.{mostAxes, universeRefusal, levels, axisAt, sideAlong, blockSide}
+use Rattle.universe.specs.Universe.{mostAxes, universeRefusal, levels, sideAlong, blockSide}
 use Rattle.csg.specs.Halfspace.{Mark, decided, rowCount, rowsRefusal}
 use Rattle.csg.specs.Tree.{Tree}
 use Rattle.csg.specs.Words.{mostWords, treeRefusal, treeOf}

@@ -1,4 +1,4 @@
--- What the recursion writes for a cell's block.
+-- What the recursion writes for a block, and what it lays of it and joins.
 use Prim.Native.Nat.{ℕ, _+_}
 use mathlib.Core.Bool.{cond}
 use mathlib.Core.List.{List}

@@ -10,7 +10,7 @@ pub(crate) const SHORT: usize = 4096;
 // Scratch room for where more is lent.
 pub(crate) const LONG: usize = 65536;
 
-// Copies the first `length` symbols.
+// Copies the first `count` symbols.
 pub(crate) fn copy_front(from: &[u8], out: &mut [u8], count: usize)
     requires { ⌜ count ≤ length (now from) ⌝ }
     requires { ⌜ count ≤ length (now out) ⌝ }

@@ -6,6 +6,7 @@ ghost use Rattle.csg.specs.Halfspace.{rowAt};
 ghost use Rattle.convert.specs.Codes.{spreadWith, spreadOf, spreadCode};
 ghost use Rattle.convert.specs.Small.{SmallCoefficient, SmallPlace, SmallSpread, SmallDoubled, SpreadReady};
 
+// The spread of a row over a block.
 pub(crate) struct Spread {
     pub doubled: i64,
     pub reach: i64,

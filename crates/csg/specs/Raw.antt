@@ -6,9 +6,8 @@ use Rattle.universe.specs.declared.Universe.{Universe}
 use Rattle.universe.specs.declared.Block.{Block}
 use Rattle.universe.specs.Universe.{levels}
 use Rattle.universe.specs.Block.{wholeBlock, low, high}
-use Rattle.bintree.specs.declared.Colour.{Colour}
 use Rattle.bintree.specs.Shape.{Shape, leaf, halved}
-use Rattle.csg.specs.Halfspace.{Mark, decided, undecided}
+use Rattle.csg.specs.Halfspace.{decided, undecided}
 use Rattle.csg.specs.Tree.{Tree, node, intersection}
 use Rattle.csg.specs.Marks.{treeMark, treeColour}
 

@@ -1,6 +1,6 @@
 -- Document 01, "Halfspaces and trees": a tree is a list of words in postfix order; its refusals 4 and 5, in the order of "Numbers we say no with".
 use Prim.Native.Nat.{ℕ, _+_, _-_, _<_}
-use mathlib.Core.Bool.{Bool, true, false, cond, _&&_, _||_}
+use mathlib.Core.Bool.{Bool, cond, _&&_, _||_}
 use mathlib.Core.List.{List, [], _∷_}
 use lib.Dec.{ltb, leb, eqb}
 use lib.ListN.{length}

@@ -17,8 +17,6 @@ use Rattle.convert.specs.declared.verdict.Clearance.{Clearance}
 use Rattle.files.specs.declared.Scene.{Scene}
 use Rattle.files.specs.declared.ShapeRead.{ShapeRead}
 use Rattle.standin.specs.declared.Triple.{Triple}
-use Rattle.standin.specs.declared.Corners.{Corners}
-use Rattle.standin.specs.declared.Plane.{Plane}
 use Rattle.standin.specs.declared.Solid.the-variants.{Box, Cut}
 use Rattle.standin.specs.declared.Proxy.{Proxy}
 

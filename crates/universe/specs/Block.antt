@@ -1,8 +1,7 @@
 -- Document 01, "The universe": the whole block, the low and the high half, and which blocks halving gives.
-use Prim.Native.Nat.{ℕ, zero, suc, _+_, _*_, _%_, _≤_, _<_}
+use Prim.Native.Nat.{ℕ, suc, _+_, _%_, _<_}
 use mathlib.Core.Path.{_≡_}
-use mathlib.Core.Bool.{Bool, true, cond, _&&_}
-use mathlib.Core.List.{List, []}
+use mathlib.Core.Bool.{Bool, cond, _&&_}
 use lib.Dec.{ltb, leb, eqb}
 use lib.ListN.{getD, set, replicate}
 use Rattle.lemmas.specs.Sums.{every}

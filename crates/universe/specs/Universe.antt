@@ -1,6 +1,6 @@
 -- Document 01, "The universe": axes, bits, sides, levels, the axis of a level, frames; and the limits. Axis i of the document is i − 1 here.
 use Prim.Native.Nat.{ℕ, zero, suc, _+_, _-_, _*_, _%_, _^_}
-use mathlib.Core.Bool.{Bool, cond, _&&_}
+use mathlib.Core.Bool.{cond, _&&_}
 use lib.Dec.{leb, eqb}
 use Rattle.universe.specs.declared.Universe.{Universe}
 use Rattle.universe.specs.Refusals.{unless}

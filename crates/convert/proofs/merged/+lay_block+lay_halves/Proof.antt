@@ -1,6 +1,6 @@
 -- `lay_block` and `lay_halves` lay the merged shape of a block: one that is judged BLACK or WHITE is held back; of an undecided one both halves are laid, the
 -- second where the first ends, and joined. What is changed of the low corner and of the sides is put back.
-use mathlib.Core.Path.{_≡_, refl, ap, _∙_}
+use mathlib.Core.Path.{refl, ap, _∙_}
 use mathlib.Core.List.{List}
 use native.Mathlib.Omega.{arith}
 use borrow.Author.Needs.{needs}

@@ -1,5 +1,4 @@
 -- `lay_whole` judges the whole universe: it is one symbol, or its halves are laid, and the one leaf that they may have been merged to is written.
-use mathlib.Core.Path.{_≡_}
 use native.Mathlib.Omega.{arith}
 use borrow.Author.Needs.{needs}
 use Rattle.convert.proofs.Shapes.{closed, left-open}

@@ -1,6 +1,6 @@
 -- `write_block` and `write_halves` store the symbols of what the rule writes from a place on: one for a block that is judged BLACK or WHITE, else `(` and
 -- those of both halves, the second run where the first ends. What is changed of the low corner and of the sides is put back.
-use mathlib.Core.Path.{_≡_, refl, ap, _∙_}
+use mathlib.Core.Path.{refl, ap, _∙_}
 use mathlib.Core.List.{List}
 use native.Mathlib.Omega.{arith}
 use borrow.Author.Needs.{needs}

@@ -1,5 +1,5 @@
 -- `write_whole` judges the whole universe, whose low corner is 0 and whose sides are 2^bits along each axis: it is one symbol, or its halves are written.
-use mathlib.Core.Path.{_≡_, ap, _∙_}
+use mathlib.Core.Path.{ap, _∙_}
 use native.Mathlib.Omega.{arith}
 use borrow.Author.Needs.{needs}
 use lib.Seq.{sets}
