@@ -1,2 +1,10 @@
--- The theorems.
-pub mod Theorems
+-- Two answers that one contract allows are equal, for the contract of every public function: a file for each crate, two lines for each function.
+pub mod Alike
+pub mod OfUniverse
+pub mod OfCsg
+pub mod OfBintree
+pub mod OfReader
+pub mod OfConvert
+pub mod OfFiles
+pub mod OfStandin
+pub mod OfExport

@@ -1,5 +1,5 @@
--- What it is for a contract to fix its answer: any two answers that it allows to the same arguments are equal. An answer is what comes back and what
--- every lent buffer holds afterwards.
+-- What it is for a contract to fix its answer: any two answers that it allows to the same arguments are equal. An
+-- answer is what comes back and what every lent buffer holds afterwards.
 use Prim.Native.Nat.{ℕ}
 use mathlib.Core.Path.{_≡_}
 use mathlib.Core.List.{List}
@@ -11,11 +11,14 @@ use denote.Triple.Clauses.{Ended, Lasts, AtExit, atExit}
 -- what a function's contract tells a caller: a fact of the arguments, of what comes back, and of the parameters at exit
 abbrev pub Promise : Ended → Type 1
 Promise ended =
-    (lifetimes : Lfts (ended .signature .lifetimes)) → Args (ended .signature) lifetimes → Res (ended .signature) lifetimes → AtExit ended lifetimes → Type 0
+    (lifetimes : Lfts (ended .signature .lifetimes)) →
+    Args (ended .signature) lifetimes → Res (ended .signature) lifetimes → AtExit ended lifetimes → Type 0
 
 -- what it is for two values that a function gives back to be alike
 abbrev pub Likeness : Ended → Type 1
-Likeness ended = (lifetimes : Lfts (ended .signature .lifetimes)) → Res (ended .signature) lifetimes → Res (ended .signature) lifetimes → Type 0
+Likeness ended =
+    (lifetimes : Lfts (ended .signature .lifetimes)) →
+    Res (ended .signature) lifetimes → Res (ended .signature) lifetimes → Type 0
 
 -- of any two answers that are allowed, what comes back is alike, and every lent buffer holds the same
 abbrev pub AnswersAlike : (ended : Ended) → Likeness ended → Promise ended → Type 0
