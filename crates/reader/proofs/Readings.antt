@@ -1,5 +1,5 @@
 -- Reading an expression to its end. Readers one after the other, as the contracts of `open` and `advanced` promise them, hold all of a well-formed
--- expression and stand at its places in turn, since each of its bytes is a symbol; so `next` gives its symbols in turn, and then End each time.
+-- expression and stand at its places in turn, since each of its bytes is a symbol; so `current` gives its symbols in turn, and then End each time.
 use mathlib.Core.Path.{_≡_, refl, sym, ap, _∙_}
 use mathlib.Core.List.{List, [], _∷_, _++_}
 use Prim.Native.Nat.{ℕ, zero, suc, _+_, _-_, _≤_, _<_}
@@ -91,7 +91,7 @@ pub record InTurn (u : Universe) (lent : RefT (List ℕ)) (readers : ℕ → Rea
   pub opened : Holds u lent (readers 0 .expression) × (readers 0 .place ≡ 0)
   pub advanced : (n : ℕ) → (readers (suc n) .expression ≡ readers n .expression) × (readers (suc n) .place ≡ placeAfter (now (readers n .expression)) (readers n .place))
 
--- what `next` answers of a reader
+-- what `current` answers of a reader
 abbrev pub told : Reader → Symbol
 told r = symbolAt (now (r .expression)) (r .place)
 

@@ -45,7 +45,7 @@ module _ (s : List ℕ) (p : ℕ) where
 
   pub symbol-none : (getD s p 0 ≡ byteOf Halved → ⊥) → (getD s p 0 ≡ byteOf Black → ⊥) → (getD s p 0 ≡ byteOf White → ⊥) → End ≡ symbolAt s p
   unfolding symbolAt symbolOfByte
-  symbol-none h k l = rw (ne-eqb (getD s p 0) 40 h, ne-eqb (getD s p 0) 66 k, ne-eqb (getD s p 0) 87 l)
+  symbol-none h k l = rw (ne-eqb _ (byteOf Halved) h, ne-eqb _ (byteOf Black) k, ne-eqb _ (byteOf White) l)
 
 pub ruleset symbol-laws = (needs, symbol-past, symbol-halved, symbol-black, symbol-white, symbol-none)
 

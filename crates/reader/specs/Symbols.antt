@@ -1,5 +1,5 @@
--- Document 01, "Expressions": "A reader over a lent expression holds it and its place, and can stop at any symbol and continue. Past the last symbol it
--- answers End, each time."
+-- Document 01, "Expressions": "A reader over a lent expression holds it and its place, and can stop at any symbol and
+-- continue. Past the last symbol it answers End, each time."
 use Prim.Native.Nat.{ℕ, _+_}
 use mathlib.Core.Path.{_≡_}
 use mathlib.Core.Bool.{cond}
@@ -14,7 +14,8 @@ use Rattle.bintree.specs.Answers.{expressionChecks}
 use Rattle.reader.specs.declared.Symbol.{Symbol}
 use Rattle.reader.specs.declared.Symbol.the-variants.{Halved, Black, White, End}
 
--- document 01's byte for each answer: `(` for a halved block, `B`, `W`; End is no byte of an expression, and 0 stands past its end
+-- document 01's byte for each answer: `(` for a halved block, `B`, `W`; End is no byte of an expression, and 0 stands
+-- past its end
 abbrev pub byteOf : Symbol → ℕ
 byteOf Halved = openSymbol
 byteOf Black = symbolOf colour.Black
@@ -23,7 +24,10 @@ byteOf End = 0
 
 -- the answer for a byte: the symbol it is, or End
 unfoldable pub symbolOfByte : ℕ → Symbol
-symbolOfByte x = cond (eqb x (byteOf Halved)) Halved (cond (eqb x (byteOf Black)) Black (cond (eqb x (byteOf White)) White End))
+symbolOfByte x =
+    cond (eqb x (byteOf Halved)) Halved
+    (cond (eqb x (byteOf Black)) Black
+    (cond (eqb x (byteOf White)) White End))
 
 -- the answer at a place; past the end stands 0
 unfoldable pub symbolAt : List ℕ → ℕ → Symbol

@@ -1,5 +1,5 @@
-// A reader over a lent expression: it holds the expression and its place, and can stop at any symbol and continue. The functions over the struct are
-// thin; the work is done on the slice and the place.
+// A reader over a lent expression: it holds the expression and its place, and can stop at any symbol and continue. The
+// functions over the struct are thin; the work is done on the slice and the place.
 ghost use mathlib.Core.Path.{_≡_};
 ghost use Rattle.bintree.specs.Answers.{expressionChecks};
 ghost use Rattle.reader.specs.Symbols.{symbolAt, placeAfter, heldSymbols, Holds};
@@ -50,7 +50,7 @@ pub fn place_after(expression: &[u8], place: usize) -> usize
     }
 }
 
-// 0 where an expression is well-formed, 2 where axes or bits are refused, else 7: why a reader that was opened holds nothing.
+// Why a reader that was opened holds nothing, 2 or 7; 0 where the expression is well-formed.
 pub fn refusal(universe: Universe, expression: &[u8]) -> u64
     ensures { λ r. ⌜ r ≡ expressionChecks universe (now (expression .entry)) ⌝ }
 {
@@ -78,7 +78,7 @@ pub fn open<'a>(universe: Universe, expression: &'a [u8]) -> Reader<'a>
 }
 
 // The symbol at a reader's place.
-pub fn next<'a>(reader: Reader<'a>) -> Symbol
+pub fn current<'a>(reader: Reader<'a>) -> Symbol
     ensures { λ r. ⌜ r ≡ symbolAt (now (reader .entry .expression)) (reader .entry .place) ⌝ }
 {
     symbol_at(reader.expression, reader.place)
@@ -86,7 +86,9 @@ pub fn next<'a>(reader: Reader<'a>) -> Symbol
 
 // A reader moved on by one symbol; at End it stays.
 pub fn advanced<'a>(reader: Reader<'a>) -> Reader<'a>
-    ensures { λ r. ⌜ (r .expression ≡ reader .entry .expression) × (r .place ≡ placeAfter (now (reader .entry .expression)) (reader .entry .place)) ⌝ }
+    ensures { λ r.
+        let place = placeAfter (now (reader .entry .expression)) (reader .entry .place) in
+        ⌜ (r .expression ≡ reader .entry .expression) × (r .place ≡ place) ⌝ }
 {
     Reader {
         expression: reader.expression,
@@ -98,5 +100,5 @@ pub fn advanced<'a>(reader: Reader<'a>) -> Reader<'a>
 pub fn first(universe: Universe, expression: &[u8]) -> Symbol
     ensures { λ r. ⌜ r ≡ symbolAt (heldSymbols universe (now (expression .entry))) 0 ⌝ }
 {
-    next(open(universe, expression))
+    current(open(universe, expression))
 }

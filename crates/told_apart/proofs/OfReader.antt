@@ -27,22 +27,22 @@ pub reader-held-accepted : TellsApart reader.held.ended (λ lifetimes arguments 
     (expressionChecks (arguments .0) (now (arguments .1 .0)) ≡ 0) × reader.held.Reads.Learnt lifetimes arguments answer exit)
 reader-held-accepted _ _ _ _ _ _ p q = (same (p .1 .itself (p .0)) (q .1 .itself (q .0)), refl)
 
--- `open`, `next` and `advanced` are proved by hand, and the toolchain makes no `Learnt` for them: here it is, the one fact of their contracts
+-- `open`, `current` and `advanced` are proved by hand, and the toolchain makes no `Learnt` for them: here it is, the one fact of their contracts
 
 abbrev openLearnt : Promise reader.open.ended
 openLearnt lifetimes arguments answer exit =
     factOf (λ w. reader.open.clauses (w .𝓤) (w .H) (w .𝓖 .A) (w .𝓜 .mem) (w .𝓡 .run) lifetimes arguments .ensures tt answer exit) (λ w. refl)
 
-abbrev nextLearnt : Promise reader.next.ended
-nextLearnt lifetimes arguments answer exit =
-    factOf (λ w. reader.next.clauses (w .𝓤) (w .H) (w .𝓖 .A) (w .𝓜 .mem) (w .𝓡 .run) lifetimes arguments .ensures tt answer exit) (λ w. refl)
+abbrev currentLearnt : Promise reader.current.ended
+currentLearnt lifetimes arguments answer exit =
+    factOf (λ w. reader.current.clauses (w .𝓤) (w .H) (w .𝓖 .A) (w .𝓜 .mem) (w .𝓡 .run) lifetimes arguments .ensures tt answer exit) (λ w. refl)
 
 abbrev advancedLearnt : Promise reader.advanced.ended
 advancedLearnt lifetimes arguments answer exit =
     factOf (λ w. reader.advanced.clauses (w .𝓤) (w .H) (w .𝓖 .A) (w .𝓜 .mem) (w .𝓡 .run) lifetimes arguments .ensures tt answer exit) (λ w. refl)
 
-pub reader-next : TellsApart reader.next.ended nextLearnt
-reader-next _ _ _ _ _ _ p q = (same p q, refl)
+pub reader-current : TellsApart reader.current.ended currentLearnt
+reader-current _ _ _ _ _ _ p q = (same p q, refl)
 
 pub reader-advanced : TellsApart reader.advanced.ended advancedLearnt
 reader-advanced _ _ _ _ _ _ p q = (λ i. record { expression = same (p .0) (q .0) i; place = same (p .1) (q .1) i }, refl)
