@@ -185,7 +185,9 @@ pub fn damage_rows(random: &mut Random, axes: u64, rows: &mut Vec<i64>) {
             let limit = if column == 0 { FREE_LIMIT } else { AXIS_LIMIT };
             let number = match kind {
                 3 | 4 if axes < 4 => random.pick(&[1, -1, 2, limit, -limit, 1 << 32, i64::MIN]),
-                _ => random.pick(&[limit + 1, -limit - 1, limit + 1, -limit - 1, i64::MIN, i64::MAX, i64::MIN + 1, 1 << 48, -(1 << 33)]),
+                _ => random.pick(&[
+                    limit + 1, -limit - 1, limit + 1, -limit - 1, i64::MIN, i64::MAX, i64::MIN + 1, 1 << 48, -(1 << 33),
+                ]),
             };
             if let Some(place) = rows.get_mut(base + column) {
                 *place = number;
@@ -663,7 +665,10 @@ pub fn float(random: &mut Random, limit: f64) -> f64 {
         5 => sign * random.pick(&[5e-324, f64::MIN_POSITIVE, f64::from_bits(0x000f_ffff_ffff_ffff), 1e-300]),
         6 => sign * (limit + 0.0625),
         7 => sign * f64::from_bits(limit.to_bits() + random.pick(&[0, 1, 2]) - 1),
-        8 => sign * random.pick(&[1e300, f64::MAX, 2f64.powi(53), 2f64.powi(63), 2f64.powi(64), 65_536.0, 8192.0, 128.0, 4096.0]),
+        8 => {
+            let [small, large, larger] = [53, 63, 64].map(|power| 2f64.powi(power));
+            sign * random.pick(&[1e300, f64::MAX, small, large, larger, 65_536.0, 8192.0, 128.0, 4096.0])
+        }
         9 => f64::from_bits(random.next()),
         10 => sign * limit,
         11 => random.pick(&[0.0, -0.0]),

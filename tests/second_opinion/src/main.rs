@@ -2,14 +2,19 @@
 //! entry point by entry point. Refusal numbers, answers and buffers must be the same, byte for byte; buffers are
 //! lent with a pattern in them and with guards on both sides, and compared whole. The first difference is printed
 //! with its whole case, and the exit status is 1.
-//!   second_opinion --program COMMAND [seed] [rounds]: the program `clearance`, started as COMMAND, on generated scenes.
+//!   second_opinion --program COMMAND [seed] [rounds]: the program `clearance`, started as COMMAND, on generated
+//! scenes.
 
 #[allow(dead_code)]
 mod face;
 
 use second_opinion::fast::Run;
 use second_opinion::generate::{self, Random};
-use second_opinion::plain::{self, Universe};
+use second_opinion::plain::{self, Universe, ACCEPTED};
+use second_opinion::plain::{
+    BAD_EXPRESSION, BAD_FILE, BAD_PROXY, BAD_ROWS, BAD_TREE, BAD_UNIVERSE, NOT_MERGED, NO_ROOM, OUTSIDE, OVERFULL_TREE,
+};
+use std::collections::BTreeMap;
 use std::fmt::Write;
 
 /// Conversions of more blocks than this are compared among the long ones alone.
@@ -106,7 +111,8 @@ impl Contents {
         fn told<T: Copy + PartialEq + std::fmt::Debug>(all: &[T], fresh: &[T]) -> (Vec<T>, String) {
             let end = all.len() - GUARD;
             let (inner, same) = (&all[GUARD..end], &fresh[GUARD..end]);
-            let changed = (0..inner.len()).rev().find(|&place| inner[place] != same[place]).map_or(0, |place| place + 1);
+            let last = (0..inner.len()).rev().find(|&place| inner[place] != same[place]);
+            let changed = last.map_or(0, |place| place + 1);
             let mut note = format!(", then {} as they were lent", inner.len() - changed);
             if all[..GUARD] != fresh[..GUARD] || all[end..] != fresh[end..] {
                 let _ = write!(note, "; WRITTEN OUTSIDE: before it {:?}, after it {:?}", &all[..GUARD], &all[end..]);
@@ -136,23 +142,36 @@ impl Contents {
     }
 }
 
+/// After so many cases every one of those numbers has come.
+const MANY_CASES: u64 = 3_000;
+
 /// One entry point's comparison.
 struct Line {
     name: &'static str,
+    /// the numbers that document 01 lets it refuse with
+    refusals: &'static [u64],
     seed: u64,
     cases: u64,
     /// how many of each number, by the plain implementation
-    counts: [u64; 11],
+    counts: BTreeMap<u64, u64>,
 }
 
 impl Line {
+    fn new(name: &'static str, refusals: &'static [u64], seed: u64) -> Line {
+        Line { name, refusals, seed, cases: 0, counts: BTreeMap::new() }
+    }
+
     fn compare(&mut self, plain: Outcome, library: Outcome, case: impl Fn() -> String) {
         self.cases += 1;
-        self.counts[plain.number as usize] += 1;
-        if plain == library {
+        *self.counts.entry(plain.number).or_default() += 1;
+        let why = if plain != library {
+            "the library and the plain implementation differ"
+        } else if plain.number != ACCEPTED && !self.refusals.contains(&plain.number) {
+            "this is no number for it to refuse with"
+        } else {
             return;
-        }
-        println!("{}: the library and the plain implementation differ", self.name);
+        };
+        println!("{}: {why}", self.name);
         println!("seed {}, case {}", self.seed, self.cases);
         println!("{}", case());
         for (side, outcome) in [("plain", &plain), ("library", &library)] {
@@ -166,15 +185,18 @@ impl Line {
 
     fn finish(&self) {
         let mut text = format!("{}: {} cases;", self.name, self.cases);
-        for (number, &count) in self.counts.iter().enumerate() {
-            if count > 0 {
-                let _ = match number {
-                    0 => write!(text, " accepted {count}"),
-                    _ => write!(text, ", {number}: {count}"),
-                };
-            }
+        for (&number, count) in &self.counts {
+            let _ = match number {
+                ACCEPTED => write!(text, " accepted {count}"),
+                _ => write!(text, ", {number}: {count}"),
+            };
         }
         println!("{text}");
+        let unmet = self.refusals.iter().find(|number| !self.counts.contains_key(number));
+        if let (Some(number), MANY_CASES..) = (unmet, self.cases) {
+            println!("{}: no case was refused {number}", self.name);
+            std::process::exit(1);
+        }
     }
 }
 
@@ -200,7 +222,8 @@ fn lent_for(random: &mut Random, needed: u64, formula: u64) -> usize {
 }
 
 fn run_text(case: &generate::RunCase, trees: usize, lent: usize) -> String {
-    let mut text = format!("axes = {}\nbits = {}\nrows = {:?}\nfirst = {:?}", case.axes, case.bits, case.rows, case.first);
+    let mut text = format!("axes = {}\nbits = {}\nrows = {:?}", case.axes, case.bits, case.rows);
+    let _ = write!(text, "\nfirst = {:?}", case.first);
     if trees == 2 {
         let _ = write!(text, "\nsecond = {:?}", case.second);
     }
@@ -220,7 +243,11 @@ type BoxRows = fn([f64; 3], [f64; 3], [f64; 3], &mut [i64; 30]) -> u64;
 type CutRow = fn([f64; 3], f64, [f64; 3], &mut [i64; 5]) -> u64;
 
 fn rooms(line: &mut Line, random: &mut Random) {
-    let (axes, bits) = if random.chance(60) { (1 + random.below(4), random.below(11)) } else { generate::universe(random, 50) };
+    let (axes, bits) = if random.chance(60) {
+        (1 + random.below(plain::MOST_AXES), random.below(plain::MOST_BITS + 1))
+    } else {
+        generate::universe(random, 50)
+    };
     let leaves = generate::leaf_count(random);
     let [plain, library] = [plain::room as fn(u64, u64, u64, &mut [u64; 1]) -> u64, face::room].map(|room| {
         let mut answer = longs(1);
@@ -233,7 +260,7 @@ fn rooms(line: &mut Line, random: &mut Random) {
 fn leaves(line: &mut Line, random: &mut Random) {
     let words = generate::any_words(random);
     let (plain, library) = (plain::leaves(&words), face::leaves(&words));
-    let outcome = |count| Outcome { number: 0, contents: vec![("count", Contents::Count(count))] };
+    let outcome = |count| Outcome { number: ACCEPTED, contents: vec![("count", Contents::Count(count))] };
     line.compare(outcome(plain), outcome(library), || format!("words = {words:?}"));
 }
 
@@ -295,8 +322,11 @@ fn compare_verdicts(line: &mut Line, case: &generate::RunCase, lent: usize) {
     });
 }
 
-/// A conversion of many blocks, and the room to lend: around what is needed, around the scratch room, around the formula's.
-fn long_run(line: &Line, random: &mut Random, need: impl Fn(&generate::RunCase, u64) -> u64) -> (generate::RunCase, usize) {
+/// A conversion of many blocks, and the room to lend: around what is needed, around the scratch room, around the
+/// formula's.
+fn long_run(
+    line: &Line, random: &mut Random, need: impl Fn(&generate::RunCase, u64) -> u64,
+) -> (generate::RunCase, usize) {
     let least = LONG_BLOCKS[line.cases as usize % 2];
     loop {
         let case = generate::run(random);
@@ -394,7 +424,8 @@ fn scenes(line: &mut Line, random: &mut Random) {
         let (mut rows, mut first, mut second) = (rows_lent(1280), words_lent(255), words_lent(255));
         let mut answer = longs(7);
         let number = read(&file, rows.array(), first.array(), second.array(), answer.array());
-        let contents = vec![("answer", answer.into()), ("rows", rows.into()), ("first", first.into()), ("second", second.into())];
+        let trees = [("first", first.into()), ("second", second.into())];
+        let contents = [("answer", answer.into()), ("rows", rows.into())].into_iter().chain(trees).collect();
         Outcome { number, contents }
     });
     line.compare(plain, library, || format!("bytes = {file:?}"));
@@ -409,6 +440,11 @@ fn shape_reads(line: &mut Line, random: &mut Random) {
         Outcome { number, contents: vec![("answer", answer.into()), ("out", out.into())] }
     });
     line.compare(plain, library, || format!("bytes = {file:?}\nout: {lent} bytes lent"));
+}
+
+/// Floats with their bits.
+fn floats_text<const N: usize>(numbers: [f64; N]) -> String {
+    numbers.map(|number| format!("{number:?} (bits {:#018x})", number.to_bits())).join(", ")
 }
 
 fn boxes(line: &mut Line, random: &mut Random) {
@@ -432,8 +468,7 @@ fn boxes(line: &mut Line, random: &mut Random) {
         Outcome { number, contents: vec![("rows", rows.into())] }
     });
     line.compare(plain, library, || {
-        let bits = |numbers: [f64; 3]| numbers.map(|number| format!("{number:?} (bits {:#018x})", number.to_bits())).join(", ");
-        format!("near = {}\nfar = {}\ndisplacement = {}", bits(near), bits(far), bits(step))
+        format!("near = {}\nfar = {}\ndisplacement = {}", floats_text(near), floats_text(far), floats_text(step))
     });
 }
 
@@ -446,35 +481,46 @@ fn cuts(line: &mut Line, random: &mut Random) {
         Outcome { number, contents: vec![("row", row.into())] }
     });
     line.compare(plain, library, || {
-        let bits = |number: f64| format!("{number:?} (bits {:#018x})", number.to_bits());
-        format!("normal = {}\noffset = {}\ndisplacement = {}", normal.map(bits).join(", "), bits(offset), step.map(bits).join(", "))
+        let [normal, step] = [normal, step].map(floats_text);
+        format!("normal = {normal}\noffset = {}\ndisplacement = {step}", floats_text([offset]))
     });
 }
 
+// The numbers that each kind of entry point refuses with.
+const CONVERSION: &[u64] = &[BAD_UNIVERSE, BAD_ROWS, BAD_TREE, OVERFULL_TREE, NO_ROOM];
+const VERDICT: &[u64] = &[BAD_UNIVERSE, BAD_ROWS, BAD_TREE, OVERFULL_TREE, OUTSIDE, NO_ROOM];
+const READING: &[u64] = &[BAD_UNIVERSE, BAD_EXPRESSION];
+const READING_AT: &[u64] = &[BAD_UNIVERSE, BAD_EXPRESSION, OUTSIDE];
+const MERGING: &[u64] = &[BAD_UNIVERSE, BAD_EXPRESSION, NO_ROOM];
+const SCENE: &[u64] = &[BAD_FILE, BAD_UNIVERSE, BAD_ROWS, BAD_TREE, OVERFULL_TREE, OUTSIDE];
+const SHAPE_READ: &[u64] = &[BAD_FILE, BAD_UNIVERSE, BAD_EXPRESSION, NOT_MERGED, NO_ROOM];
+const SHAPE_WRITE: &[u64] = &[BAD_UNIVERSE, BAD_EXPRESSION, NOT_MERGED, NO_ROOM];
+const PROGRAM: &[u64] = &[BAD_FILE, BAD_UNIVERSE, BAD_ROWS, BAD_TREE, OVERFULL_TREE, OUTSIDE, NO_ROOM];
+
 type Compare = fn(&mut Line, &mut Random);
 
-/// Name, share of the rounds in a thousand, comparison.
-const ENTRY_POINTS: [(&str, u64, Compare); 20] = [
-    ("durbizhan_room", 1000, rooms),
-    ("durbizhan_leaves", 1000, leaves),
-    ("durbizhan_raw_one", 1000, |line, random| one_tree(line, random, plain::raw_one, face::raw_one, false)),
-    ("durbizhan_raw_two", 1000, |line, random| two_trees(line, random, plain::raw_two, face::raw_two, false)),
-    ("durbizhan_merged_one", 1000, |line, random| one_tree(line, random, plain::merged_one, face::merged_one, true)),
-    ("durbizhan_merged_two", 1000, |line, random| two_trees(line, random, plain::merged_two, face::merged_two, true)),
-    ("durbizhan_verdict", 1000, verdicts),
-    ("durbizhan_raw_two, long", 1, |line, random| long_two_trees(line, random, plain::raw_two, face::raw_two)),
-    ("durbizhan_merged_two, long", 1, |line, random| long_two_trees(line, random, plain::merged_two, face::merged_two)),
-    ("durbizhan_verdict, long", 1, long_verdicts),
-    ("durbizhan_well_formed", 2000, well_formed),
-    ("durbizhan_volume", 1000, volumes),
-    ("durbizhan_colour", 2000, colours),
-    ("durbizhan_part", 2000, parts),
-    ("durbizhan_merge", 2000, |line, random| rewriting(line, random, plain::merge, face::merge)),
-    ("durbizhan_scene", 1000, scenes),
-    ("durbizhan_shape_read", 2000, shape_reads),
-    ("durbizhan_shape_write", 2000, |line, random| rewriting(line, random, plain::shape_write, face::shape_write)),
-    ("durbizhan_box", 2000, boxes),
-    ("durbizhan_cut", 2000, cuts),
+/// Name, share of the rounds in a thousand, the numbers to refuse with in document 01's order, comparison.
+const ENTRY_POINTS: &[(&str, u64, &[u64], Compare)] = &[
+    ("durbizhan_room", 1000, &[BAD_UNIVERSE], rooms),
+    ("durbizhan_leaves", 1000, &[], leaves),
+    ("durbizhan_raw_one", 1000, CONVERSION, |l, r| one_tree(l, r, plain::raw_one, face::raw_one, false)),
+    ("durbizhan_raw_two", 1000, CONVERSION, |l, r| two_trees(l, r, plain::raw_two, face::raw_two, false)),
+    ("durbizhan_merged_one", 1000, CONVERSION, |l, r| one_tree(l, r, plain::merged_one, face::merged_one, true)),
+    ("durbizhan_merged_two", 1000, CONVERSION, |l, r| two_trees(l, r, plain::merged_two, face::merged_two, true)),
+    ("durbizhan_verdict", 1000, VERDICT, verdicts),
+    ("durbizhan_raw_two, long", 1, &[NO_ROOM], |l, r| long_two_trees(l, r, plain::raw_two, face::raw_two)),
+    ("durbizhan_merged_two, long", 1, &[NO_ROOM], |l, r| long_two_trees(l, r, plain::merged_two, face::merged_two)),
+    ("durbizhan_verdict, long", 1, &[OUTSIDE, NO_ROOM], long_verdicts),
+    ("durbizhan_well_formed", 2000, READING, well_formed),
+    ("durbizhan_volume", 1000, READING, volumes),
+    ("durbizhan_colour", 2000, READING_AT, colours),
+    ("durbizhan_part", 2000, READING_AT, parts),
+    ("durbizhan_merge", 2000, MERGING, |l, r| rewriting(l, r, plain::merge, face::merge)),
+    ("durbizhan_scene", 1000, SCENE, scenes),
+    ("durbizhan_shape_read", 2000, SHAPE_READ, shape_reads),
+    ("durbizhan_shape_write", 2000, SHAPE_WRITE, |l, r| rewriting(l, r, plain::shape_write, face::shape_write)),
+    ("durbizhan_box", 2000, &[BAD_PROXY], boxes),
+    ("durbizhan_cut", 2000, &[BAD_PROXY], cuts),
 ];
 
 /// What a command writes, given this on its standard input.
@@ -482,7 +528,8 @@ fn written(command: &str, input: &[u8]) -> std::io::Result<Vec<u8>> {
     use std::io::Write;
     use std::process::{Command, Stdio};
     let mut words = command.split(' ');
-    let mut child = Command::new(words.next().expect("a command")).args(words).stdin(Stdio::piped()).stdout(Stdio::piped()).spawn()?;
+    let mut command = Command::new(words.next().expect("a command"));
+    let mut child = command.args(words).stdin(Stdio::piped()).stdout(Stdio::piped()).spawn()?;
     // a program that has read enough may close its input before all is written
     let _ = child.stdin.take().expect("piped").write_all(input);
     Ok(child.wait_with_output()?.stdout)
@@ -491,7 +538,7 @@ fn written(command: &str, input: &[u8]) -> std::io::Result<Vec<u8>> {
 /// The program on generated scenes: the lines that it prints.
 fn program(command: &str, seed: u64, rounds: u64) {
     let mut random = Random::new(seed);
-    let mut line = Line { name: "clearance", seed, cases: 0, counts: [0; 11] };
+    let mut line = Line::new("clearance", PROGRAM, seed);
     while line.cases < rounds {
         let file = generate::program_file(&mut random);
         if let Ok(scene) = plain::scene_checked(&file) {
@@ -501,12 +548,15 @@ fn program(command: &str, seed: u64, rounds: u64) {
             }
         }
         let lines = plain::clearance(&file);
-        let number = lines.strip_prefix("refused ").map_or(0, |rest| {
+        let number = lines.strip_prefix("refused ").map_or(ACCEPTED, |rest| {
             rest.split_whitespace().next().and_then(|number| number.parse().ok()).expect("a number")
         });
         let outcome = |text| Outcome { number, contents: vec![("lines", Contents::Text(text))] };
         match written(command, &file) {
-            Ok(output) => line.compare(outcome(lines.into_bytes()), outcome(output), || format!("standard input = {file:?}")),
+            Ok(output) => {
+                let case = || format!("standard input = {file:?}");
+                line.compare(outcome(lines.into_bytes()), outcome(output), case);
+            }
             Err(error) => {
                 println!("clearance: {command} was not run: {error}");
                 std::process::exit(1);
@@ -535,11 +585,11 @@ fn main() {
     let (seed, rounds) = (number(1), number(60_000));
     let only = arguments.next();
     let mut passed = 0;
-    for (place, (name, share, compare)) in ENTRY_POINTS.into_iter().enumerate() {
+    for (place, &(name, share, refusals, compare)) in ENTRY_POINTS.iter().enumerate() {
         if only.as_deref().is_some_and(|only| only != name) {
             continue;
         }
-        let mut line = Line { name, seed, cases: 0, counts: [0; 11] };
+        let mut line = Line::new(name, refusals, seed);
         let mut random = Random::new(seed.wrapping_mul(1000).wrapping_add(place as u64));
         let wanted = rounds * share / 1000;
         while line.cases < wanted {

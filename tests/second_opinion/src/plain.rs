@@ -1,19 +1,21 @@
 //! Document 01 in plain Rust, for reading and not for speed. Each section follows the document's own. The public
 //! functions at the end are the entry points of the C face, with the same parameters in the same order: each
-//! returns the refusal number (0: accepted) and fills its answer and the lent buffers.
+//! returns the refusal number and fills its answer and the lent buffers.
 
 // ------------------------------------------------------------------------------------------------ the numbers
 
-pub const FILE: u64 = 1;
-pub const UNIVERSE: u64 = 2;
-pub const ROWS: u64 = 3;
-pub const TREE: u64 = 4;
-pub const TREE_SIZE: u64 = 5;
-pub const ROOM: u64 = 6;
-pub const EXPRESSION: u64 = 7;
+/// No refusal.
+pub const ACCEPTED: u64 = 0;
+pub const BAD_FILE: u64 = 1;
+pub const BAD_UNIVERSE: u64 = 2;
+pub const BAD_ROWS: u64 = 3;
+pub const BAD_TREE: u64 = 4;
+pub const OVERFULL_TREE: u64 = 5;
+pub const NO_ROOM: u64 = 6;
+pub const BAD_EXPRESSION: u64 = 7;
 pub const NOT_MERGED: u64 = 8;
-pub const PLACE: u64 = 9;
-pub const PROXY: u64 = 10;
+pub const OUTSIDE: u64 = 9;
+pub const BAD_PROXY: u64 = 10;
 
 /// A refusal: its number, and with number 6 the length needed.
 #[derive(Clone, Copy, Debug, PartialEq, Eq)]
@@ -29,7 +31,7 @@ fn refused<T>(number: u64) -> Answer<T> {
 }
 
 fn too_little_room<T>(needed: u64) -> Answer<T> {
-    Err(Refusal { number: ROOM, needed })
+    Err(Refusal { number: NO_ROOM, needed })
 }
 
 // ----------------------------------------------------------------------------------------------- the universe
@@ -47,7 +49,7 @@ pub struct Universe {
 impl Universe {
     pub fn checked(axes: u64, bits: u64) -> Answer<Universe> {
         if axes < 1 || axes > MOST_AXES || bits > MOST_BITS {
-            return refused(UNIVERSE);
+            return refused(BAD_UNIVERSE);
         }
         Ok(Universe { axes: axes as usize, bits: bits as u32 })
     }
@@ -133,7 +135,7 @@ pub type Row = [i64; 5];
 
 pub fn rows_checked(universe: &Universe, numbers: &[i64]) -> Answer<Vec<Row>> {
     if numbers.len() % 5 != 0 || numbers.len() / 5 > MOST_ROWS {
-        return refused(ROWS);
+        return refused(BAD_ROWS);
     }
     let mut rows = Vec::new();
     for five in numbers.chunks(5) {
@@ -144,7 +146,7 @@ pub fn rows_checked(universe: &Universe, numbers: &[i64]) -> Answer<Vec<Row>> {
                 _ => 0,
             };
             if number < -limit || number > limit {
-                return refused(ROWS);
+                return refused(BAD_ROWS);
             }
         }
         rows.push([five[0], five[1], five[2], five[3], five[4]]);
@@ -166,10 +168,10 @@ use Tree::{Halfspace, Intersection, Minus, Union};
 
 pub fn tree_checked(rows: &[Row], words: &[u16]) -> Answer<Tree> {
     if words.is_empty() {
-        return refused(TREE);
+        return refused(BAD_TREE);
     }
     if words.len() > MOST_WORDS {
-        return refused(TREE_SIZE);
+        return refused(OVERFULL_TREE);
     }
     let mut pending: Vec<Tree> = Vec::new();
     for &word in words {
@@ -180,17 +182,17 @@ pub fn tree_checked(rows: &[Row], words: &[u16]) -> Answer<Tree> {
                     1 => Tree::Black,
                     _ => match rows.get(word as usize - 256) {
                         Some(row) => Halfspace(*row),
-                        None => return refused(TREE),
+                        None => return refused(BAD_TREE),
                     },
                 };
                 if pending.len() == MOST_PENDING {
-                    return refused(TREE_SIZE);
+                    return refused(OVERFULL_TREE);
                 }
                 pending.push(leaf);
             }
             2 | 3 | 4 => {
                 if pending.len() < 2 {
-                    return refused(TREE);
+                    return refused(BAD_TREE);
                 }
                 let later = Box::new(pending.pop().unwrap());
                 let earlier = Box::new(pending.pop().unwrap());
@@ -200,11 +202,11 @@ pub fn tree_checked(rows: &[Row], words: &[u16]) -> Answer<Tree> {
                     _ => Minus(earlier, later),
                 });
             }
-            _ => return refused(TREE),
+            _ => return refused(BAD_TREE),
         }
     }
     if pending.len() != 1 {
-        return refused(TREE);
+        return refused(BAD_TREE);
     }
     Ok(pending.pop().unwrap())
 }
@@ -402,7 +404,7 @@ fn shape_at(universe: &Universe, symbols: &[u8], start: usize, level: usize) -> 
 pub fn shape_checked(universe: &Universe, symbols: &[u8]) -> Answer<Shape> {
     match shape_at(universe, symbols, 0, 0) {
         Some(shape) if shape.length == symbols.len() => Ok(shape),
-        _ => refused(EXPRESSION),
+        _ => refused(BAD_EXPRESSION),
     }
 }
 
@@ -494,7 +496,7 @@ pub fn room_of(universe: &Universe, leaves: u64) -> u64 {
 /// Frames first to last, both ends in.
 pub fn window_checked(universe: &Universe, first: u64, last: u64) -> Answer<()> {
     if first > last || last >= universe.side() as u64 {
-        return refused(PLACE);
+        return refused(OUTSIDE);
     }
     Ok(())
 }
@@ -548,7 +550,7 @@ pub fn sixteenths(number: f64, limit: u64) -> Answer<i64> {
     let (sign, exponent, fraction) = (bits >> 63, (bits >> 52) & 0x7ff, bits & ((1 << 52) - 1));
     // the size of the number is whole × 2^power
     let (mut whole, mut power) = match exponent {
-        0x7ff => return refused(PROXY),
+        0x7ff => return refused(BAD_PROXY),
         0 => (fraction, -1074),
         _ => (fraction | 1 << 52, exponent as i64 - 1075),
     };
@@ -562,11 +564,11 @@ pub fn sixteenths(number: f64, limit: u64) -> Answer<i64> {
     }
     // whole is odd: in sixteenths the number is whole exactly where power ≥ 0
     if power < 0 || power > 64 {
-        return refused(PROXY);
+        return refused(BAD_PROXY);
     }
     let size = (whole as u128) << power;
     if size > 16 * limit as u128 {
-        return refused(PROXY);
+        return refused(BAD_PROXY);
     }
     Ok(if sign == 1 { -(size as i64) } else { size as i64 })
 }
@@ -585,7 +587,7 @@ pub fn box_rows(near: [f64; 3], far: [f64; 3], step: [f64; 3]) -> Answer<[Row; 6
     let mut rows = [[0; 5]; 6];
     for axis in 0..3 {
         if near[axis] > far[axis] {
-            return refused(PROXY);
+            return refused(BAD_PROXY);
         }
         rows[2 * axis][0] = -near[axis];
         rows[2 * axis][axis + 1] = 16;
@@ -625,12 +627,12 @@ pub struct Scene {
 
 pub fn scene_checked(bytes: &[u8]) -> Answer<Scene> {
     if bytes.len() < 18 || &bytes[..3] != b"HSC" || u16_at(bytes, 3) != 1 || bytes[7] != 0 {
-        return refused(FILE);
+        return refused(BAD_FILE);
     }
     let count = u16_at(bytes, 8) as usize;
     let (one, two) = (u16_at(bytes, 10) as usize, u16_at(bytes, 12) as usize);
     if bytes.len() != 18 + 40 * count + 2 * (one + two) {
-        return refused(FILE);
+        return refused(BAD_FILE);
     }
     let numbers: Vec<i64> = bytes[18..18 + 40 * count]
         .chunks(8)
@@ -718,7 +720,7 @@ fn length_answer(result: Answer<u64>, answer: &mut [u64; 1]) -> u64 {
     match result {
         Ok(length) => {
             answer[0] = length;
-            0
+            ACCEPTED
         }
         Err(refusal) => {
             answer[0] = refusal.needed;
@@ -732,7 +734,7 @@ fn plain_answer<const N: usize>(result: Answer<[u64; N]>, answer: &mut [u64; N])
     match result {
         Ok(fields) => {
             *answer = fields;
-            0
+            ACCEPTED
         }
         Err(refusal) => {
             *answer = [0; N];
@@ -796,11 +798,11 @@ pub fn verdict(
     match judge() {
         Ok((None, length)) => {
             *answer = [0, 0, 0, 0, length];
-            0
+            ACCEPTED
         }
         Ok((Some((from, to, voxels)), length)) => {
             *answer = [1, from, to, voxels, length];
-            0
+            ACCEPTED
         }
         Err(refusal) => {
             *answer = [0, 0, 0, 0, refusal.needed];
@@ -818,7 +820,7 @@ fn expression_checked(axes: u64, bits: u64, expression: &[u8]) -> Answer<(Univer
 
 pub fn well_formed(axes: u64, bits: u64, expression: &[u8]) -> u64 {
     match expression_checked(axes, bits, expression) {
-        Ok(_) => 0,
+        Ok(_) => ACCEPTED,
         Err(refusal) => refusal.number,
     }
 }
@@ -838,7 +840,7 @@ pub fn colour(
         for (axis, place) in [x, y, z, t].into_iter().enumerate() {
             let places = if axis < universe.axes { universe.side() as u64 } else { 1 };
             if place >= places {
-                return refused(PLACE);
+                return refused(OUTSIDE);
             }
             voxel[axis] = place as i64;
         }
@@ -851,7 +853,7 @@ pub fn part(axes: u64, bits: u64, expression: &[u8], path: &[u8], answer: &mut [
     let judge = || -> Answer<[u64; 2]> {
         let (universe, shape) = expression_checked(axes, bits, expression)?;
         if path.len() > universe.levels() || path.iter().any(|&turn| turn > 1) {
-            return refused(PLACE);
+            return refused(OUTSIDE);
         }
         let (start, length) = part_of(&shape, path);
         Ok([start, length])
@@ -887,11 +889,11 @@ pub fn scene(
 pub fn shape_read(bytes: &[u8], out: &mut [u8], answer: &mut [u64; 3]) -> u64 {
     let mut judge = || -> Answer<[u64; 3]> {
         if bytes.len() < 11 || &bytes[..3] != b"BNT" || u16_at(bytes, 3) != 1 {
-            return refused(FILE);
+            return refused(BAD_FILE);
         }
         let count = u32::from_le_bytes(bytes[7..11].try_into().unwrap()) as u64;
         if bytes.len() as u64 != 11 + count {
-            return refused(FILE);
+            return refused(BAD_FILE);
         }
         let (axes, bits, symbols) = (bytes[5] as u64, bytes[6] as u64, &bytes[11..]);
         expression_checked(axes, bits, symbols)?;
@@ -903,7 +905,7 @@ pub fn shape_read(bytes: &[u8], out: &mut [u8], answer: &mut [u64; 3]) -> u64 {
     match judge() {
         Ok(fields) => {
             *answer = fields;
-            0
+            ACCEPTED
         }
         Err(refusal) => {
             *answer = [0, 0, refusal.needed];
@@ -931,7 +933,7 @@ pub fn box_proxy(near: [f64; 3], far: [f64; 3], step: [f64; 3], rows: &mut [i64;
     match box_rows(near, far, step) {
         Ok(six) => {
             rows.copy_from_slice(&six.concat());
-            0
+            ACCEPTED
         }
         Err(refusal) => refusal.number,
     }
@@ -942,7 +944,7 @@ pub fn cut_proxy(normal: [f64; 3], offset: f64, step: [f64; 3], row: &mut [i64; 
     match cut_row(normal, offset, step) {
         Ok(five) => {
             *row = five;
-            0
+            ACCEPTED
         }
         Err(refusal) => refusal.number,
     }
@@ -956,7 +958,7 @@ pub const PROGRAM_SYMBOLS: usize = 32_768;
 /// What `clearance` prints for the bytes of its standard input.
 pub fn clearance(bytes: &[u8]) -> String {
     if bytes.len() > PROGRAM_BYTES {
-        return format!("refused {FILE}\n");
+        return format!("refused {BAD_FILE}\n");
     }
     let scene = match scene_checked(bytes) {
         Ok(scene) => scene,
@@ -968,10 +970,10 @@ pub fn clearance(bytes: &[u8]) -> String {
         scene.axes, scene.bits, &scene.rows, &scene.first, &scene.second, scene.first_frame, scene.last_frame,
         &mut out, &mut answer,
     );
-    if number == ROOM {
-        return format!("refused 6 needed {}\n", answer[4]);
+    if number == NO_ROOM {
+        return format!("refused {NO_ROOM} needed {}\n", answer[4]);
     }
-    assert_eq!(number, 0, "the scene was checked");
+    assert_eq!(number, ACCEPTED, "the scene was checked");
     let leaves = halfspace_words(&scene.first) + halfspace_words(&scene.second);
     let room = room_of(&Universe::checked(scene.axes, scene.bits).unwrap(), leaves);
     let mut lines = format!("axes {} bits {}\nleaves {leaves} raw {} room {room}\n", scene.axes, scene.bits, answer[4]);

@@ -13,21 +13,21 @@ fn rows_of(rows: &[[i64; 3]]) -> Vec<i64> {
 fn raw_text(bits: u64, rows: &[i64], words: &[u16]) -> (String, String, u64) {
     let mut out = [0; 1000];
     let mut length = [0];
-    assert_eq!(raw_one(2, bits, rows, words, &mut out, &mut length), 0);
+    assert_eq!(raw_one(2, bits, rows, words, &mut out, &mut length), ACCEPTED);
     let raw = String::from_utf8(out[..length[0] as usize].to_vec()).unwrap();
-    assert_eq!(merged_one(2, bits, rows, words, &mut out, &mut length), 0);
+    assert_eq!(merged_one(2, bits, rows, words, &mut out, &mut length), ACCEPTED);
     let merged = String::from_utf8(out[..length[0] as usize].to_vec()).unwrap();
     let mut black = [0];
-    assert_eq!(volume(2, bits, raw.as_bytes(), &mut black), 0);
+    assert_eq!(volume(2, bits, raw.as_bytes(), &mut black), ACCEPTED);
     let mut again = [0];
-    assert_eq!(volume(2, bits, merged.as_bytes(), &mut again), 0);
+    assert_eq!(volume(2, bits, merged.as_bytes(), &mut again), ACCEPTED);
     assert_eq!(black, again);
     (raw, merged, black[0])
 }
 
 fn room_at(axes: u64, bits: u64, leaves: u64) -> u64 {
     let mut answer = [0];
-    assert_eq!(room(axes, bits, leaves, &mut answer), 0);
+    assert_eq!(room(axes, bits, leaves, &mut answer), ACCEPTED);
     answer[0]
 }
 
@@ -63,27 +63,27 @@ fn cases_2_and_3() {
     assert!(!black_at(&universe, &shape, &[3, 3, 0, 0]));
     for symbols in [raw.as_bytes(), merged.as_bytes()] {
         let mut answer = [9];
-        assert_eq!((colour(2, 2, symbols, 3, 2, 0, 0, &mut answer), answer), (0, [1]));
-        assert_eq!((colour(2, 2, symbols, 3, 3, 0, 0, &mut answer), answer), (0, [0]));
-        assert_eq!((colour(2, 2, symbols, 3, 4, 0, 0, &mut answer), answer), (9, [0]));
-        assert_eq!((colour(2, 2, symbols, 3, 2, 1, 0, &mut answer), answer), (9, [0]));
+        assert_eq!((colour(2, 2, symbols, 3, 2, 0, 0, &mut answer), answer), (ACCEPTED, [1]));
+        assert_eq!((colour(2, 2, symbols, 3, 3, 0, 0, &mut answer), answer), (ACCEPTED, [0]));
+        assert_eq!((colour(2, 2, symbols, 3, 4, 0, 0, &mut answer), answer), (OUTSIDE, [0]));
+        assert_eq!((colour(2, 2, symbols, 3, 2, 1, 0, &mut answer), answer), (OUTSIDE, [0]));
     }
 }
 
 #[test]
 fn cases_4_and_5_and_10_and_11() {
     let (number, answer, out) = scene_verdict(0, 3, 13);
-    assert_eq!((number, answer, &out[..]), (0, [1, 1, 2, 2, 13], SCENE_RAW));
+    assert_eq!((number, answer, &out[..]), (ACCEPTED, [1, 1, 2, 2, 13], SCENE_RAW));
     assert_eq!(scene_verdict(0, 0, 13).1, [0, 0, 0, 0, 13]);
     assert_eq!(scene_verdict(2, 2, 13).1, [1, 2, 2, 1, 13]);
     assert_eq!(scene_verdict(3, 3, 13).1, [0, 0, 0, 0, 13]);
-    assert_eq!(scene_verdict(0, 3, 12), (6, [0, 0, 0, 0, 13], vec![7; 12]));
-    assert_eq!(scene_verdict(0, 4, 13), (9, [0; 5], vec![7; 13]));
-    assert_eq!(scene_verdict(2, 1, 13), (9, [0; 5], vec![7; 13]));
-    assert_eq!(scene_verdict(0, 4, 12).0, 9);
+    assert_eq!(scene_verdict(0, 3, 12), (NO_ROOM, [0, 0, 0, 0, 13], vec![7; 12]));
+    assert_eq!(scene_verdict(0, 4, 13), (OUTSIDE, [0; 5], vec![7; 13]));
+    assert_eq!(scene_verdict(2, 1, 13), (OUTSIDE, [0; 5], vec![7; 13]));
+    assert_eq!(scene_verdict(0, 4, 12).0, OUTSIDE);
     let mut out = [7; 12];
     let mut answer = [9];
-    assert_eq!(raw_two(2, 2, &rows_of(&SCENE_ROWS), &ONE, &TWO, &mut out, &mut answer), 6);
+    assert_eq!(raw_two(2, 2, &rows_of(&SCENE_ROWS), &ONE, &TWO, &mut out, &mut answer), NO_ROOM);
     assert_eq!((answer, out), ([13], [7; 12]));
 }
 
@@ -94,7 +94,7 @@ fn cases_6_and_7_and_8() {
             assert_eq!(room_at(axes, bits, 0), 1);
             let mut out = [0; 1];
             let mut answer = [0];
-            assert_eq!(raw_one(axes, bits, &[0; 5], &[256], &mut out, &mut answer), 0);
+            assert_eq!(raw_one(axes, bits, &[0; 5], &[256], &mut out, &mut answer), ACCEPTED);
             assert_eq!(out, *b"B");
         }
         assert_eq!(room_at(axes, 0, 1_000_000), 1);
@@ -110,23 +110,23 @@ fn cases_6_and_7_and_8() {
         let words = generate::tree(&mut random, rows.len() / 5);
         let mut out = [0; 1];
         let mut answer = [0];
-        assert_eq!(raw_one(axes, 0, &rows, &words, &mut out, &mut answer), 0);
+        assert_eq!(raw_one(axes, 0, &rows, &words, &mut out, &mut answer), ACCEPTED);
         assert_eq!(answer, [1]);
     }
 }
 
 #[test]
 fn case_9() {
-    assert_eq!(well_formed(2, 2, b"(BB"), 0);
+    assert_eq!(well_formed(2, 2, b"(BB"), ACCEPTED);
     let mut out = [7; 3];
     let mut answer = [9];
-    assert_eq!((merge(2, 2, b"(BB", &mut out, &mut answer), out, answer), (0, [b'B', 7, 7], [1]));
+    assert_eq!((merge(2, 2, b"(BB", &mut out, &mut answer), out, answer), (ACCEPTED, [b'B', 7, 7], [1]));
     for bad in [&b""[..], b"(B", b"BB"] {
-        assert_eq!(well_formed(2, 2, bad), 7);
-        assert_eq!(volume(2, 2, bad, &mut answer), 7);
-        assert_eq!(merge(2, 2, bad, &mut out, &mut answer), 7);
+        assert_eq!(well_formed(2, 2, bad), BAD_EXPRESSION);
+        assert_eq!(volume(2, 2, bad, &mut answer), BAD_EXPRESSION);
+        assert_eq!(merge(2, 2, bad, &mut out, &mut answer), BAD_EXPRESSION);
     }
-    assert_eq!(well_formed(2, 0, b"(BB"), 7);
+    assert_eq!(well_formed(2, 0, b"(BB"), BAD_EXPRESSION);
     assert_eq!(merged_by_replacement(b"((BB(BB"), b"B");
 }
 
@@ -134,24 +134,24 @@ fn case_9() {
 fn case_12() {
     let v = [0.0; 3];
     let mut row = [0; 5];
-    assert_eq!(cut_proxy([0.0625, 0.0, 0.0], 0.0, v, &mut row), 0);
+    assert_eq!(cut_proxy([0.0625, 0.0, 0.0], 0.0, v, &mut row), ACCEPTED);
     assert_eq!(row, [0, 16, 0, 0, 0]);
     for bad in [1.0 / 32.0, f64::NAN, f64::INFINITY, f64::NEG_INFINITY, f64::MIN_POSITIVE, 5e-324, 4097.0] {
-        assert_eq!(cut_proxy([bad, 0.0, 0.0], 0.0, v, &mut row), 10);
+        assert_eq!(cut_proxy([bad, 0.0, 0.0], 0.0, v, &mut row), BAD_PROXY);
         assert_eq!(row, [0; 5]);
-        assert_eq!(cut_proxy(v, bad, v, &mut row), 10);
+        assert_eq!(cut_proxy(v, bad, v, &mut row), BAD_PROXY);
     }
-    assert_eq!(cut_proxy([64.0, -64.0, -0.0], -4096.0, [64.0, -64.0, 0.0625], &mut row), 0);
+    assert_eq!(cut_proxy([64.0, -64.0, -0.0], -4096.0, [64.0, -64.0, 0.0625], &mut row), ACCEPTED);
     assert_eq!(row, [-4096 * 256, 64 * 256, -64 * 256, 0, -2 * 4096 * 256]);
-    assert_eq!(cut_proxy([64.0625, 0.0, 0.0], 0.0, v, &mut row), 10);
-    assert_eq!(cut_proxy(v, 4096.0625, v, &mut row), 10);
+    assert_eq!(cut_proxy([64.0625, 0.0, 0.0], 0.0, v, &mut row), BAD_PROXY);
+    assert_eq!(cut_proxy(v, 4096.0625, v, &mut row), BAD_PROXY);
     let mut rows = [9; 30];
-    assert_eq!(box_proxy([2.5, 0.0, 0.0], [2.5, 1.0, 4096.0], [-0.25, -0.0, 64.0], &mut rows), 0);
+    assert_eq!(box_proxy([2.5, 0.0, 0.0], [2.5, 1.0, 4096.0], [-0.25, -0.0, 64.0], &mut rows), ACCEPTED);
     assert_eq!(rows[..5], [-40, 16, 0, 0, 4]);
     assert_eq!(rows[5..10], [40, -16, 0, 0, -4]);
     assert_eq!(rows[10..20], [0, 0, 16, 0, 0, 16, 0, -16, 0, 0]);
     assert_eq!(rows[20..], [0, 0, 0, 16, -1024, 65536, 0, 0, -16, 1024]);
-    assert_eq!(box_proxy([2.5, 0.0, 0.0], [2.4375, 1.0, 1.0], v, &mut rows), 10);
+    assert_eq!(box_proxy([2.5, 0.0, 0.0], [2.4375, 1.0, 1.0], v, &mut rows), BAD_PROXY);
     assert_eq!(rows, [0; 30]);
 }
 
@@ -193,7 +193,8 @@ fn the_program() {
     assert_eq!(clearance(&[bytes.clone(), b"\n".to_vec()].concat()), "refused 1\n");
     assert_eq!(clearance(&vec![0; 65_537]), "refused 1\n");
     // the length needed is the number of blocks, and 32,768 are lent
-    let steep = Scene { axes: 2, bits: 10, rows: vec![0, 1024, -1023, 0, 0], first: vec![256], second: vec![1], first_frame: 0, last_frame: 1023 };
+    let (rows, first, second) = (vec![0, 1024, -1023, 0, 0], vec![256], vec![1]);
+    let steep = Scene { axes: 2, bits: 10, rows, first, second, first_frame: 0, last_frame: 1023 };
     let text = clearance(&scene_bytes(&steep));
     let run = Run::checked(2, 10, &steep.rows, &[&steep.first, &steep.second]).unwrap();
     let blocks = run.blocks_within(1 << 30).unwrap();
@@ -207,29 +208,29 @@ fn the_program() {
 #[test]
 fn trees_are_refused_in_order() {
     let rows = [[0i64; 5]; 2];
-    let number = |words: &[u16]| tree_checked(&rows, words).err().map_or(0, |refusal| refusal.number);
-    assert_eq!(number(&[]), 4);
-    assert_eq!(number(&[5; 256]), 5);
-    assert_eq!(number(&[5; 255]), 4);
-    assert_eq!(number(&[256]), 0);
-    assert_eq!(number(&[258]), 4);
-    assert_eq!(number(&[512]), 4);
-    assert_eq!(number(&[0, 1]), 4);
-    assert_eq!(number(&[0, 2]), 4);
+    let number = |words: &[u16]| tree_checked(&rows, words).err().map_or(ACCEPTED, |refusal| refusal.number);
+    assert_eq!(number(&[]), BAD_TREE);
+    assert_eq!(number(&[5; 256]), OVERFULL_TREE);
+    assert_eq!(number(&[5; 255]), BAD_TREE);
+    assert_eq!(number(&[256]), ACCEPTED);
+    assert_eq!(number(&[258]), BAD_TREE);
+    assert_eq!(number(&[512]), BAD_TREE);
+    assert_eq!(number(&[0, 1]), BAD_TREE);
+    assert_eq!(number(&[0, 2]), BAD_TREE);
     let mut words = vec![1u16; 32];
     words.extend([2; 31]);
-    assert_eq!(number(&words), 0);
+    assert_eq!(number(&words), ACCEPTED);
     words.insert(0, 0);
     words.push(2);
-    assert_eq!(number(&words), 5);
+    assert_eq!(number(&words), OVERFULL_TREE);
     words[32] = 258;
-    assert_eq!(number(&words), 4);
+    assert_eq!(number(&words), BAD_TREE);
     words[32] = 5;
-    assert_eq!(number(&words), 4);
+    assert_eq!(number(&words), BAD_TREE);
     words[32] = 257;
-    assert_eq!(number(&words), 5);
+    assert_eq!(number(&words), OVERFULL_TREE);
     words[31] = 5;
-    assert_eq!(number(&words), 4);
+    assert_eq!(number(&words), BAD_TREE);
 }
 
 #[test]
@@ -377,18 +378,18 @@ fn files_go_round() {
         let symbols = merged_by_replacement(&generate::expression(&mut random, (axes * bits) as usize));
         let mut out = vec![7; symbols.len() + 12];
         let mut answer = [0];
-        assert_eq!(shape_write(axes, bits, &symbols, &mut out, &mut answer), 0);
+        assert_eq!(shape_write(axes, bits, &symbols, &mut out, &mut answer), ACCEPTED);
         assert_eq!(answer[0] as usize, symbols.len() + 11);
         assert_eq!(out.pop(), Some(7));
         let mut back = vec![7; symbols.len()];
         let mut fields = [0; 3];
-        assert_eq!(shape_read(&out, &mut back, &mut fields), 0);
+        assert_eq!(shape_read(&out, &mut back, &mut fields), ACCEPTED);
         assert_eq!((fields, back), ([axes, bits, symbols.len() as u64], symbols));
     }
     let mut fields = [9; 3];
-    assert_eq!(shape_read(b"BNT\x01\x00\x02\x02\x00\x00\x00\x00", &mut [], &mut fields), 7);
-    assert_eq!(shape_read(b"BNT\x01\x00\x02\x02\x01\x00\x00\x00", &mut [], &mut fields), 1);
-    assert_eq!(shape_read(b"BNT\x01\x00\x02\x02\x03\x00\x00\x00(BB", &mut [], &mut fields), 8);
-    assert_eq!(shape_read(b"BNT\x01\x00\x02\x02\x03\x00\x00\x00(BW", &mut [], &mut fields), 6);
+    assert_eq!(shape_read(b"BNT\x01\x00\x02\x02\x00\x00\x00\x00", &mut [], &mut fields), BAD_EXPRESSION);
+    assert_eq!(shape_read(b"BNT\x01\x00\x02\x02\x01\x00\x00\x00", &mut [], &mut fields), BAD_FILE);
+    assert_eq!(shape_read(b"BNT\x01\x00\x02\x02\x03\x00\x00\x00(BB", &mut [], &mut fields), NOT_MERGED);
+    assert_eq!(shape_read(b"BNT\x01\x00\x02\x02\x03\x00\x00\x00(BW", &mut [], &mut fields), NO_ROOM);
     assert_eq!(fields, [0, 0, 3]);
 }
