@@ -3,17 +3,7 @@
  * Every function returns the number of its refusal, 0 where it accepts; durbizhan_leaves alone returns a count.
  * READ THE NUMBER FIRST. All other fields of a refused answer are zero: a refused verdict is Clear, a refused colour
  * is WHITE, and neither says anything about the shapes.
- *
- *   1  file: short of its header, mark, version, zero byte, or length wrong
- *   2  axes or bits outside their range (axes 1 to 4, bits 0 to 10)
- *   3  rows not in fives, over 256 of them, a coefficient outside its limit, or nonzero above the axes
- *   4  tree empty, unknown word, index past the rows, operator with under two pending, not one left
- *   5  over 255 words, or a 33rd shape pending
- *   6  symbols (or file bytes) needed exceed the room lent; the length needed is in the answer
- *   7  expression not well-formed
- *   8  shape file's expression not merged
- *   9  voxel, path or window outside the universe, a nonzero place above the axes, or first > last
- *  10  proxy number not a finite multiple of 1/16 within its limit, or near > far
+ * The numbers have names below, and DURBIZHAN_ is left off where one is named in a comment.
  *
  * A lent buffer is a pointer and the number of its elements. It is not written to where the call is refused, nor past
  * what is written where it is not; `answer`, and the rows of a proxy, are always written, whole. What the caller owes:
@@ -31,17 +21,42 @@
 #include <stddef.h>
 #include <stdint.h>
 
+/* Nothing is refused. */
+#define DURBIZHAN_ACCEPTED 0
+/* file: short of its header, mark, version, zero byte, or length wrong */
+#define DURBIZHAN_BAD_FILE 1
+/* axes or bits outside their range (axes 1 to 4, bits 0 to 10) */
+#define DURBIZHAN_BAD_UNIVERSE 2
+/* rows not in fives, over 256 of them, a coefficient outside its limit, or nonzero above the axes */
+#define DURBIZHAN_BAD_ROWS 3
+/* tree empty, unknown word, index past the rows, operator with under two pending, not one left */
+#define DURBIZHAN_BAD_TREE 4
+/* over 255 words, or a 33rd shape pending */
+#define DURBIZHAN_OVERFULL_TREE 5
+/* symbols (or file bytes) needed exceed the room lent; the length needed is in the answer */
+#define DURBIZHAN_NO_ROOM 6
+/* expression not well-formed */
+#define DURBIZHAN_BAD_EXPRESSION 7
+/* shape file's expression not merged */
+#define DURBIZHAN_NOT_MERGED 8
+/* voxel, path or window outside the universe, a nonzero place above the axes, or first > last */
+#define DURBIZHAN_OUTSIDE 9
+/* proxy number not a finite multiple of 1/16 within its limit, or near > far */
+#define DURBIZHAN_BAD_PROXY 10
+
 #ifdef __cplusplus
 extern "C" {
 #endif
 
-/* How many words of one tree name a halfspace. Of a run with two trees, N is the sum. This is a count, not a refusal. */
+/* How many words of one tree name a halfspace. Of a run with two trees, N is the sum. This is a count, no refusal. */
 uint64_t durbizhan_leaves(const uint16_t *words, size_t words_count);
 
-/* answer[0]: how many symbols an expression takes at the most, for N = leaves. A buffer this long is never refused 6. */
+/* answer[0]: how many symbols an expression takes at the most, for N = leaves. A buffer this long is never refused
+ * NO_ROOM. */
 uint64_t durbizhan_room(uint64_t axes, uint64_t bits, uint64_t leaves, uint64_t answer[1]);
 
-/* The raw expression of one tree, and of two intersected, into out. answer[0]: the length written, or needed on 6. */
+/* The raw expression of one tree, and of two intersected, into out. answer[0]: the length written, or needed on
+ * NO_ROOM. */
 uint64_t durbizhan_raw_one(uint64_t axes, uint64_t bits,
                            const int64_t *rows, size_t rows_count,
                            const uint16_t *words, size_t words_count,
@@ -55,7 +70,8 @@ uint64_t durbizhan_raw_two(uint64_t axes, uint64_t bits,
                            uint8_t *out, size_t out_count,
                            uint64_t answer[1]);
 
-/* The merged expression of one tree, and of two intersected, into out. answer[0]: the length written, or needed on 6. */
+/* The merged expression of one tree, and of two intersected, into out. answer[0]: the length written, or needed on
+ * NO_ROOM. */
 uint64_t durbizhan_merged_one(uint64_t axes, uint64_t bits,
                               const int64_t *rows, size_t rows_count,
                               const uint16_t *words, size_t words_count,
@@ -70,8 +86,8 @@ uint64_t durbizhan_merged_two(uint64_t axes, uint64_t bits,
                               uint64_t answer[1]);
 
 /* Whether two trees share space in frames first_frame to last_frame, both ends in; their raw expression goes into out.
- * answer: hit (0 Clear, 1 Hit), first frame, last frame, black voxels, raw length (needed on 6). Read the number first:
- * a refused verdict is Clear. */
+ * answer: hit (0 Clear, 1 Hit), first frame, last frame, black voxels, raw length (needed on NO_ROOM). Read the number
+ * first: a refused verdict is Clear. */
 uint64_t durbizhan_verdict(uint64_t axes, uint64_t bits,
                            const int64_t *rows, size_t rows_count,
                            const uint16_t *first, size_t first_count,
@@ -80,7 +96,7 @@ uint64_t durbizhan_verdict(uint64_t axes, uint64_t bits,
                            uint8_t *out, size_t out_count,
                            uint64_t answer[5]);
 
-/* Whether an expression is well-formed: 0, or 2 or 7. */
+/* Whether an expression is well-formed: ACCEPTED, or BAD_UNIVERSE or BAD_EXPRESSION. */
 uint64_t durbizhan_well_formed(uint64_t axes, uint64_t bits, const uint8_t *expression, size_t expression_count);
 
 /* answer[0]: the black voxels of an expression. */
@@ -100,7 +116,7 @@ uint64_t durbizhan_part(uint64_t axes, uint64_t bits,
                         const uint8_t *path, size_t path_count,
                         uint64_t answer[2]);
 
-/* The merged expression of a raw or merged one, into out. answer[0]: the length written, or needed on 6. */
+/* The merged expression of a raw or merged one, into out. answer[0]: the length written, or needed on NO_ROOM. */
 uint64_t durbizhan_merge(uint64_t axes, uint64_t bits,
                          const uint8_t *expression, size_t expression_count,
                          uint8_t *out, size_t out_count,
@@ -112,25 +128,27 @@ uint64_t durbizhan_scene(const uint8_t *bytes, size_t bytes_count,
                          int64_t rows[1280], uint16_t first[255], uint16_t second[255],
                          uint64_t answer[7]);
 
-/* Reads a shape file; its symbols go to the front of out. answer: axes, bits, length; on 6 axes and bits are 0 and the
- * length is the one needed. */
+/* Reads a shape file; its symbols go to the front of out. answer: axes, bits, length; on NO_ROOM axes and bits are 0
+ * and the length is the one needed. */
 uint64_t durbizhan_shape_read(const uint8_t *bytes, size_t bytes_count,
                               uint8_t *out, size_t out_count,
                               uint64_t answer[3]);
 
-/* Writes the shape file of a merged expression into out. answer[0]: the bytes written, or needed on 6. */
+/* Writes the shape file of a merged expression into out. answer[0]: the bytes written, or needed on NO_ROOM. */
 uint64_t durbizhan_shape_write(uint64_t axes, uint64_t bits,
                                const uint8_t *expression, size_t expression_count,
                                uint8_t *out, size_t out_count,
                                uint64_t answer[1]);
 
-/* The six rows of a stand-in Box for axes 4, x near, x far, then y, then z; the displacement is per frame. 0 or 10; on 10 all rows are zero. */
+/* The six rows of a stand-in Box for axes 4, x near, x far, then y, then z; the displacement is per frame. ACCEPTED or
+ * BAD_PROXY; on BAD_PROXY all rows are zero. */
 uint64_t durbizhan_box(double near_x, double near_y, double near_z,
                        double far_x, double far_y, double far_z,
                        double displacement_x, double displacement_y, double displacement_z,
                        int64_t rows[30]);
 
-/* The row of a stand-in Cut for axes 4, which holds where n.x + offset >= 0. 0 or 10; on 10 the row is zero. */
+/* The row of a stand-in Cut for axes 4, which holds where n.x + offset >= 0. ACCEPTED or BAD_PROXY; on BAD_PROXY
+ * the row is zero. */
 uint64_t durbizhan_cut(double normal_x, double normal_y, double normal_z, double offset,
                        double displacement_x, double displacement_y, double displacement_z,
                        int64_t row[5]);

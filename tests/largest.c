@@ -1,10 +1,12 @@
-/* tests/largest.c: a shape file at both sides of its largest symbol count, 4,294,967,295. It needs some 9 GiB of memory and a
- * minute or two, so the gate does not run it. At the repository's top, with the archive that tests/native builds:
+/* tests/largest.c: a shape file at both sides of its largest symbol count, 4,294,967,295. It needs some 9 GiB of memory
+ * and a minute or two, so the gate does not run it. At the repository's top, with the archive that tests/native builds:
  *
- *   cc -std=c11 -O2 -Wall -Wextra -Iinclude tests/largest.c target/native/libexport.a -o target/largest && target/largest
+ *   cc -std=c11 -O2 -Wall -Wextra -Iinclude tests/largest.c target/native/libexport.a -o target/largest
+ *   target/largest
  *
- * The shape is the full tree of 31 halvings over leaves W and B in turn, which is merged and has 2^32 - 1 symbols; one leaf
- * halved makes it two symbols more. Each is written with all the room it needs; the shorter one with one byte less, too.
+ * The shape is the full tree of 31 halvings over leaves W and B in turn, which is merged and has 2^32 - 1 symbols; one
+ * leaf halved makes it two symbols more. Each is written with all the room it needs; the shorter one with one byte less,
+ * too.
  */
 #include <inttypes.h>
 #include <stdio.h>
@@ -51,11 +53,13 @@ int main(void) {
     uint64_t answer[1];
 
     memset(out, '.', most + 13);
-    expect("one byte short", durbizhan_shape_write(AXES, BITS, symbols, length, out, length + 10, answer), 6);
+    uint64_t number = durbizhan_shape_write(AXES, BITS, symbols, length, out, length + 10, answer);
+    expect("one byte short", number, DURBIZHAN_NO_ROOM);
     expect("its need", answer[0], length + 11);
     expect("its first byte", out[0], '.');
     expect("its last byte", out[length + 9], '.');
-    expect("the most symbols", durbizhan_shape_write(AXES, BITS, symbols, length, out, length + 13, answer), 0);
+    number = durbizhan_shape_write(AXES, BITS, symbols, length, out, length + 13, answer);
+    expect("the most symbols", number, DURBIZHAN_ACCEPTED);
     expect("its length", answer[0], length + 11);
     expect("its symbols differ", memcmp(out + 11, symbols, length) != 0, 0);
     expect("the byte past it", out[length + 11], '.');
@@ -64,7 +68,8 @@ int main(void) {
     symbols[length] = 'W';
     symbols[length + 1] = 'B';
     memset(out, '.', most + 13);
-    expect("two symbols more", durbizhan_shape_write(AXES, BITS, symbols, length + 2, out, length + 13, answer), 6);
+    number = durbizhan_shape_write(AXES, BITS, symbols, length + 2, out, length + 13, answer);
+    expect("two symbols more", number, DURBIZHAN_NO_ROOM);
     expect("their need", answer[0], length + 13);
     expect("their first byte", out[0], '.');
     expect("their last byte", out[length + 12], '.');

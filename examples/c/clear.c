@@ -2,7 +2,8 @@
  * `tests/native` builds the archive, as target/native/libexport.a):
  *
  *   rt staticlib export
- *   gcc -std=c11 -Wall -Wextra -Iinclude examples/c/clear.c target/staticlib/libexport.a -o target/clear-c && target/clear-c
+ *   gcc -std=c11 -Wall -Wextra -Iinclude examples/c/clear.c target/staticlib/libexport.a -o target/clear-c
+ *   target/clear-c
  *
  * It prints
  *
@@ -42,13 +43,13 @@ int main(void)
 
     uint64_t leaves = durbizhan_leaves(first, COUNT(first)) + durbizhan_leaves(second, COUNT(second));
     uint64_t number = durbizhan_room(AXES, BITS, leaves, room);
-    if (number != 0) return refused(number);
-    if (room[0] > sizeof out) return refused(6);
+    if (number != DURBIZHAN_ACCEPTED) return refused(number);
+    if (room[0] > sizeof out) return refused(DURBIZHAN_NO_ROOM);
 
     /* The number is read first: a refused verdict is Clear. */
     number = durbizhan_verdict(AXES, BITS, rows, COUNT(rows), first, COUNT(first), second, COUNT(second),
                                FIRST_FRAME, LAST_FRAME, out, sizeof out, verdict);
-    if (number != 0) return refused(number);
+    if (number != DURBIZHAN_ACCEPTED) return refused(number);
 
     printf("axes %d bits %d\n", AXES, BITS);
     printf("leaves %" PRIu64 " raw %" PRIu64 " room %" PRIu64 "\n", leaves, verdict[4], room[0]);

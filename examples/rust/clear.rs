@@ -1,9 +1,10 @@
-//! Document 01's example scene, converted and judged from Rust, through a safe wrapper. At the repository's top, on x86-64 (on another processor
-//! `tests/native` builds the archive, as target/native/libexport.a):
+//! Document 01's example scene, converted and judged from Rust, through a safe wrapper. At the repository's top, on
+//! x86-64 (on another processor `tests/native` builds the archive, as target/native/libexport.a):
 //!
 //! ```sh
 //! rt staticlib export
-//! rustc --edition 2021 -O examples/rust/clear.rs -L target/staticlib -l static=export -o target/clear-rust && target/clear-rust
+//! rustc --edition 2021 -O examples/rust/clear.rs -L target/staticlib -l static=export -o target/clear-rust
+//! target/clear-rust
 //! ```
 //!
 //! It prints
@@ -41,7 +42,11 @@ mod durbizhan {
         }
     }
 
-    /// Why a call was refused: document 01's number, and on 6 the length needed.
+    /// The numbers of include/durbizhan.h that are read here.
+    pub const ACCEPTED: u64 = 0;
+    pub const NO_ROOM: u64 = 6;
+
+    /// Why a call was refused: document 01's number, and on NO_ROOM the length needed.
     #[derive(Debug, PartialEq)]
     pub struct Refused {
         pub number: u64,
@@ -82,7 +87,7 @@ mod durbizhan {
     pub fn room(universe: Universe, leaves: u64) -> Result<u64, Refused> {
         let mut answer = [0; 1];
         match unsafe { face::durbizhan_room(universe.axes, universe.bits, leaves, &mut answer) } {
-            0 => Ok(answer[0]),
+            ACCEPTED => Ok(answer[0]),
             number => Err(Refused { number, needed: 0 }),
         }
     }
@@ -114,7 +119,7 @@ mod durbizhan {
             )
         };
         let [hit, first, last, voxels, length] = answer;
-        if number != 0 {
+        if number != ACCEPTED {
             return Err(Refused { number, needed: length });
         }
         let verdict = if hit == 0 { Verdict::Clear } else { Verdict::Hit { first, last, voxels } };
@@ -122,7 +127,7 @@ mod durbizhan {
     }
 }
 
-use durbizhan::{Refused, Universe, Verdict, Window};
+use durbizhan::{Refused, Universe, Verdict, Window, NO_ROOM};
 
 // Two stand-ins of two halfspaces each: one that moves a voxel a frame, and one that stands from 2 to 3.
 const ROWS: [i64; 20] = [
@@ -152,7 +157,7 @@ fn judged() -> Result<String, Refused> {
 fn main() {
     match judged() {
         Ok(lines) => println!("{lines}"),
-        Err(Refused { number: 6, needed }) => println!("refused 6 needed {needed}"),
+        Err(Refused { number: number @ NO_ROOM, needed }) => println!("refused {number} needed {needed}"),
         Err(Refused { number, .. }) => println!("refused {number}"),
     }
 }
