@@ -89,7 +89,8 @@ stays s p h = sym (place-stays s p End (symbol-past s p h) refl)
 -- readers one after the other: the first one opened, each next one advanced from the one before
 pub record InTurn (u : Universe) (lent : RefT (List ℕ)) (readers : ℕ → Reader) : Type 0 where
   pub opened : Holds u lent (readers 0 .expression) × (readers 0 .place ≡ 0)
-  pub advanced : (n : ℕ) → (readers (suc n) .expression ≡ readers n .expression) × (readers (suc n) .place ≡ placeAfter (now (readers n .expression)) (readers n .place))
+  pub advanced : (n : ℕ)
+      → (readers (suc n) .expression ≡ readers n .expression) × (readers (suc n) .place ≡ placeAfter (now (readers n .expression)) (readers n .place))
 
 -- what `current` answers of a reader
 abbrev pub told : Reader → Symbol
@@ -108,19 +109,24 @@ module _ {u : Universe} {lent : RefT (List ℕ)} {readers : ℕ → Reader} (tur
     hold-it : (n : ℕ) → now (readers n .expression) ≡ s
     hold-it n = all-hold n ∙ holds-all u s ok
 
-    next-place : (n : ℕ) → readers (suc n) .place ≡ placeAfter s (readers n .place)
-    next-place n = turns .advanced n .1 ∙ ap (λ l. placeAfter l (readers n .place)) (hold-it n)
+    place-then : (n : ℕ) → readers (suc n) .place ≡ placeAfter s (readers n .place)
+    place-then n = turns .advanced n .1 ∙ ap (λ l. placeAfter l (readers n .place)) (hold-it n)
 
     stands-at : (n : ℕ) → n ≤ length s → readers n .place ≡ n
     stands-at zero h = turns .opened .1
-    stands-at (suc n) h = next-place n ∙ ap (placeAfter s) (stands-at n (omega arith)) ∙ goes-on s (well-formed-symbols u s ok) n (omega arith)
+    stands-at (suc n) h = place-then n ∙ ap (placeAfter s) (stands-at n (omega arith)) ∙ goes-on s (well-formed-symbols u s ok) n (omega arith)
 
     stands-past : (k : ℕ) → readers (k + length s) .place ≡ length s
     stands-past zero = ap (λ n. readers n .place) (zero-add (length s)) ∙ stands-at (length s) (omega arith)
-    stands-past (suc k) = ap (λ n. readers n .place) (suc-add k (length s)) ∙ next-place (k + length s) ∙ ap (placeAfter s) (stands-past k) ∙ stays s (length s) (omega arith)
+    stands-past (suc k) =
+        ap (λ n. readers n .place) (suc-add k (length s))
+        ∙ place-then (k + length s)
+        ∙ ap (placeAfter s) (stands-past k)
+        ∙ stays s (length s) (omega arith)
 
     -- THEOREM: after n moves a reader gives the n-th symbol, whose byte is the n-th byte and which is not End
-    pub gives-symbols : (n : ℕ) → n < length (now lent) → (told (readers n) ≡ symbolAt (now lent) n) × (byteOf (told (readers n)) ≡ getD (now lent) n 0) × (told (readers n) ≡ End → ⊥)
+    pub gives-symbols : (n : ℕ) → n < length (now lent)
+        → (told (readers n) ≡ symbolAt (now lent) n) × (byteOf (told (readers n)) ≡ getD (now lent) n 0) × (told (readers n) ≡ End → ⊥)
     gives-symbols n h =
         let w = symbol-there (well-formed-symbols u s ok) n h in
         let e : told (readers n) ≡ symbolAt s n = rw (hold-it n, stands-at n (omega arith)) in

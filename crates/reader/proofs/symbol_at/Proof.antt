@@ -5,4 +5,11 @@ use Rattle.reader.proofs.symbol_at.Tie as tie
 
 pub symbol-at-spec : {M : Type 1} → statement M
 symbol-at-spec =
-    tie.close (tie.spec (λ c. search symbol-laws) (λ c. search symbol-laws) (λ c. search symbol-laws) (λ c. search symbol-laws) (λ c. search symbol-laws) (λ c. search symbol-laws))
+    tie.close
+    (tie.spec
+    (λ c. search symbol-laws)
+    (λ c. search symbol-laws)
+    (λ c. search symbol-laws)
+    (λ c. search symbol-laws)
+    (λ c. search symbol-laws)
+    (λ c. search symbol-laws))
