@@ -14,6 +14,7 @@ use Rattle.universe.specs.declared.Universe.{Universe}
 use Rattle.universe.specs.Voxel.{placeAlong}
 use Rattle.bintree.specs.declared.Colour.the-variants.{White, Black}
 use Rattle.csg.specs.Halfspace.{Halfspace, centreValue, colourAtCentre}
+use Rattle.standin.specs.Rows.{proxyAxes}
 use Rattle.standin.specs.Points.{HoldsAt, middle, centre}
 use Rattle.standin.proofs.Points.{Worth, Common, same-gap, halfspace-at}
 
@@ -44,12 +45,12 @@ same-sum : (o a b c d : ℤ) → (pos 0 ≤ℤ (pos 2 *ℤ o +ℤ (pos 0 +ℤ a 
 same-sum o a b c d =
     same-gap (ν 0) (ν 2 *ᴱ ι o +ᴱ (ν 0 +ᴱ ι a +ᴱ ι b +ᴱ ι c +ᴱ ι d)) (ν 0 *ᴱ ν 2) (ι o *ᴱ ν 2 +ᴱ ι a +ᴱ ι b +ᴱ ι c +ᴱ ι d) (omega arith)
 
-pub centre-holds : (u : Universe) → u .axes ≡ 4 → (h : Halfspace) (c : List ℕ) → (colourAtCentre u h c ≡ Black) ↔ HoldsAt h (centre c)
+pub centre-holds : (u : Universe) → u .axes ≡ proxyAxes → (h : Halfspace) (c : List ℕ) → (colourAtCentre u h c ≡ Black) ↔ HoldsAt h (centre c)
 unfolding colourAtCentre centreValue total centre-common
 centre-holds u e h c =
     let term : ℕ → ℤ = λ i. h .coefficient i *ℤ pos (2 * placeAlong c i + 1) in
     rw e
-    (Iff·trans (black (leZ (pos 0) (pos 2 *ℤ h .offset +ℤ total 4 term)))
-    (Iff·trans (leZ-true (pos 0) (pos 2 *ℤ h .offset +ℤ total 4 term), le-leZ)
+    (Iff·trans (black (leZ (pos 0) (pos 2 *ℤ h .offset +ℤ total proxyAxes term)))
+    (Iff·trans (leZ-true (pos 0) (pos 2 *ℤ h .offset +ℤ total proxyAxes term), le-leZ)
     (Iff·trans (same-sum (h .offset) (term 0) (term 1) (term 2) (term 3))
     (Iff·symm (halfspace-at h (centre c) (centre-common c))))))

@@ -2,11 +2,14 @@
 use mathlib.Core.Path.{_≡_, refl, sym}
 use mathlib.Core.Bool.{Bool, true, false, _&&_, true≢false}
 use Prim.Native.Nat.{ℕ}
+use lib.Signed.{_≤ℤ_, leZ}
+use Rattle.lemmas.proofs.Whole.{leZ-true}
 use Rattle.standin.specs.declared.Triple.{Triple}
 use Rattle.standin.specs.declared.Corners.{Corners}
 use Rattle.standin.specs.declared.Plane.{Plane}
+use Rattle.standin.specs.declared.Numbers.{Numbers}
 use Rattle.standin.specs.Sixteenths.{isTaken, cornerLimit, normalLimit}
-use Rattle.standin.specs.Rows.{takesTriple, inOrder, takesBox, takesCut}
+use Rattle.standin.specs.Rows.{takesTriple, atMost, inOrder, takesBox, takesCut}
 
 -- the parts of a test
 pub both : (a b : Bool) → a && b ≡ true → (a ≡ true) × (b ≡ true)
@@ -24,6 +27,18 @@ parts limit p t =
     let a = both (isTaken limit (p .x) && isTaken limit (p .y)) (isTaken limit (p .z)) t in
     let b = both (isTaken limit (p .x)) (isTaken limit (p .y)) (a .0) in
     record { x = b .0; y = b .1; z = a .1 }
+
+-- the parts of an order
+pub record Ordered (a b : Numbers) : Type 0 where
+  pub x : a .x ≤ℤ b .x
+  pub y : a .y ≤ℤ b .y
+  pub z : a .z ≤ℤ b .z
+
+pub order-parts : (a b : Numbers) → atMost a b ≡ true → Ordered a b
+order-parts a b t =
+    let o = both (leZ (a .x) (b .x) && leZ (a .y) (b .y)) (leZ (a .z) (b .z)) t in
+    let p = both (leZ (a .x) (b .x)) (leZ (a .y) (b .y)) (o .0) in
+    record { x = leZ-true (a .x) (b .x) (p .0); y = leZ-true (a .y) (b .y) (p .1); z = leZ-true (a .z) (b .z) (o .1) }
 
 -- the parts of an accepted Box and Cut
 pub record BoxParts (c : Corners) (v : Triple) : Type 0 where

@@ -1,6 +1,6 @@
 -- Fractions against whole numbers: `Worth f k n` says that f is n / k. Sums and products of such are such again, and order at one k is that of the
 -- whole numbers, so a fact of fractions becomes one of whole numbers, which `omega` shows.
-use mathlib.Core.Path.{_≡_, ap, ap₂, _∙_}
+use mathlib.Core.Path.{_≡_, refl, ap, ap₂, _∙_}
 use mathlib.Core.Logic.{_↔_}
 use Prim.Native.Nat.{ℕ, _+_, _*_, _<_}
 use native.Mathlib.Omega.{arith}
@@ -9,7 +9,8 @@ use lib.IntN.{ℤ, pos, _+ℤ_, _*ℤ_}
 use lib.Signed.{_≤ℤ_}
 use Rattle.lemmas.proofs.Whole.{E, ι, ν, _⊕_ as _+ᴱ_, _⊗_ as _*ᴱ_, val, p⁺, p⁻, eq-by, eq-of, le-by, le-of, up, dn}
 use Rattle.csg.specs.Halfspace.{Halfspace}
-use Rattle.standin.specs.Points.{Fraction, whole, _⊕_, _⊗_, _≼_, Point, HoldsAt}
+use Rattle.standin.specs.declared.Numbers.{Numbers}
+use Rattle.standin.specs.Points.{Fraction, Fractions, over16, whole, _⊕_, _⊗_, _≼_, Point, HoldsAt}
 
 -- f · k = n
 pub record Worth (f : Fraction) (k : ℕ) (n : ℤ) : Type 0 where
@@ -62,6 +63,15 @@ worth-grow j {f} {k} {n} h =
           ∙ ap (λ (t : ℤ). t *ℤ pos j) (h .is)
           ∙ eq-by (ι n *ᴱ ν d *ᴱ ν j) (ι n *ᴱ ν j *ᴱ ν d) (omega arith);
     }
+
+-- three fractions at 16
+pub record Worths (f : Fractions) (n : Numbers) : Type 0 where
+  pub x : Worth (f .x) 16 (n .x)
+  pub y : Worth (f .y) 16 (n .y)
+  pub z : Worth (f .z) 16 (n .z)
+
+pub over16-worth : (n : Numbers) → Worths (over16 n) n
+over16-worth n = record { x = record { is = refl }; y = record { is = refl }; z = record { is = refl } }
 
 -- order: a positive factor may be put in or left out
 factor : (c : ℕ) → 0 < c → (a b : ℤ) → (a ≤ℤ b) ↔ ((a *ℤ pos c) ≤ℤ (b *ℤ pos c))
@@ -131,7 +141,8 @@ same-gap a b c d e = (λ h. le-by c d (omega (arith, le-of a b h)), λ h. le-by 
 -- a halfspace at a point, by whole numbers
 pub halfspace-at : (h : Halfspace) (q : Point) (o : Common q)
     → HoldsAt h q
-    ↔ ((pos 0 *ℤ pos (o .k)) ≤ℤ (h .offset *ℤ pos (o .k) +ℤ h .coefficient 0 *ℤ o .x +ℤ h .coefficient 1 *ℤ o .y +ℤ h .coefficient 2 *ℤ o .z +ℤ h .coefficient 3 *ℤ o .t))
+    ↔ ((pos 0 *ℤ pos (o .k))
+    ≤ℤ (h .offset *ℤ pos (o .k) +ℤ h .coefficient 0 *ℤ o .x +ℤ h .coefficient 1 *ℤ o .y +ℤ h .coefficient 2 *ℤ o .z +ℤ h .coefficient 3 *ℤ o .t))
 halfspace-at h q o =
     worth-le (o .proper) (worth-whole (pos 0) (o .k))
     (worth-add

@@ -5,7 +5,8 @@ use mathlib.Core.Path.{_≡_, refl, sym, ap, _∙_, subst}
 use mathlib.Core.Logic.{_⊎_, inl, inr}
 use mathlib.Core.Bool.{Bool, true, false, _&&_, _||_, Bool·beq, true≢false}
 use Prim.Native.Nat.{ℕ, zero, suc, _+_, _*_, _/_, _%_, _^_, _≤_, _<_, zero-le}
-use native.Mathlib.Nat.{add-zero, zero-mul, mul-one, mul-pos, mul-assoc, mul-right-comm, eq-of-mul-eq-mul-right, mul-lt-mul-of-pos-right, mul-div-cancel, mul-mod-left, div-add-mod', lt-of-le-of-lt, lt-of-lt-of-le, le-trans, not-suc-le-zero, le-of-suc-le-suc}
+use native.Mathlib.Nat.{add-zero, zero-mul, mul-one, mul-pos, mul-assoc, mul-right-comm, eq-of-mul-eq-mul-right, mul-lt-mul-of-pos-right}
+use native.Mathlib.Nat.{mul-div-cancel, mul-mod-left, div-add-mod', lt-of-le-of-lt, lt-of-lt-of-le, le-trans, not-suc-le-zero, le-of-suc-le-suc}
 use native.Mathlib.Omega.{arith}
 use lib.Dec.{T, leb, ltb, eqb, leb→le, le→leb, lt→ltb, eqb→eq, lit≤, lit<}
 use lib.IntN.{ℤ, pos, negsuc, negℤ, natAbs}
@@ -18,7 +19,7 @@ use lib.Ieee.Exact.{HasValue, round-exact}
 use lib.Ieee.Back.{round-whole, positive-back, negative-back}
 use lib.Ieee.Scale.{round-same}
 use borrow.Author.Tests.{ltb-false, le-ltb}
-use Rattle.standin.specs.Sixteenths.{signed, sixteenths, isTaken}
+use Rattle.standin.specs.Sixteenths.{withSign, sixteenths, isTaken}
 use Rattle.standin.specs.Held.{isLimit, held, scaledOf}
 use Rattle.standin.specs.declared.Scaled.{Scaled}
 
@@ -44,7 +45,9 @@ times16-is s m e n h =
 -- n / 16 is a float
 sixteenth-value : (s : Bool) (n : ℕ) → n < 2 ^ 53 → HasValue (round binary64 s n 16) s n 16
 sixteenth-value s n h =
-    round-exact binary64 s n 16 n 1070 (lit< tt) h (lt-of-lt-of-le (shl-lt 53 1070 h) (pow-mono {i = 1123} {j = 2098} (lit≤ tt))) (sym (mul-assoc n (2 ^ 1070) 16))
+    round-exact binary64 s n 16 n 1070 (lit< tt) h
+    (lt-of-lt-of-le (shl-lt 53 1070 h) (pow-mono {i = 1123} {j = 2098} (lit≤ tt)))
+    (sym (mul-assoc n (2 ^ 1070) 16))
 
 over16-of : (x : Float) (s : Bool) (n : ℕ) → n < 2 ^ 53 → HasValue x s n 1 → HasValue (mul binary64 x (fin false 1 (negsuc 3))) s n 16
 unfolding mul
@@ -104,10 +107,10 @@ abbrev negative? : ℤ → Bool
 negative? (pos n) = false
 negative? (negsuc n) = true
 
-pub size-signed : (s : Bool) (n : ℕ) → natAbs (signed s n) ≡ n
-size-signed false n = refl
-size-signed true zero = refl
-size-signed true (suc n) = refl
+pub size-with-sign : (s : Bool) (n : ℕ) → natAbs (withSign s n) ≡ n
+size-with-sign false n = refl
+size-with-sign true zero = refl
+size-with-sign true (suc n) = refl
 
 over16-value : (n : ℤ) → natAbs n < 2 ^ 53 → HasValue (over16 n) (negative? n) (natAbs n) 16
 unfolding ofInt
@@ -127,7 +130,7 @@ within (negsuc n) zero a b = absurd (true≢false b)
 within (negsuc n) (suc l) a b = omega (arith, ltb-false l n b)
 
 -- the sign, by the library's equality of floats, which takes −0.0 for 0.0
-sign-of : (n : ℤ) (s : Bool) (A : ℕ) → T (Bool·beq (negative? n) s || eqb A 0) → (A ≡ 0 → natAbs n ≡ 0) → n ≡ signed s (natAbs n)
+sign-of : (n : ℤ) (s : Bool) (A : ℕ) → T (Bool·beq (negative? n) s || eqb A 0) → (A ≡ 0 → natAbs n ≡ 0) → n ≡ withSign s (natAbs n)
 sign-of (pos n) false A t h = refl
 sign-of (pos n) true A t h = subst (λ (k : ℕ). pos k ≡ negℤ (pos k)) (sym (h (eqb→eq A 0 t))) refl
 sign-of (negsuc n) true A t h = refl
@@ -154,7 +157,8 @@ pub not-taken-is : (x : Float) (l : ℤ) → isTaken (natAbs l) x ≡ false → 
 unfolding held
 not-taken-is x l t = rw t
 
-sound-fin : (b : Float) (n : ℤ) (s : Bool) (m : ℕ) (e : ℤ) (l : ℤ) → HasValue b (negative? n) (natAbs n) 16 → natAbs n ≤ natAbs l → T (eq b (fin s m e)) → some n ≡ scaledOf (fin s m e) l
+sound-fin : (b : Float) (n : ℤ) (s : Bool) (m : ℕ) (e : ℤ) (l : ℤ) → HasValue b (negative? n) (natAbs n) 16 → natAbs n ≤ natAbs l
+    → T (eq b (fin s m e)) → some n ≡ scaledOf (fin s m e) l
 unfolding eq sixteenths isTaken
 sound-fin nan n s m e l v k t = absurd v
 sound-fin (inf u) n s m e l v k t = absurd v
@@ -165,9 +169,9 @@ sound-fin (fin u p j) n s m e l v k t =
     let sign : T (Bool·beq u s || eqb A 0) = and-r (eqb A B) (Bool·beq u s || eqb A 0) t in
     let g : m * up e * 16 ≡ natAbs n * down e = same-to-taken (p * up j) (down j) (m * up e) (down e) (natAbs n) (down-pos j) (v .1) same in
     let zero? : A ≡ 0 → natAbs n ≡ 0 = zero-to-zero (p * up j) (down j) (down e) (natAbs n) (down-pos j) (down-pos e) (v .1) in
-    let w : n ≡ signed s (natAbs n) = sign-of n s A (subst (λ (x : Bool). T (Bool·beq x s || eqb A 0)) (v .0) sign) zero? in
+    let w : n ≡ withSign s (natAbs n) = sign-of n s A (subst (λ (x : Bool). T (Bool·beq x s || eqb A 0)) (v .0) sign) zero? in
     taken-is (fin s m e) l n (test-of (m * up e) (down e) (natAbs n) (natAbs l) (down-pos e) g k)
-    (ap (signed s) (quotient-is (m * up e) (down e) (natAbs n) (down-pos e) g) ∙ sym w)
+    (ap (withSign s) (quotient-is (m * up e) (down e) (natAbs n) (down-pos e) g) ∙ sym w)
 
 sound-any : (b x : Float) (n l : ℤ) → HasValue b (negative? n) (natAbs n) 16 → natAbs n ≤ natAbs l → T (eq b x) → some n ≡ scaledOf x l
 unfolding eq
@@ -231,19 +235,19 @@ below-high (fin true p k) s n h v = lt→ltb 0 (p * up k * 1 + 2 ^ 63 * down k) 
 small : (n : ℕ) → n ≤ 65536 → n ≤ 2 ^ 53
 small n h = omega arith
 
-cut : (s : Bool) (n : ℕ) → n ≤ 65536 → toSigned 63 (round binary64 s n 1) ≡ signed s n
+cut : (s : Bool) (n : ℕ) → n ≤ 65536 → toSigned 63 (round binary64 s n 1) ≡ withSign s n
 unfolding ofInt inFloat toSigned round
 cut false n h = positive-back binary64 63 n (le→leb n (2 ^ 53) (small n h)) (lt-of-le-of-lt h (lit< {n = 2 ^ 63} tt)) .1
 cut true zero h = refl
 cut true (suc n) h = negative-back binary64 63 n (le→leb (suc n) (2 ^ 53) (small (suc n) h)) (le-trans h (lit≤ {n = 2 ^ 63} tt)) .1
 
 -- the limit
-most-of : (s : Bool) (n l : ℕ) → n ≤ l → ltZ (pos l) (signed s n) ≡ false
+most-of : (s : Bool) (n l : ℕ) → n ≤ l → ltZ (pos l) (withSign s n) ≡ false
 most-of false n l h = le-ltb l n h
 most-of true zero l h = le-ltb l 0 h
 most-of true (suc n) l h = refl
 
-least-of : (s : Bool) (n l : ℕ) → n ≤ l → ltZ (signed s n) (negℤ (pos l)) ≡ false
+least-of : (s : Bool) (n l : ℕ) → n ≤ l → ltZ (withSign s n) (negℤ (pos l)) ≡ false
 least-of false n zero h = le-ltb n 0 zero-le
 least-of false n (suc l) h = refl
 least-of true zero zero h = refl
@@ -252,12 +256,12 @@ least-of true (suc n) zero h = absurd (not-suc-le-zero h)
 least-of true (suc n) (suc l) h = le-ltb l n (le-of-suc-le-suc h)
 
 -- back again
-sign-same : (s : Bool) (n A : ℕ) → (n ≡ 0 → A ≡ 0) → T (Bool·beq (negative? (signed s n)) s || eqb A 0)
+sign-same : (s : Bool) (n A : ℕ) → (n ≡ 0 → A ≡ 0) → T (Bool·beq (negative? (withSign s n)) s || eqb A 0)
 sign-same false n A h = tt
 sign-same true zero A h = eq→eqb (h refl)
 sign-same true (suc n) A h = tt
 
-back-same : (b : Float) (s : Bool) (m : ℕ) (e : ℤ) (n : ℕ) → HasValue b (negative? (signed s n)) n 16 → m * up e * 16 ≡ n * down e → T (eq b (fin s m e))
+back-same : (b : Float) (s : Bool) (m : ℕ) (e : ℤ) (n : ℕ) → HasValue b (negative? (withSign s n)) n 16 → m * up e * 16 ≡ n * down e → T (eq b (fin s m e))
 unfolding eq
 back-same nan s m e n v h = absurd v
 back-same (inf u) s m e n v h = absurd v
@@ -273,16 +277,16 @@ passes-fin s m e n l h k b =
     let N : n ≤ 65536 = le-trans k b in
     let y : times16 x ≡ round binary64 s n 1 = times16-is s m e n h in
     let v : HasValue (times16 x) s n 1 = subst (λ (f : Float). HasValue f s n 1) (sym y) (round-whole binary64 s n (small n N)) in
-    let z : toSigned 63 (times16 x) ≡ signed s n = ap (toSigned 63) y ∙ cut s n N in
-    let w : HasValue (over16 (signed s n)) (negative? (signed s n)) n 16 =
-    subst (λ (a : ℕ). HasValue (over16 (signed s n)) (negative? (signed s n)) a 16) (size-signed s n)
-    (over16-value (signed s n) (subst (λ (a : ℕ). a < 2 ^ 53) (sym (size-signed s n)) (under n l k b))) in
+    let z : toSigned 63 (times16 x) ≡ withSign s n = ap (toSigned 63) y ∙ cut s n N in
+    let w : HasValue (over16 (withSign s n)) (negative? (withSign s n)) n 16 =
+    subst (λ (a : ℕ). HasValue (over16 (withSign s n)) (negative? (withSign s n)) a 16) (size-with-sign s n)
+    (over16-value (withSign s n) (subst (λ (a : ℕ). a < 2 ^ 53) (sym (size-with-sign s n)) (under n l k b))) in
     record {
       low = is-true (le (fin true 1 (pos 63)) (times16 x)) (above-low (times16 x) s n N v);
       high = is-true (lt (times16 x) (fin false 1 (pos 63))) (below-high (times16 x) s n N v);
       most = ap (λ (q : ℤ). ltZ (pos l) q) z ∙ most-of s n l k;
       least = ap (λ (q : ℤ). ltZ q (negℤ (pos l))) z ∙ least-of s n l k;
-      same = ap (λ (q : ℤ). eq (over16 q) x) z ∙ is-true (eq (over16 (signed s n)) x) (back-same (over16 (signed s n)) s m e n w h);
+      same = ap (λ (q : ℤ). eq (over16 q) x) z ∙ is-true (eq (over16 (withSign s n)) x) (back-same (over16 (withSign s n)) s m e n w h);
     }
 
 -- either x is not taken, or every test passes

@@ -1,4 +1,5 @@
--- What a float, a row, a Box and a Cut say of a point in space and time, in fractions of whole numbers, with no rounding anywhere.
+-- What a float, a row, a Box and a Cut say of a point in space and time, in fractions of whole numbers, with no
+-- rounding anywhere.
 use Prim.Native.Nat.{ℕ, _+_, _*_, _<_, _≤_}
 use mathlib.Core.Path.{_≡_}
 use mathlib.Core.Bool.{Bool, true, false}
@@ -14,7 +15,8 @@ use Rattle.csg.specs.Halfspace.{Halfspace}
 use Rattle.standin.specs.declared.Triple.{Triple}
 use Rattle.standin.specs.declared.Corners.{Corners}
 use Rattle.standin.specs.declared.Plane.{Plane}
-use Rattle.standin.specs.Sixteenths.{signed, cornerLimit, normalLimit}
+use Rattle.standin.specs.declared.Numbers.{Numbers}
+use Rattle.standin.specs.Sixteenths.{withSign, cornerLimit, normalLimit}
 
 -- numerator / denominator
 pub record Fraction : Type 0 where
@@ -38,7 +40,12 @@ a ⊕ b =
     }
 
 abbrev pub _⊗_ : Fraction → Fraction → Fraction
-a ⊗ b = record { numerator = a .numerator *ℤ b .numerator; denominator = a .denominator * b .denominator; proper = mul-pos (a .proper) (b .proper) }
+a ⊗ b =
+    record {
+      numerator = a .numerator *ℤ b .numerator;
+      denominator = a .denominator * b .denominator;
+      proper = mul-pos (a .proper) (b .proper);
+    }
 
 abbrev pub _⊖_ : Fraction → Fraction → Fraction
 a ⊖ b = a ⊕ whole (negℤ (pos 1)) ⊗ b
@@ -55,7 +62,22 @@ isFinite (fin s m e) = true
 abbrev pub value : Float → Fraction
 value nan = whole (pos 0)
 value (inf s) = whole (pos 0)
-value (fin s m e) = record { numerator = signed s (m * up e); denominator = down e; proper = down-pos e }
+value (fin s m e) = record { numerator = withSign s (m * up e); denominator = down e; proper = down-pos e }
+
+-- three fractions: the values of three floats, and three numbers of sixteenths
+pub record Fractions : Type 0 where
+  pub x : Fraction
+  pub y : Fraction
+  pub z : Fraction
+
+abbrev pub valuesOf : Triple → Fractions
+valuesOf p = record { x = value (p .x); y = value (p .y); z = value (p .z) }
+
+abbrev pub sixteenth : ℤ → Fraction
+sixteenth n = record { numerator = n; denominator = 16; proper = lit< tt }
+
+abbrev pub over16 : Numbers → Fractions
+over16 n = record { x = sixteenth (n .x); y = sixteenth (n .y); z = sixteenth (n .z) }
 
 -- "a finite multiple of 1/16": there is a whole number n with 16·value = n; at most `limit` sixteenths in size
 pub record Multiple (limit : ℕ) (x : Float) : Type 0 where
@@ -99,7 +121,13 @@ abbrev pub middle : ℕ → Fraction
 middle c = record { numerator = pos (2 * c + 1); denominator = 2; proper = lit< tt }
 
 abbrev pub centre : List ℕ → Point
-centre c = record { x = middle (placeAlong c 0); y = middle (placeAlong c 1); z = middle (placeAlong c 2); t = middle (placeAlong c 3) }
+centre c =
+    record {
+      x = middle (placeAlong c 0);
+      y = middle (placeAlong c 1);
+      z = middle (placeAlong c 2);
+      t = middle (placeAlong c 3);
+    }
 
 -- "It holds at a point where a0 + Σ ai·xi ≥ 0."
 abbrev pub HoldsAt : Halfspace → Point → Type 0
@@ -109,15 +137,22 @@ HoldsAt h q =
     ⊕ whole (h .coefficient 2) ⊗ q .z ⊕ whole (h .coefficient 3) ⊗ q .t
 
 -- "At time t the proxy has moved t·v.": from near + t·v to far + t·v
-pub record Between (near far v : Float) (x t : Fraction) : Type 0 where
-  pub low : value near ⊕ t ⊗ value v ≼ x
-  pub high : x ≼ value far ⊕ t ⊗ value v
+pub record Between (near far v x t : Fraction) : Type 0 where
+  pub low : near ⊕ t ⊗ v ≼ x
+  pub high : x ≼ far ⊕ t ⊗ v
 
--- the displaced Box holds the point
-pub record BoxHolds (c : Corners) (v : Triple) (q : Point) : Type 0 where
-  pub x : Between (c .near .x) (c .far .x) (v .x) (q .x) (q .t)
-  pub y : Between (c .near .y) (c .far .y) (v .y) (q .y) (q .t)
-  pub z : Between (c .near .z) (c .far .z) (v .z) (q .z) (q .t)
+-- on each axis of space
+pub record AllBetween (near far v : Fractions) (q : Point) : Type 0 where
+  pub x : Between (near .x) (far .x) (v .x) (q .x) (q .t)
+  pub y : Between (near .y) (far .y) (v .y) (q .y) (q .t)
+  pub z : Between (near .z) (far .z) (v .z) (q .z) (q .t)
+
+-- the displaced Box holds the point: a Box in floats, and one in sixteenths
+abbrev pub BoxHolds : Corners → Triple → Point → Type 0
+BoxHolds c v q = AllBetween (valuesOf (c .near)) (valuesOf (c .far)) (valuesOf v) q
+
+abbrev pub SixteenthsHold : Numbers → Numbers → Numbers → Point → Type 0
+SixteenthsHold near far v q = AllBetween (over16 near) (over16 far) (over16 v) q
 
 -- n·(x − t·v) + c ≥ 0
 abbrev pub CutHolds : Plane → Triple → Point → Type 0

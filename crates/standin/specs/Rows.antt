@@ -1,30 +1,45 @@
 -- Document 01, "Stand-in proxies": which proxies are refused, and the rows of a Box and of a Cut.
-use Prim.Native.Nat.{ℕ}
+use Prim.Native.Nat.{ℕ, zero, suc}
 use mathlib.Core.Bool.{Bool, cond, _&&_}
 use mathlib.Core.List.{List, [], _∷_}
 use lib.IntN.{ℤ, pos, negsuc, negℤ, _+ℤ_, _*ℤ_}
 use lib.Signed.{leZ}
 use Rattle.universe.specs.Refusals.{unless}
+use Rattle.universe.specs.Universe.{offsetLimit, coefficientLimit}
 use Rattle.standin.specs.declared.Triple.{Triple}
 use Rattle.standin.specs.declared.Corners.{Corners}
 use Rattle.standin.specs.declared.Plane.{Plane}
 use Rattle.standin.specs.declared.Solid.{Solid}
 use Rattle.standin.specs.declared.Solid.the-variants.{Box, Cut}
 use Rattle.standin.specs.declared.Proxy.{Proxy}
+use Rattle.standin.specs.declared.Numbers.{Numbers}
+use Rattle.standin.specs.declared.ScaledTriple.{ScaledTriple}
 use Rattle.standin.specs.Sixteenths.{sixteenths, isTaken, cornerLimit, normalLimit}
+
+-- "For d = 4.": three axes of space, and time
+abbrev pub proxyAxes : ℕ
+proxyAxes = 4
 
 -- each number of a corner, normal or displacement by itself
 unfoldable pub takesTriple : ℕ → Triple → Bool
 takesTriple limit p = isTaken limit (p .x) && isTaken limit (p .y) && isTaken limit (p .z)
 
 -- the three numbers of a corner, normal or displacement, in sixteenths
-pub record Numbers : Type 0 where
-  pub x : ℤ
-  pub y : ℤ
-  pub z : ℤ
-
 abbrev pub numbersOf : Triple → Numbers
 numbersOf p = record { x = sixteenths (p .x); y = sixteenths (p .y); z = sixteenths (p .z) }
+
+-- one number on each axis
+abbrev pub alike : ℤ → Numbers
+alike n = record { x = n; y = n; z = n }
+
+-- a triple in sixteenths where each number is taken, else zeros
+unfoldable pub scaledTriple : ℕ → Triple → ScaledTriple
+scaledTriple limit p =
+    let good = takesTriple limit p in
+    record { taken = good; numbers = cond good (numbersOf p) (alike (pos 0)) }
+
+abbrev pub cornerSixteenths : Triple → ScaledTriple
+cornerSixteenths corner = scaledTriple cornerLimit corner
 
 -- "Near ≤ far on each axis; equality is accepted."
 abbrev pub atMost : Numbers → Numbers → Bool
@@ -35,7 +50,8 @@ inOrder c = atMost (numbersOf (c .near)) (numbersOf (c .far))
 
 -- a Box and a Cut all of whose numbers are taken
 unfoldable pub takesBox : Corners → Triple → Bool
-takesBox c v = takesTriple cornerLimit (c .near) && takesTriple cornerLimit (c .far) && takesTriple normalLimit v && inOrder c
+takesBox c v =
+    takesTriple cornerLimit (c .near) && takesTriple cornerLimit (c .far) && takesTriple normalLimit v && inOrder c
 
 unfoldable pub takesCut : Plane → Triple → Bool
 takesCut p v = takesTriple normalLimit (p .normal) && isTaken cornerLimit (p .offset) && takesTriple normalLimit v
@@ -58,19 +74,48 @@ zeroRow = row (pos 0) (pos 0) (pos 0) (pos 0) (pos 0)
 abbrev pub zeroRows : List (List ℤ)
 zeroRows = zeroRow ∷ zeroRow ∷ zeroRow ∷ zeroRow ∷ zeroRow ∷ zeroRow ∷ []
 
--- "The x near row is (−16·near, 16, 0, 0, −16·v); the x far row is (16·far, −16, 0, 0, 16·v)", "x near, x far, then y, then z"
+-- what belongs to axis 0, 1 or 2 of space
+abbrev pub along : {A : Type 0} → ℕ → A → A → A → A
+along zero x y z = x
+along (suc zero) x y z = y
+along (suc (suc axis)) x y z = z
+
+-- a row with a number for one axis of space and 0 for the two others
+abbrev pub rowAlong : ℕ → ℤ → ℤ → ℤ → List ℤ
+rowAlong axis a0 n a4 =
+    row a0 (along axis n (pos 0) (pos 0)) (along axis (pos 0) n (pos 0)) (along axis (pos 0) (pos 0) n) a4
+
+-- "The x near row is (−16·near, 16, 0, 0, −16·v); the x far row is (16·far, −16, 0, 0, 16·v)", by sixteenths
+abbrev pub nearRow : ℕ → ℤ → ℤ → List ℤ
+nearRow axis near v = rowAlong axis (negℤ near) (pos 16) (negℤ v)
+
+abbrev pub farRow : ℕ → ℤ → ℤ → List ℤ
+farRow axis far v = rowAlong axis far (negsuc 15) v
+
+-- "x near, x far, then y, then z"
 abbrev pub rowsBetween : Numbers → Numbers → Numbers → List (List ℤ)
 rowsBetween near far v =
-    row (negℤ (near .x)) (pos 16) (pos 0) (pos 0) (negℤ (v .x))
-    ∷ row (far .x) (negsuc 15) (pos 0) (pos 0) (v .x)
-    ∷ row (negℤ (near .y)) (pos 0) (pos 16) (pos 0) (negℤ (v .y))
-    ∷ row (far .y) (pos 0) (negsuc 15) (pos 0) (v .y)
-    ∷ row (negℤ (near .z)) (pos 0) (pos 0) (pos 16) (negℤ (v .z))
-    ∷ row (far .z) (pos 0) (pos 0) (negsuc 15) (v .z)
+    nearRow 0 (near .x) (v .x)
+    ∷ farRow 0 (far .x) (v .x)
+    ∷ nearRow 1 (near .y) (v .y)
+    ∷ farRow 1 (far .y) (v .y)
+    ∷ nearRow 2 (near .z) (v .z)
+    ∷ farRow 2 (far .z) (v .z)
     ∷ []
 
 unfoldable pub rowsOfBox : Corners → Triple → List (List ℤ)
 rowsOfBox c v = rowsBetween (numbersOf (c .near)) (numbersOf (c .far)) (numbersOf v)
+
+-- each number is from −limit to limit
+unfoldable pub isLimited : ℕ → Numbers → Bool
+isLimited limit n = atMost (alike (negℤ (pos limit))) n && atMost n (alike (pos limit))
+
+-- the rows between any two corners in sixteenths; zeros where a row would exceed a limit of halfspaces
+unfoldable pub rowsWithin : Numbers → Numbers → Numbers → List (List ℤ)
+rowsWithin near far v =
+    cond (isLimited offsetLimit near && isLimited offsetLimit far && isLimited coefficientLimit v)
+    (rowsBetween near far v)
+    zeroRows
 
 -- 256·n·v
 unfoldable pub dot : Numbers → Numbers → ℤ

@@ -1,11 +1,17 @@
 // Stand-in proxies in floats become rows, in two steps: floats to sixteenths, sixteenths to rows.
+use universe::Universe;
 ghost use mathlib.Core.Path.{_≡_};
 ghost use Prim.Native.Nat.{_≤_};
 ghost use lib.Dec.{T};
-ghost use lib.IntN.{natAbs};
+ghost use lib.IntN.{pos, natAbs};
+ghost use lib.Signed.{leZ};
+ghost use Rattle.universe.specs.Universe.{offsetLimit, coefficientLimit};
 ghost use Rattle.standin.specs.Sixteenths.{cornerLimit, normalLimit};
-ghost use Rattle.standin.specs.Held.{isLimit, scaledOf, scaledTriple, scaledBox, scaledCut, Within, ordered, negatedTriple, dotOf, sixRows, oneRow};
+ghost use Rattle.standin.specs.Rows.{alike, atMost, dot, rowAcross, rowsBetween, isLimited, rowsWithin};
+ghost use Rattle.standin.specs.Rows.{scaledTriple, cornerSixteenths};
 ghost use Rattle.standin.specs.Rows.{proxyRefusal, boxRowCount, boxRows, cutRowCount, cutRow};
+ghost use Rattle.standin.specs.Held.{isLimit, scaledOf, scaledBox, scaledCut, heldBox, heldCut};
+ghost use Rattle.standin.specs.Held.{Limited, negatedNumbers};
 
 // A corner, a normal or a displacement.
 pub struct Triple {
@@ -46,33 +52,38 @@ impl Proxy {
     pub const NORMAL_LIMIT: i64 = 1_024;
 }
 
+// Three numbers in sixteenths.
+pub struct Numbers {
+    pub x: i64,
+    pub y: i64,
+    pub z: i64,
+}
+
+// A triple in sixteenths; zeros where not all three are taken.
+pub struct ScaledTriple {
+    pub taken: bool,
+    pub numbers: Numbers,
+}
+
 // One number in sixteenths; 0 where it is not taken.
 struct Scaled {
     taken: bool,
     count: i64,
 }
 
-// A triple in sixteenths.
-struct ScaledTriple {
-    taken: bool,
-    x: i64,
-    y: i64,
-    z: i64,
-}
-
 // A Box and a Cut in sixteenths, each with its displacement.
 struct ScaledBox {
     taken: bool,
-    near: ScaledTriple,
-    far: ScaledTriple,
-    displacement: ScaledTriple,
+    near: Numbers,
+    far: Numbers,
+    displacement: Numbers,
 }
 
 struct ScaledCut {
     taken: bool,
-    normal: ScaledTriple,
+    normal: Numbers,
     offset: i64,
-    displacement: ScaledTriple,
+    displacement: Numbers,
 }
 
 // The first step. 16·x is cut to a whole number, which is taken if it is within the limit and over 16 gives x back.
@@ -107,25 +118,42 @@ fn scale(x: f64, limit: i64) -> Scaled
     none
 }
 
+// One number three times.
+fn alike(n: i64) -> Numbers
+    ensures { λ r. ⌜ r ≡ alike n ⌝ }
+{
+    Numbers { x: n, y: n, z: n }
+}
+
 // The three numbers of a triple.
 fn scale_triple(triple: Triple, limit: i64) -> ScaledTriple
     requires { ⌜ T (isLimit limit) ⌝ }
-    ensures { λ r. ⌜ r ≡ scaledTriple triple limit ⌝ }
+    ensures { λ r. ⌜ r ≡ scaledTriple (natAbs limit) triple ⌝ }
 {
     let x = scale(triple.x, limit);
     let y = scale(triple.y, limit);
     let z = scale(triple.z, limit);
+    if x.taken & y.taken & z.taken {
+        let numbers = Numbers {
+            x: x.count,
+            y: y.count,
+            z: z.count,
+        };
+        return ScaledTriple {
+            taken: true,
+            numbers: numbers,
+        };
+    }
+    let none = alike(0);
     ScaledTriple {
-        taken: x.taken & y.taken & z.taken,
-        x: x.count,
-        y: y.count,
-        z: z.count,
+        taken: false,
+        numbers: none,
     }
 }
 
 // Whether a ≤ b on each axis.
-fn in_order(a: ScaledTriple, b: ScaledTriple) -> bool
-    ensures { λ r. ⌜ r ≡ ordered a b ⌝ }
+fn in_order(a: Numbers, b: Numbers) -> bool
+    ensures { λ r. ⌜ r ≡ atMost a b ⌝ }
 {
     (a.x <= b.x) & (a.y <= b.y) & (a.z <= b.z)
 }
@@ -134,12 +162,15 @@ fn in_order(a: ScaledTriple, b: ScaledTriple) -> bool
 fn scale_box(corners: Corners, displacement: Triple) -> ScaledBox
     ensures { λ r. ⌜ r ≡ scaledBox corners displacement ⌝ }
 {
-    let near = scale_triple(corners.near, Proxy::CORNER_LIMIT);
-    let far = scale_triple(corners.far, Proxy::CORNER_LIMIT);
-    let step = scale_triple(displacement, Proxy::NORMAL_LIMIT);
+    let scaled_near = scale_triple(corners.near, Proxy::CORNER_LIMIT);
+    let scaled_far = scale_triple(corners.far, Proxy::CORNER_LIMIT);
+    let scaled_step = scale_triple(displacement, Proxy::NORMAL_LIMIT);
+    let near = scaled_near.numbers;
+    let far = scaled_far.numbers;
+    let step = scaled_step.numbers;
     let order = in_order(near, far);
     ScaledBox {
-        taken: near.taken & far.taken & step.taken & order,
+        taken: scaled_near.taken & scaled_far.taken & scaled_step.taken & order,
         near: near,
         far: far,
         displacement: step,
@@ -150,24 +181,65 @@ fn scale_box(corners: Corners, displacement: Triple) -> ScaledBox
 fn scale_cut(plane: Plane, displacement: Triple) -> ScaledCut
     ensures { λ r. ⌜ r ≡ scaledCut plane displacement ⌝ }
 {
-    let normal = scale_triple(plane.normal, Proxy::NORMAL_LIMIT);
+    let scaled_normal = scale_triple(plane.normal, Proxy::NORMAL_LIMIT);
     let offset = scale(plane.offset, Proxy::CORNER_LIMIT);
-    let step = scale_triple(displacement, Proxy::NORMAL_LIMIT);
+    let scaled_step = scale_triple(displacement, Proxy::NORMAL_LIMIT);
+    let normal = scaled_normal.numbers;
+    let step = scaled_step.numbers;
     ScaledCut {
-        taken: normal.taken & offset.taken & step.taken,
+        taken: scaled_normal.taken & offset.taken & scaled_step.taken,
         normal: normal,
         offset: offset.count,
         displacement: step,
     }
 }
 
-// The second step. A triple negated.
-fn negate(a: ScaledTriple) -> ScaledTriple
-    requires { ⌜ Within cornerLimit a ⌝ }
-    ensures { λ r. ⌜ r ≡ negatedTriple a ⌝ }
+// What a proxy holds of a Box: nothing is taken of a Cut.
+fn held_box(proxy: Proxy) -> ScaledBox
+    ensures { λ r. ⌜ r ≡ heldBox proxy ⌝ }
 {
-    ScaledTriple {
-        taken: a.taken,
+    let solid = proxy.solid;
+    let displacement = proxy.displacement;
+    match solid {
+        Solid::Box(corners) => scale_box(corners, displacement),
+        Solid::Cut(_) => {
+            let none = alike(0);
+            ScaledBox {
+                taken: false,
+                near: none,
+                far: none,
+                displacement: none,
+            }
+        }
+    }
+}
+
+// What a proxy holds of a Cut: nothing is taken of a Box.
+fn held_cut(proxy: Proxy) -> ScaledCut
+    ensures { λ r. ⌜ r ≡ heldCut proxy ⌝ }
+{
+    let solid = proxy.solid;
+    let displacement = proxy.displacement;
+    match solid {
+        Solid::Box(_) => {
+            let none = alike(0);
+            ScaledCut {
+                taken: false,
+                normal: none,
+                offset: 0,
+                displacement: none,
+            }
+        }
+        Solid::Cut(plane) => scale_cut(plane, displacement),
+    }
+}
+
+// The second step. Three numbers negated.
+fn negate(a: Numbers) -> Numbers
+    requires { ⌜ Limited offsetLimit a ⌝ }
+    ensures { λ r. ⌜ r ≡ negatedNumbers a ⌝ }
+{
+    Numbers {
         x: 0 - a.x,
         y: 0 - a.y,
         z: 0 - a.z,
@@ -175,11 +247,11 @@ fn negate(a: ScaledTriple) -> ScaledTriple
 }
 
 // The six rows of a Box.
-fn six_rows(near: ScaledTriple, far: ScaledTriple, step: ScaledTriple) -> [[i64; 5]; 6]
-    requires { ⌜ Within cornerLimit near ⌝ }
-    requires { ⌜ Within cornerLimit far ⌝ }
-    requires { ⌜ Within normalLimit step ⌝ }
-    ensures { λ r. ⌜ r ≡ sixRows near far step ⌝ }
+fn six_rows(near: Numbers, far: Numbers, step: Numbers) -> [[i64; 5]; 6]
+    requires { ⌜ Limited offsetLimit near ⌝ }
+    requires { ⌜ Limited offsetLimit far ⌝ }
+    requires { ⌜ Limited coefficientLimit step ⌝ }
+    ensures { λ r. ⌜ r ≡ rowsBetween near far step ⌝ }
 {
     let less = negate(near);
     let back = negate(step);
@@ -193,21 +265,21 @@ fn six_rows(near: ScaledTriple, far: ScaledTriple, step: ScaledTriple) -> [[i64;
     ]
 }
 
-// The scalar product of two triples.
-fn dot(a: ScaledTriple, b: ScaledTriple) -> i64
-    requires { ⌜ Within normalLimit a ⌝ }
-    requires { ⌜ Within normalLimit b ⌝ }
-    ensures { λ r. ⌜ r ≡ dotOf a b ⌝ }
+// The scalar product.
+fn dot(a: Numbers, b: Numbers) -> i64
+    requires { ⌜ Limited normalLimit a ⌝ }
+    requires { ⌜ Limited normalLimit b ⌝ }
+    ensures { λ r. ⌜ r ≡ dot a b ⌝ }
 {
     a.x * b.x + a.y * b.y + a.z * b.z
 }
 
 // The row of a Cut.
-fn one_row(normal: ScaledTriple, offset: i64, step: ScaledTriple) -> [i64; 5]
-    requires { ⌜ Within normalLimit normal ⌝ }
+fn one_row(normal: Numbers, offset: i64, step: Numbers) -> [i64; 5]
+    requires { ⌜ Limited normalLimit normal ⌝ }
     requires { ⌜ natAbs offset ≤ cornerLimit ⌝ }
-    requires { ⌜ Within normalLimit step ⌝ }
-    ensures { λ r. ⌜ r ≡ oneRow normal offset step ⌝ }
+    requires { ⌜ Limited normalLimit step ⌝ }
+    ensures { λ r. ⌜ r ≡ rowAcross normal offset step ⌝ }
 {
     let forward = dot(normal, step);
     [
@@ -219,55 +291,45 @@ fn one_row(normal: ScaledTriple, offset: i64, step: ScaledTriple) -> [i64; 5]
     ]
 }
 
+// Whether each number is from −limit to limit.
+fn is_limited(numbers: Numbers, limit: i64) -> bool
+    requires { ⌜ T (leZ (pos 0) limit) ⌝ }
+    ensures { λ r. ⌜ r ≡ isLimited (natAbs limit) numbers ⌝ }
+{
+    let least = alike(0 - limit);
+    let most = alike(limit);
+    in_order(least, numbers) & in_order(numbers, most)
+}
+
 // 10 where a number is no finite multiple of 1/16 within its limit, or near > far; else 0.
 pub fn refusal(proxy: Proxy) -> u64
     ensures { λ r. ⌜ r ≡ proxyRefusal proxy ⌝ }
 {
-    let solid = proxy.solid;
-    let displacement = proxy.displacement;
-    match solid {
-        Solid::Box(corners) => {
-            let scaled = scale_box(corners, displacement);
-            if scaled.taken { 0 } else { 10 }
-        }
-        Solid::Cut(plane) => {
-            let scaled = scale_cut(plane, displacement);
-            if scaled.taken { 0 } else { 10 }
-        }
+    let of_box = held_box(proxy);
+    if of_box.taken {
+        return 0;
     }
+    let of_cut = held_cut(proxy);
+    if of_cut.taken { 0 } else { 10 }
 }
 
 // How many rows `box_rows` gives: 6 for a Box that is not refused, else 0.
 pub fn box_row_count(proxy: Proxy) -> u64
     ensures { λ r. ⌜ r ≡ boxRowCount proxy ⌝ }
 {
-    let solid = proxy.solid;
-    let displacement = proxy.displacement;
-    match solid {
-        Solid::Box(corners) => {
-            let scaled = scale_box(corners, displacement);
-            if scaled.taken { 6 } else { 0 }
-        }
-        Solid::Cut(_) => 0,
-    }
+    let held = held_box(proxy);
+    if held.taken { 6 } else { 0 }
 }
 
 // The six rows of a Box: x near, x far, then y, then z. Zeros where `box_row_count` is 0.
 pub fn box_rows(proxy: Proxy) -> [[i64; 5]; 6]
     ensures { λ r. ⌜ r ≡ boxRows proxy ⌝ }
 {
-    let solid = proxy.solid;
-    let displacement = proxy.displacement;
-    match solid {
-        Solid::Box(corners) => {
-            let scaled = scale_box(corners, displacement);
-            if scaled.taken {
-                six_rows(scaled.near, scaled.far, scaled.displacement)
-            } else {
-                [[0i64; 5]; 6]
-            }
-        }
-        Solid::Cut(_) => [[0i64; 5]; 6],
+    let held = held_box(proxy);
+    if held.taken {
+        six_rows(held.near, held.far, held.displacement)
+    } else {
+        [[0i64; 5]; 6]
     }
 }
 
@@ -275,32 +337,40 @@ pub fn box_rows(proxy: Proxy) -> [[i64; 5]; 6]
 pub fn cut_row_count(proxy: Proxy) -> u64
     ensures { λ r. ⌜ r ≡ cutRowCount proxy ⌝ }
 {
-    let solid = proxy.solid;
-    let displacement = proxy.displacement;
-    match solid {
-        Solid::Box(_) => 0,
-        Solid::Cut(plane) => {
-            let scaled = scale_cut(plane, displacement);
-            if scaled.taken { 1 } else { 0 }
-        }
-    }
+    let held = held_cut(proxy);
+    if held.taken { 1 } else { 0 }
 }
 
 // The one row of a Cut. Zeros where `cut_row_count` is 0.
 pub fn cut_row(proxy: Proxy) -> [i64; 5]
     ensures { λ r. ⌜ r ≡ cutRow proxy ⌝ }
 {
-    let solid = proxy.solid;
-    let displacement = proxy.displacement;
-    match solid {
-        Solid::Box(_) => [0i64; 5],
-        Solid::Cut(plane) => {
-            let scaled = scale_cut(plane, displacement);
-            if scaled.taken {
-                one_row(scaled.normal, scaled.offset, scaled.displacement)
-            } else {
-                [0i64; 5]
-            }
-        }
+    let held = held_cut(proxy);
+    if held.taken {
+        one_row(held.normal, held.offset, held.displacement)
+    } else {
+        [0i64; 5]
+    }
+}
+
+// A corner in sixteenths, where each of its numbers is a finite multiple of 1/16 within a corner's limit.
+pub fn corner_sixteenths(corner: Triple) -> ScaledTriple
+    ensures { λ r. ⌜ r ≡ cornerSixteenths corner ⌝ }
+{
+    scale_triple(corner, Proxy::CORNER_LIMIT)
+}
+
+// The six rows between corners in sixteenths, which need keep no proxy limit; zeros where a row would exceed a
+// halfspace's limits.
+pub fn rows_between(near: Numbers, far: Numbers, displacement: Numbers) -> [[i64; 5]; 6]
+    ensures { λ r. ⌜ r ≡ rowsWithin near far displacement ⌝ }
+{
+    let near_kept = is_limited(near, Universe::OFFSET_LIMIT);
+    let far_kept = is_limited(far, Universe::OFFSET_LIMIT);
+    let step_kept = is_limited(displacement, Universe::COEFFICIENT_LIMIT);
+    if near_kept & far_kept & step_kept {
+        six_rows(near, far, displacement)
+    } else {
+        [[0i64; 5]; 6]
     }
 }

@@ -1,5 +1,6 @@
 // Stand-in proxies on both sides of every limit: a line for each, with what is answered.
 use standin::Corners;
+use standin::Numbers;
 use standin::Plane;
 use standin::Proxy;
 use standin::Solid;
@@ -271,6 +272,65 @@ fn largest() {
     print_row(standin::cut_row(proxy));
 }
 
+// A corner in sixteenths: whether it is taken, and its numbers.
+fn in_sixteenths(name: &[u8], corner: Triple) {
+    let scaled = standin::corner_sixteenths(corner);
+    let numbers = scaled.numbers;
+    io::write_all(1, name);
+    if scaled.taken {
+        io::write_all(1, b" in sixteenths: taken,");
+    } else {
+        io::write_all(1, b" in sixteenths: not taken,");
+    }
+    print_number(numbers.x);
+    print_number(numbers.y);
+    print_number(numbers.z);
+    io::write_all(1, b"\n");
+}
+
+fn corners_in_sixteenths() {
+    in_sixteenths(b"(4096, -4096, 1/16)", triple(4096.0, -4096.0, 0.0625));
+    in_sixteenths(b"(4096 and 1/16, 1, 1)", triple(4096.0625, 1.0, 1.0));
+    in_sixteenths(b"(1, -4096 and -1/16, 1)", triple(1.0, -4096.0625, 1.0));
+    in_sixteenths(b"(1, 1, 1/32)", triple(1.0, 1.0, 0.03125));
+    in_sixteenths(b"(1, NaN, 1)", triple(1.0, 0.0 / 0.0, 1.0));
+    in_sixteenths(b"(infinity, 1, 1)", triple(1.0 / 0.0, 1.0, 1.0));
+    in_sixteenths(b"(-0.0, 2.5, -0.0)", triple(-0.0, 2.5, -0.0));
+}
+
+// The rows between (near, 0, 0) and (0, far, 0), with the displacement (0, 0, v), all in sixteenths.
+fn between(name: &[u8], near: i64, far: i64, v: i64) {
+    let low = Numbers {
+        x: near,
+        y: 0,
+        z: 0,
+    };
+    let high = Numbers { x: 0, y: far, z: 0 };
+    let step = Numbers { x: 0, y: 0, z: v };
+    io::write_all(1, b"Between, ");
+    io::write_all(1, name);
+    io::write_all(1, b"\n");
+    print_six(standin::rows_between(low, high, step));
+}
+
+fn rows_in_sixteenths() {
+    between(
+        b"each number at a halfspace's limit",
+        1099511627776,
+        -1099511627776,
+        16777216,
+    );
+    between(b"near past it", -1099511627777, 0, 0);
+    between(b"far past it", 0, 1099511627777, 0);
+    between(b"step past it", 0, 0, -16777217);
+    between(
+        b"the least i64s",
+        -9223372036854775808,
+        -9223372036854775808,
+        -9223372036854775808,
+    );
+}
+
 fn main() {
     limits();
     numbers();
@@ -278,4 +338,6 @@ fn main() {
     order();
     rows();
     largest();
+    corners_in_sixteenths();
+    rows_in_sixteenths();
 }

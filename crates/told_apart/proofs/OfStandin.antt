@@ -18,3 +18,9 @@ standin-cut-row _ _ _ _ _ _ p q = (same p q, refl)
 
 pub standin-cut-row-count : TellsApart standin.cut_row_count.ended standin.cut_row_count.Reads.Learnt
 standin-cut-row-count _ _ _ _ _ _ p q = (same p q, refl)
+
+pub standin-corner-sixteenths : TellsApart standin.corner_sixteenths.ended standin.corner_sixteenths.Reads.Learnt
+standin-corner-sixteenths _ _ _ _ _ _ p q = (same p q, refl)
+
+pub standin-rows-between : TellsApart standin.rows_between.ended standin.rows_between.Reads.Learnt
+standin-rows-between _ _ _ _ _ _ p q = (same p q, refl)
