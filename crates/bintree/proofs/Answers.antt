@@ -1,166 +1,144 @@
--- The checks of an expression, 2 and then 7, and what they leave of an answer: an accepted universe has at most 40 levels, an accepted expression has
--- its shape, and where a check refuses, the other fields are zero.
+-- What all questions over an expression have in common: the checks 2 and then 7, before what else a question checks, and what they leave of an answer. Then the
+-- answer and the room of a call that writes.
 use mathlib.Core.Path.{_≡_, refl, sym, ap, _∙_}
 use mathlib.Core.List.{List, [], _∷_, _++_}
-use Prim.Native.Nat.{ℕ, _+_, _^_, _≤_, _<_}
-use native.Mathlib.Nat.{mul-le-mul}
-use native.Mathlib.Decide.{ℕ-discrete}
+use Prim.Native.Nat.{ℕ, _*_, _^_, _≤_, _<_}
+use native.Mathlib.Decide.{ℕ-discrete, decLe}
 use native.Mathlib.Omega.{arith}
-use borrow.Author.Tests.{eq-eqb, ne-eqb, le-leb, lt-leb}
+use borrow.Author.Tests.{eq-eqb, ne-eqb}
 use lib.ListN.{length, drop}
 use Rattle.universe.specs.declared.Universe.{Universe}
-use Rattle.universe.specs.Refusals.{firstRefusal}
-use Rattle.universe.specs.Universe.{universeRefusal, levels}
-use Rattle.universe.specs.Voxel.{voxelRefusal}
-use Rattle.universe.proofs.Universes.{accepted}
-use Rattle.bintree.specs.declared.Colour.{Colour}
-use Rattle.bintree.specs.declared.Colour.the-variants.{White}
-use Rattle.bintree.specs.declared.Coloured.{Coloured}
-use Rattle.bintree.specs.declared.Counted.{Counted}
-use Rattle.bintree.specs.declared.Placed.{Placed}
-use Rattle.bintree.specs.Shape.{Shape, symbols, size}
-use Rattle.bintree.specs.Reading.{Reading, none, read, expression}
-use Rattle.bintree.specs.Counts.{volume}
-use Rattle.bintree.specs.Parts.{part, partStart, pathRefusal, colourAt}
-use Rattle.bintree.specs.Answers.{expressionChecks, volumeAnswer, voxelChecks, colourAnswer, pathChecks, placeAnswer, partAnswer, writtenAnswer, writtenBuffer}
-use Rattle.bintree.proofs.Reading.{none-refused, shape-accepted, expression-at, read-is}
-use Rattle.bintree.proofs.Parts.{part-within, part-symbols}
+use Rattle.universe.specs.Lent.{roomRefusal}
+use Rattle.universe.specs.Questions.{levelsAnswer}
+use Rattle.universe.specs.Refusals.{badExpression, firstRefusal}
+use Rattle.universe.specs.Universe.{universeRefusal, levels, mostLevels}
+use Rattle.universe.proofs.Refusing.{last-check}
+use Rattle.universe.proofs.Lent.{untouched, written, room-enough, room-short}
+use Rattle.universe.proofs.Questions.{levels-told, levels-answered}
+use Rattle.bintree.specs.declared.Written.{Written}
+use Rattle.bintree.specs.Shape.{Shape}
+use Rattle.bintree.specs.Reading.{none, read, expression, expressionRefusal}
+use Rattle.bintree.specs.Answers.{unlessRefused, wellFormedRefusal, refusedWriting, shortWriting, doneWriting, writtenAnswer, writtenBuffer}
+use Rattle.bintree.proofs.Reading.{none-refused, shape-accepted}
 
--- the last check is the answer's number where all before it accept
-last-check : (n : ℕ) → firstRefusal (n ∷ []) ≡ n
-last-check n = go (ℕ-discrete n 0)
-  where
-    go : Dec (n ≡ 0) → firstRefusal (n ∷ []) ≡ n
-    go (yes h) = rw (eq-eqb n 0 h) (sym h)
-    go (no h) = rw (ne-eqb n 0 h)
+-- an answer by its number, and its number again
+module _ {A : Type 0} (refused : ℕ → A) (done : A) (n : ℕ) where
+  pub is-refused : (n ≡ 0 → ⊥) → refused n ≡ unlessRefused n refused done
+  is-refused h = rw (ne-eqb n 0 h)
+
+  pub is-done : n ≡ 0 → done ≡ unlessRefused n refused done
+  is-done h = rw (eq-eqb n 0 h)
+
+  pub number-of : (field : A → ℕ) → ((m : ℕ) → field (refused m) ≡ m) → field done ≡ 0 → field (unlessRefused n refused done) ≡ n
+  number-of field e f = go (ℕ-discrete n 0)
+    where
+      go : Dec (n ≡ 0) → field (unlessRefused n refused done) ≡ n
+      go (yes h) = ap field (sym (is-done h)) ∙ f ∙ sym h
+      go (no h) = ap field (sym (is-refused h)) ∙ e n
+
+-- the levels that were asked for are few
+pub levels-most : (u : Universe) (count : ℕ) → count ≡ levelsAnswer u → count ≤ mostLevels
+levels-most u count f = rw f (levels-answered u)
+
+-- a place below them in an array of numbers
+pub place-fits : (u : Universe) (n count : ℕ) → count ≡ levelsAnswer u → n < count → n < mostLevels
+place-fits u n count f h = omega (arith, levels-most u count f)
+
+pub place-room : (u : Universe) (n count : ℕ) → count ≡ levelsAnswer u → n < count → n * 8 < 2 ^ 64
+place-room u n count f h = omega (arith, levels-most u count f)
 
 -- `number` is what the universe's own check gave
 module _ (u : Universe) (number : ℕ) (e : number ≡ universeRefusal u) where
-  pub levels-few : number ≡ 0 → levels u ≤ 40
-  levels-few z = let w = accepted u (sym e ∙ z) in mul-le-mul (w .few-axes) (w .few-bits)
+  pub universe-accepted : number ≡ 0 → universeRefusal u ≡ 0
+  universe-accepted z = sym e ∙ z
 
-  pub levels-fit : number ≡ 0 → levels u < 2 ^ 64
-  levels-fit z = omega (arith, levels-few z)
+  -- its levels, as code asks for them
+  pub asked-levels : (count : ℕ) → number ≡ 0 → count ≡ levelsAnswer u → count ≡ levels u
+  asked-levels count z = levels-told u e z
 
-  -- the checks, by what was read
-  pub checks-universe : (s : List ℕ) → (number ≡ 0 → ⊥) → expressionChecks u s ≡ number
-  checks-universe s n = rw (← e, ne-eqb number 0 n)
+  -- the checks of an expression and those that a question has after them
+  module _ (s more : List ℕ) where
+    first-universe : (number ≡ 0 → ⊥) → firstRefusal (universeRefusal u ∷ expressionRefusal u s ∷ more) ≡ number
+    first-universe n = rw (← e, ne-eqb number 0 n)
 
-  pub checks-none : (s : List ℕ) → number ≡ 0 → expression u s ≡ none → expressionChecks u s ≡ 7
-  checks-none s z x = rw (← e, eq-eqb number 0 z, none-refused u s x)
+    first-none : number ≡ 0 → expression u s ≡ none → firstRefusal (universeRefusal u ∷ expressionRefusal u s ∷ more) ≡ badExpression
+    first-none z x = rw (← e, eq-eqb number 0 z, none-refused u s x)
 
-  pub checks-read : (s : List ℕ) (a : Shape) → number ≡ 0 → expression u s ≡ read a → expressionChecks u s ≡ 0
-  checks-read s a z x = rw (← e, eq-eqb number 0 z, shape-accepted u s a x)
+    pub first-read : (a : Shape) → number ≡ 0 → expression u s ≡ read a → firstRefusal (universeRefusal u ∷ expressionRefusal u s ∷ more) ≡ firstRefusal more
+    first-read a z x = rw (← e, eq-eqb number 0 z, shape-accepted u s a x)
 
-  -- with a voxel's check after them
-  pub voxel-universe : (s v : List ℕ) → (number ≡ 0 → ⊥) → voxelChecks u s v ≡ number
-  voxel-universe s v n = rw (← e, ne-eqb number 0 n)
+    -- an answer refused by them, and one that what comes after them decides
+    module _ {A : Type 0} (refused : ℕ → A) (done answer : A) where
+      pub answer-universe :
+          (number ≡ 0 → ⊥) → answer ≡ refused number →
+          answer ≡ unlessRefused (firstRefusal (universeRefusal u ∷ expressionRefusal u s ∷ more)) refused done
+      answer-universe n f = f ∙ rw (first-universe n) (is-refused refused done number n)
 
-  pub voxel-none : (s v : List ℕ) → number ≡ 0 → expression u s ≡ none → voxelChecks u s v ≡ 7
-  voxel-none s v z x = rw (← e, eq-eqb number 0 z, none-refused u s x)
+      pub answer-none :
+          number ≡ 0 → expression u s ≡ none → answer ≡ refused badExpression →
+          answer ≡ unlessRefused (firstRefusal (universeRefusal u ∷ expressionRefusal u s ∷ more)) refused done
+      answer-none z x f = f ∙ rw (first-none z x)
 
-  pub voxel-outside : (s v : List ℕ) (a : Shape) (nine : ℕ) → number ≡ 0 → expression u s ≡ read a → nine ≡ voxelRefusal u v → (nine ≡ 0 → ⊥) → voxelChecks u s v ≡ nine
-  voxel-outside s v a nine z x f n = rw (← e, eq-eqb number 0 z, shape-accepted u s a x, ← f, ne-eqb nine 0 n)
+      pub answer-read :
+          (a : Shape) → number ≡ 0 → expression u s ≡ read a → answer ≡ unlessRefused (firstRefusal more) refused done →
+          answer ≡ unlessRefused (firstRefusal (universeRefusal u ∷ expressionRefusal u s ∷ more)) refused done
+      answer-read a z x f = f ∙ rw (first-read a z x)
 
-  pub voxel-inside : (s v : List ℕ) (a : Shape) (nine : ℕ) → number ≡ 0 → expression u s ≡ read a → nine ≡ voxelRefusal u v → nine ≡ 0 → voxelChecks u s v ≡ 0
-  voxel-inside s v a nine z x f n = rw (← e, eq-eqb number 0 z, shape-accepted u s a x, ← f, eq-eqb nine 0 n)
+  -- with one check after them, and with none
+  pub answer-last :
+      {A :
+      Type 0} (refused : ℕ →
+      A) (done answer : A) (s : List ℕ) (last : ℕ) (a : Shape) → number ≡ 0 → expression u s ≡ read a → answer ≡ unlessRefused last refused done →
+      answer ≡ unlessRefused (firstRefusal (universeRefusal u ∷ expressionRefusal u s ∷ last ∷ [])) refused done
+  answer-last refused done answer s last a z x f = answer-read s (last ∷ []) refused done answer a z x (f ∙ rw (last-check last))
 
-  -- with a path's check after them
-  pub path-universe : (s path : List ℕ) → (number ≡ 0 → ⊥) → pathChecks u s path ≡ number
-  path-universe s path n = rw (← e, ne-eqb number 0 n)
+  module _ (s : List ℕ) where
+    pub checks-universe : (number ≡ 0 → ⊥) → wellFormedRefusal u s ≡ number
+    checks-universe = first-universe s []
 
-  pub path-none : (s path : List ℕ) → number ≡ 0 → expression u s ≡ none → pathChecks u s path ≡ 7
-  path-none s path z x = rw (← e, eq-eqb number 0 z, none-refused u s x)
+    pub checks-none : number ≡ 0 → expression u s ≡ none → wellFormedRefusal u s ≡ badExpression
+    checks-none = first-none s []
 
-  pub path-read : (s path : List ℕ) (a : Shape) → number ≡ 0 → expression u s ≡ read a → pathChecks u s path ≡ pathRefusal u path
-  path-read s path a z x = rw (← e, eq-eqb number 0 z, shape-accepted u s a x) (last-check (pathRefusal u path))
+    pub checks-read : (a : Shape) → number ≡ 0 → expression u s ≡ read a → wellFormedRefusal u s ≡ 0
+    checks-read = first-read s []
 
--- the black voxels of an expression
-counted-eq : {m n v w : ℕ} → m ≡ n → v ≡ w → _≡_ {A = Counted} (record { refusal = m; voxels = v }) (record { refusal = n; voxels = w })
-counted-eq e f = λ i. record { refusal = e i; voxels = f i }
-
-pub counted-refused : (u : Universe) (s : List ℕ) (n : ℕ) → expressionChecks u s ≡ n → (n ≡ 0 → ⊥) → record { refusal = n; voxels = 0 } ≡ volumeAnswer u s
-unfolding volumeAnswer
-counted-refused u s n e h = counted-eq (sym e) (rw (e, ne-eqb n 0 h))
-
-pub counted-read : (u : Universe) (s : List ℕ) (a : Shape) (v : ℕ) → expressionChecks u s ≡ 0 → expression u s ≡ read a → v ≡ volume u a → record { refusal = 0; voxels = v } ≡ volumeAnswer u s
-unfolding volumeAnswer
-counted-read u s a v e f g = counted-eq (sym e) (rw (e, f) g)
-
-pub counted-checks : (u : Universe) (s : List ℕ) (r : Counted) → r ≡ volumeAnswer u s → r .refusal ≡ expressionChecks u s
-unfolding volumeAnswer
-counted-checks u s r e = ap (λ z. z .refusal) e
-
--- the colour at a voxel
-pub coloured-eq : {m n : ℕ} {c d : Colour} → m ≡ n → c ≡ d → _≡_ {A = Coloured} (record { refusal = m; colour = c }) (record { refusal = n; colour = d })
-coloured-eq e f = λ i. record { refusal = e i; colour = f i }
-
-pub coloured-refused : (u : Universe) (s v : List ℕ) (n : ℕ) → voxelChecks u s v ≡ n → (n ≡ 0 → ⊥) → record { refusal = n; colour = White } ≡ colourAnswer u s v
-unfolding colourAnswer
-coloured-refused u s v n e h = coloured-eq (sym e) (rw (e, ne-eqb n 0 h))
-
-pub coloured-read : (u : Universe) (s v : List ℕ) (a : Shape) (c : Colour) → voxelChecks u s v ≡ 0 → expression u s ≡ read a → c ≡ colourAt u a v → record { refusal = 0; colour = c } ≡ colourAnswer u s v
-unfolding colourAnswer
-coloured-read u s v a c e f g = coloured-eq (sym e) (rw (e, f) g)
-
--- where the part for a block stands
-pub placed-eq : {m n v w x y : ℕ} → m ≡ n → v ≡ w → x ≡ y → _≡_ {A = Placed} (record { refusal = m; start = v; length = x }) (record { refusal = n; start = w; length = y })
-placed-eq e f g = λ i. record { refusal = e i; start = f i; length = g i }
-
-pub placed-refused : (u : Universe) (s path : List ℕ) (n : ℕ) → pathChecks u s path ≡ n → (n ≡ 0 → ⊥) → record { refusal = n; start = 0; length = 0 } ≡ placeAnswer u s path
-unfolding placeAnswer
-placed-refused u s path n e h = placed-eq (sym e) (rw (e, ne-eqb n 0 h)) (rw (e, ne-eqb n 0 h))
-
-pub placed-read : (u : Universe) (s path : List ℕ) (a : Shape) → pathChecks u s path ≡ 0 → expression u s ≡ read a → record { refusal = 0; start = partStart a path; length = size (part a path) } ≡ placeAnswer u s path
-unfolding placeAnswer
-placed-read u s path a e f = placed-eq (sym e) (rw (e, f)) (rw (e, f))
-
-pub placed-checks : (u : Universe) (s path : List ℕ) (r : Placed) → r ≡ placeAnswer u s path → r .refusal ≡ pathChecks u s path
-unfolding placeAnswer
-placed-checks u s path r e = ap (λ z. z .refusal) e
-
--- the place is inside the expression, whatever was asked
-pub placed-within : (u : Universe) (s path : List ℕ) → placeAnswer u s path .start + placeAnswer u s path .length ≤ length s
-unfolding placeAnswer
-placed-within u s path = go (ℕ-discrete (pathChecks u s path) 0) (expression u s) refl
-  where
-    go : Dec (pathChecks u s path ≡ 0) → (x : Reading) → expression u s ≡ x → placeAnswer u s path .start + placeAnswer u s path .length ≤ length s
-    go (no n) x f = rw (ne-eqb (pathChecks u s path) 0 n) (omega arith)
-    go (yes z) none f = rw (z, f) (omega arith)
-    go (yes z) (read a) f = rw (z, f) (omega (arith, part-within a path, expression-at u s a f .1))
-
--- THEOREM: the part that is handed back is the part's own expression; and empty where the path or the expression is refused
-pub part-is : (u : Universe) (s path : List ℕ) (a : Shape) → pathChecks u s path ≡ 0 → expression u s ≡ read a → partAnswer u s path ≡ symbols (part a path)
-unfolding partAnswer
-part-is u s path a e f = rw (← placed-read u s path a e f, ← read-is u s a f .0) (part-symbols a path)
-
-pub part-refused : (u : Universe) (s path : List ℕ) → (pathChecks u s path ≡ 0 → ⊥) → partAnswer u s path ≡ []
-unfolding partAnswer
-part-refused u s path h = rw (← placed-refused u s path (pathChecks u s path) refl h)
-
--- symbols written into lent room: a refusal before 6, too little room, and room enough
+-- symbols written into lent room: a refusal before 6, too little room, and room enough; what is left of the room follows from the answer's number
 module _ (n : ℕ) (out symbols : List ℕ) where
-  pub written-refused : (n ≡ 0 → ⊥) → record { refusal = n; length = 0 } ≡ writtenAnswer n out symbols
+  pub written-refused : (n ≡ 0 → ⊥) → refusedWriting n ≡ writtenAnswer n out symbols
   unfolding writtenAnswer
   written-refused h = rw (ne-eqb n 0 h)
 
-  pub kept-refused : (n ≡ 0 → ⊥) → out ≡ writtenBuffer n out symbols
+  module _ (z : n ≡ 0) where
+    pub written-short : length out < length symbols → shortWriting (length symbols) ≡ writtenAnswer n out symbols
+    unfolding writtenAnswer
+    written-short h = rw (eq-eqb n 0 z, room-short (length out) (length symbols) h)
+
+    pub written-all : length symbols ≤ length out → doneWriting (length symbols) ≡ writtenAnswer n out symbols
+    unfolding writtenAnswer
+    written-all h = rw (eq-eqb n 0 z, room-enough (length out) (length symbols) h)
+
+  -- THEOREM: the number is that of the checks before, then 6
+  pub written-number : writtenAnswer n out symbols .refusal ≡ firstRefusal (n ∷ roomRefusal (length out) (length symbols) ∷ [])
+  written-number = go (ℕ-discrete n 0) (decLe (length symbols) (length out))
+    where
+      go :
+          Dec (n ≡ 0) → Dec (length symbols ≤ length out) →
+          writtenAnswer n out symbols .refusal ≡ firstRefusal (n ∷ roomRefusal (length out) (length symbols) ∷ [])
+      go (no h) k = rw (← written-refused h, ne-eqb n 0 h)
+      go (yes z) (yes k) = rw (← written-all z k, eq-eqb n 0 z, room-enough (length out) (length symbols) k)
+      go (yes z) (no k) = rw (← written-short z (omega arith), eq-eqb n 0 z, room-short (length out) (length symbols) (omega arith))
+
+  kept : {answer : Written} → answer ≡ writtenAnswer n out symbols → (answer .refusal ≡ 0 → ⊥) → out ≡ writtenBuffer n out symbols
   unfolding writtenBuffer
-  kept-refused h = rw (ne-eqb n 0 h)
+  kept e h = untouched symbols out (λ z. h (ap (λ (a : Written). a .refusal) e ∙ z))
+
+  pub kept-refused : (n ≡ 0 → ⊥) → out ≡ writtenBuffer n out symbols
+  kept-refused h = kept (written-refused h) h
 
   module _ (z : n ≡ 0) where
-    pub written-short : length out < length symbols → record { refusal = 6; length = length symbols } ≡ writtenAnswer n out symbols
-    unfolding writtenAnswer
-    written-short h = rw (eq-eqb n 0 z, lt-leb (length symbols) (length out) h)
-
     pub kept-short : length out < length symbols → out ≡ writtenBuffer n out symbols
-    unfolding writtenBuffer
-    kept-short h = rw (eq-eqb n 0 z, lt-leb (length symbols) (length out) h)
-
-    pub written-all : length symbols ≤ length out → record { refusal = 0; length = length symbols } ≡ writtenAnswer n out symbols
-    unfolding writtenAnswer
-    written-all h = rw (eq-eqb n 0 z, le-leb (length symbols) (length out) h)
+    kept-short h = kept (written-short z h) (λ e. omega arith)
 
     pub left-all : length symbols ≤ length out → symbols ++ drop (length symbols) out ≡ writtenBuffer n out symbols
     unfolding writtenBuffer
-    left-all h = rw (eq-eqb n 0 z, le-leb (length symbols) (length out) h)
+    left-all h = written symbols out (sym (ap (λ (a : Written). a .refusal) (written-all z h))) refl

@@ -1,6 +1,7 @@
 -- Counts of black voxels: halving a block halves its voxels, so merging keeps volume and frames; and the frames add up to the volume.
 use mathlib.Core.Path.{_≡_, refl, sym, ap, ap₂, _∙_}
 use mathlib.Core.Bool.{Bool, true, false}
+use mathlib.Core.List.{List}
 use Prim.Native.Nat.{ℕ, zero, suc, _+_, _*_, _/_, _%_, _≤_, _<_}
 use native.Mathlib.Nat.{le-max-left, le-max-right, div-eq-of-lt-le}
 use native.Mathlib.Decide.{ℕ-discrete}
@@ -8,7 +9,7 @@ use native.Mathlib.Omega.{arith}
 use borrow.Author.Tests.{eq-eqb, ne-eqb}
 use lib.Dec.{eqb}
 use Rattle.lemmas.specs.Sums.{sum, product}
-use Rattle.lemmas.proofs.Sums.{sum-cong, sum-add, product-cong, product-scaled}
+use Rattle.lemmas.proofs.Sums.{sum-cong, sum-add, sum-same, product-cong, product-scaled}
 use Rattle.universe.specs.declared.Universe.{Universe}
 use Rattle.universe.specs.Universe.{levels, axisAt, frameAxis, frameCount, blockSide}
 use Rattle.universe.specs.Voxel.{halfAt}
@@ -17,7 +18,11 @@ use Rattle.bintree.specs.declared.Colour.{Colour}
 use Rattle.bintree.specs.declared.Colour.the-variants.{White, Black}
 use Rattle.bintree.specs.Shape.{Shape, leaf, halved, depth}
 use Rattle.bintree.specs.Merging.{merged}
-use Rattle.bintree.specs.Counts.{volumeFrom, volume, ofHalves, voxelsFrom, voxelsAt}
+use Rattle.bintree.specs.declared.Counted.{Counted}
+use Rattle.bintree.specs.Reading.{expression}
+use Rattle.bintree.specs.Answers.{ofShape, wellFormedRefusal}
+use Rattle.bintree.specs.Counts.{volumeFrom, volume, refusedCount, doneCount, volumeAnswer, frames, voxelsEach, ofHalves, voxelsFrom, voxelsAt}
+use Rattle.bintree.proofs.Answers.{number-of}
 use Rattle.bintree.proofs.Merging.{Joined, one, two, joined}
 
 -- a halved shape that is not too deep below level l: the level has halves, and its parts are not too deep below the next
@@ -61,24 +66,32 @@ module _ (u : Universe) (some : 0 < u .axes) where
       join-volume l (level-below u l a b h) (joined (merged a) (merged b)) ∙ rw (x, y)
 
   -- the voxels of one frame in a block: a halving across the frame axis keeps them, another one halves them
-  frame-kept : (l : ℕ) → axisAt u l ≡ frameAxis u → product (frameAxis u) (blockSide u (suc l)) ≡ product (frameAxis u) (blockSide u l)
+  frame-kept : (l : ℕ) → axisAt u l ≡ frameAxis u → voxelsEach u (suc l) ≡ voxelsEach u l
   frame-kept l e = product-cong (frameAxis u) (blockSide u (suc l)) (blockSide u l) (λ i h. side-kept u l i (λ f. omega arith))
 
-  frame-halved : (l : ℕ) → l < levels u → (axisAt u l ≡ frameAxis u → ⊥) → product (frameAxis u) (blockSide u l) ≡ 2 * product (frameAxis u) (blockSide u (suc l))
+  frame-halved :
+      (l : ℕ) → l < levels u → (axisAt u l ≡ frameAxis u → ⊥) → voxelsEach u l ≡ 2 * voxelsEach u (suc l)
   frame-halved l h n =
-      product-scaled (frameAxis u) (blockSide u (suc l)) (blockSide u l) 2 (axisAt u l) (omega (arith, axis-below u some l)) (λ i j k. sym (side-kept u l i k)) (side-halved u some l h)
+      product-scaled (frameAxis u) (blockSide u (suc l)) (blockSide u l) 2 (axisAt u l) (omega (arith, axis-below u some l))
+      (λ i j k. sym (side-kept u l i k)) (side-halved u some l h)
 
   -- THEOREM: merging keeps the voxels of each frame
   same-half : (lower : Bool) (n : ℕ) → n ≡ ofHalves true lower n n
   same-half true n = refl
   same-half false n = refl
 
-  join-leaf : (l frame : ℕ) → l < levels u → (c : Colour) → voxelsFrom u l (leaf c) frame ≡ ofHalves (eqb (axisAt u l) (frameAxis u)) (eqb (halfAt u l frame) 0) (voxelsFrom u (suc l) (leaf c) frame) (voxelsFrom u (suc l) (leaf c) frame)
+  join-leaf :
+      (l frame : ℕ) → l < levels u → (c : Colour) →
+      voxelsFrom u l (leaf c) frame
+      ≡ ofHalves (eqb (axisAt u l) (frameAxis u)) (eqb (halfAt u l frame) 0) (voxelsFrom u (suc l) (leaf c) frame) (voxelsFrom u (suc l) (leaf c) frame)
   unfolding voxelsFrom
   join-leaf l frame h Black = go (ℕ-discrete (axisAt u l) (frameAxis u))
     where
-      go : Dec (axisAt u l ≡ frameAxis u) → product (frameAxis u) (blockSide u l) ≡ ofHalves (eqb (axisAt u l) (frameAxis u)) (eqb (halfAt u l frame) 0) (product (frameAxis u) (blockSide u (suc l))) (product (frameAxis u) (blockSide u (suc l)))
-      go (yes e) = rw (eq-eqb (axisAt u l) (frameAxis u) e, frame-kept l e) (same-half (eqb (halfAt u l frame) 0) (product (frameAxis u) (blockSide u l)))
+      go :
+          Dec (axisAt u l ≡ frameAxis u) →
+          voxelsEach u l
+          ≡ ofHalves (eqb (axisAt u l) (frameAxis u)) (eqb (halfAt u l frame) 0) (voxelsEach u (suc l)) (voxelsEach u (suc l))
+      go (yes e) = rw (eq-eqb (axisAt u l) (frameAxis u) e, frame-kept l e) (same-half (eqb (halfAt u l frame) 0) (voxelsEach u l))
       go (no n) = rw (ne-eqb (axisAt u l) (frameAxis u) n) (omega (arith, frame-halved l h n))
   join-leaf l frame h White = go (eqb (axisAt u l) (frameAxis u)) (eqb (halfAt u l frame) 0)
     where
@@ -87,7 +100,10 @@ module _ (u : Universe) (some : 0 < u .axes) where
       go true false = refl
       go false lower = refl
 
-  join-voxels : (l frame : ℕ) → l < levels u → {a b j : Shape} → Joined a b j → voxelsFrom u l j frame ≡ ofHalves (eqb (axisAt u l) (frameAxis u)) (eqb (halfAt u l frame) 0) (voxelsFrom u (suc l) a frame) (voxelsFrom u (suc l) b frame)
+  join-voxels :
+      (l frame : ℕ) → l < levels u → {a b j : Shape} → Joined a b j →
+      voxelsFrom u l j frame
+      ≡ ofHalves (eqb (axisAt u l) (frameAxis u)) (eqb (halfAt u l frame) 0) (voxelsFrom u (suc l) a frame) (voxelsFrom u (suc l) b frame)
   unfolding voxelsFrom
   join-voxels l frame h (one c) = join-leaf l frame h c
   join-voxels l frame h (two e) = refl
@@ -100,28 +116,23 @@ module _ (u : Universe) (some : 0 < u .axes) where
       let y = merged-voxels (suc l) b frame (high-fits u l a b h) in
       join-voxels l frame (level-below u l a b h) (joined (merged a) (merged b)) ∙ rw (x, y)
 
--- a run of places in two, and places that all count the same
+-- a run of places in two
 sum-split : (n m : ℕ) (f : ℕ → ℕ) → sum (n + m) f ≡ sum n f + sum m (λ c. f (n + c))
 unfolding sum
 sum-split n zero f = let e : n + 0 ≡ n = omega arith in rw e (omega arith)
 sum-split n (suc m) f = let e : n + suc m ≡ suc (n + m) = omega arith in rw e (omega (arith, sum-split n m f))
 
-sum-same : (n k : ℕ) → sum n (λ c. k) ≡ k * n
-unfolding sum
-sum-same zero k = omega arith
-sum-same (suc n) k = omega (arith, sum-same n k)
-
 -- the half that holds a place
-quotient : {x : ℕ} (q n : ℕ) → q * n ≤ x → x < q * n + n → x / n ≡ q
-quotient q n h k = div-eq-of-lt-le n h (omega arith)
+pub lower-frame : (n m c : ℕ) → m * (2 * n) ≤ c → c < m * (2 * n) + n → c / n % 2 ≡ 0
+lower-frame n m c h k = let e : c / n ≡ 2 * m = div-eq-of-lt-le n (omega arith) (omega arith) in omega arith
 
-lower-half : (n k c : ℕ) → c < n → (k * (2 * n) + c) / n % 2 ≡ 0
-lower-half n k c h = let e : (k * (2 * n) + c) / n ≡ 2 * k = quotient (2 * k) n (omega arith) (omega arith) in omega arith
+pub upper-frame : (n m c : ℕ) → m * (2 * n) + n ≤ c → c < m * (2 * n) + 2 * n → c / n % 2 ≡ 1
+upper-frame n m c h k = let e : c / n ≡ 2 * m + 1 = div-eq-of-lt-le n (omega arith) (omega arith) in omega arith
 
-upper-half : (n k c : ℕ) → c < n → (k * (2 * n) + (n + c)) / n % 2 ≡ 1
-upper-half n k c h = let e : (k * (2 * n) + (n + c)) / n ≡ 2 * k + 1 = quotient (2 * k + 1) n (omega arith) (omega arith) in omega arith
-
-half-sum : (n k : ℕ) (low high : ℕ → ℕ) → sum (2 * n) (λ c. ofHalves true (eqb ((k * (2 * n) + c) / n % 2) 0) (low (k * (2 * n) + c)) (high (k * (2 * n) + c))) ≡ sum n (λ c. low (2 * k * n + c)) + sum n (λ c. high ((2 * k + 1) * n + c))
+half-sum :
+    (n k : ℕ) (low high : ℕ → ℕ) →
+    sum (2 * n) (λ c. ofHalves true (eqb ((k * (2 * n) + c) / n % 2) 0) (low (k * (2 * n) + c)) (high (k * (2 * n) + c)))
+    ≡ sum n (λ c. low (2 * k * n + c)) + sum n (λ c. high ((2 * k + 1) * n + c))
 half-sum n k low high =
     let both : ℕ → ℕ = λ c. ofHalves true (eqb ((k * (2 * n) + c) / n % 2) 0) (low (k * (2 * n) + c)) (high (k * (2 * n) + c)) in
     let e : 2 * n ≡ n + n = omega arith in
@@ -129,28 +140,33 @@ half-sum n k low high =
     ∙ ap₂ (λ x y. x + y) (sum-cong n both (λ c. low (2 * k * n + c)) lower) (sum-cong n (λ c. both (n + c)) (λ c. high ((2 * k + 1) * n + c)) upper)
   where
     lower : (c : ℕ) → c < n → ofHalves true (eqb ((k * (2 * n) + c) / n % 2) 0) (low (k * (2 * n) + c)) (high (k * (2 * n) + c)) ≡ low (2 * k * n + c)
-    lower c h = let e : k * (2 * n) + c ≡ 2 * k * n + c = omega arith in rw (lower-half n k c h, e)
+    lower c h = let e : k * (2 * n) + c ≡ 2 * k * n + c = omega arith in rw (lower-frame n k (k * (2 * n) + c) (omega arith) (omega arith), e)
 
-    upper : (c : ℕ) → c < n → ofHalves true (eqb ((k * (2 * n) + (n + c)) / n % 2) 0) (low (k * (2 * n) + (n + c))) (high (k * (2 * n) + (n + c))) ≡ high ((2 * k + 1) * n + c)
-    upper c h = let e : k * (2 * n) + (n + c) ≡ (2 * k + 1) * n + c = omega arith in rw (upper-half n k c h, e)
+    upper :
+        (c : ℕ) → c < n →
+        ofHalves true (eqb ((k * (2 * n) + (n + c)) / n % 2) 0) (low (k * (2 * n) + (n + c))) (high (k * (2 * n) + (n + c))) ≡ high ((2 * k + 1) * n + c)
+    upper c h = let e : k * (2 * n) + (n + c) ≡ (2 * k + 1) * n + c = omega arith in rw (upper-frame n k (k * (2 * n) + (n + c)) (omega arith) (omega arith), e)
 
 -- THEOREM: the frames of a block, which begin at a multiple of its length, add up to its volume; hence all frames to the volume
 module _ (u : Universe) (some : 0 < u .axes) where
-  block-voxels : (l : ℕ) → product (frameAxis u) (blockSide u l) * blockSide u l (frameAxis u) ≡ product (u .axes) (blockSide u l)
+  -- the voxels of a block: those of a frame as often as it has frames
+  pub block-voxels : (l : ℕ) → frames u l * voxelsEach u l ≡ product (u .axes) (blockSide u l)
   unfolding product
-  block-voxels l = let e : u .axes ≡ suc (frameAxis u) = omega arith in ap (λ n. product n (blockSide u l)) (sym e)
+  block-voxels l = let e : u .axes ≡ suc (frameAxis u) = omega arith in omega (arith, ap (λ n. product n (blockSide u l)) e)
 
   -- one level: across the frame axis the halves' frames follow each other, otherwise they are the same
   Framed : ℕ → Shape → Type 0
-  Framed l s = (k : ℕ) → sum (blockSide u l (frameAxis u)) (λ c. voxelsFrom u l s (k * blockSide u l (frameAxis u) + c)) ≡ volumeFrom u l s
+  Framed l s = (k : ℕ) → sum (frames u l) (λ c. voxelsFrom u l s (k * frames u l + c)) ≡ volumeFrom u l s
 
   across-frames : (l : ℕ) (a b : Shape) → l < levels u → axisAt u l ≡ frameAxis u → Framed (suc l) a → Framed (suc l) b → Framed l (halved a b)
   unfolding voxelsFrom volumeFrom Framed
   across-frames l a b h e x y k =
-      let n = blockSide u (suc l) (frameAxis u) in
-      let m : blockSide u l (frameAxis u) ≡ 2 * n = rw e at (side-halved u some l h) in
+      let n = frames u (suc l) in
+      let m : frames u l ≡ 2 * n = rw e at (side-halved u some l h) in
+      let at : ℕ → ℕ = λ c. k * (2 * n) + c in
+      let both : ℕ → ℕ = λ c. ofHalves true (eqb (at c / n % 2) 0) (voxelsFrom u (suc l) a (at c)) (voxelsFrom u (suc l) b (at c)) in
       ap (λ z. sum z (λ c. voxelsFrom u l (halved a b) (k * z + c))) m
-      ∙ sum-cong (2 * n) (λ c. voxelsFrom u l (halved a b) (k * (2 * n) + c)) (λ c. ofHalves true (eqb ((k * (2 * n) + c) / n % 2) 0) (voxelsFrom u (suc l) a (k * (2 * n) + c)) (voxelsFrom u (suc l) b (k * (2 * n) + c))) (λ c h. rw (eq-eqb (axisAt u l) (frameAxis u) e, e))
+      ∙ sum-cong (2 * n) (λ c. voxelsFrom u l (halved a b) (k * (2 * n) + c)) both (λ c h. rw (eq-eqb (axisAt u l) (frameAxis u) e, e))
       ∙ half-sum n k (voxelsFrom u (suc l) a) (voxelsFrom u (suc l) b)
       ∙ ap₂ (λ v w. v + w) (x (2 * k)) (y (2 * k + 1))
 
@@ -158,17 +174,19 @@ module _ (u : Universe) (some : 0 < u .axes) where
   unfolding voxelsFrom volumeFrom Framed
   along-frames l a b n x y k =
       let m = sym (side-kept u l (frameAxis u) n) in
-      let i = blockSide u (suc l) (frameAxis u) in
+      let i = frames u (suc l) in
       ap (λ z. sum z (λ c. voxelsFrom u l (halved a b) (k * z + c))) m
-      ∙ sum-cong i (λ c. voxelsFrom u l (halved a b) (k * i + c)) (λ c. voxelsFrom u (suc l) a (k * i + c) + voxelsFrom u (suc l) b (k * i + c)) (λ c h. rw (ne-eqb (axisAt u l) (frameAxis u) n))
+      ∙ sum-cong i (λ c. voxelsFrom u l (halved a b) (k * i + c)) (λ c. voxelsFrom u (suc l) a (k * i + c) + voxelsFrom u (suc l) b (k * i + c))
+      (λ c h. rw (ne-eqb (axisAt u l) (frameAxis u) n))
       ∙ sum-add i (λ c. voxelsFrom u (suc l) a (k * i + c)) (λ c. voxelsFrom u (suc l) b (k * i + c))
       ∙ ap₂ (λ v w. v + w) (x k) (y k)
 
   block-frames : (l : ℕ) (s : Shape) → l + depth s ≤ levels u → Framed l s
   unfolding voxelsFrom volumeFrom Framed
-  block-frames l (leaf Black) h = λ k. sum-same (blockSide u l (frameAxis u)) (product (frameAxis u) (blockSide u l)) ∙ block-voxels l
-  block-frames l (leaf White) h = λ k. sum-same (blockSide u l (frameAxis u)) 0 ∙ omega arith
-  block-frames l (halved a b) h = go (ℕ-discrete (axisAt u l) (frameAxis u)) (block-frames (suc l) a (low-fits u l a b h)) (block-frames (suc l) b (high-fits u l a b h))
+  block-frames l (leaf Black) h = λ k. sum-same (frames u l) (voxelsEach u l) ∙ block-voxels l
+  block-frames l (leaf White) h = λ k. sum-same (frames u l) 0 ∙ omega arith
+  block-frames l (halved a b) h =
+      go (ℕ-discrete (axisAt u l) (frameAxis u)) (block-frames (suc l) a (low-fits u l a b h)) (block-frames (suc l) b (high-fits u l a b h))
     where
       go : Dec (axisAt u l ≡ frameAxis u) → Framed (suc l) a → Framed (suc l) b → Framed l (halved a b)
       go (yes e) x y = across-frames l a b (level-below u l a b h) e x y
@@ -181,3 +199,10 @@ module _ (u : Universe) (some : 0 < u .axes) where
       ap (λ m. sum m (voxelsAt u s)) (sym (side-first u (frameAxis u)))
       ∙ sum-cong n (voxelsAt u s) (λ c. voxelsFrom u 0 s (0 * n + c)) (λ c k. let e : c ≡ 0 * n + c = omega arith in ap (voxelsFrom u 0 s) e)
       ∙ block-frames 0 s (omega arith) 0
+
+-- the answer's number
+pub counted-number : (u : Universe) (s : List ℕ) (r : Counted) → r ≡ volumeAnswer u s → r .refusal ≡ wellFormedRefusal u s
+unfolding volumeAnswer
+counted-number u s r e =
+    ap (λ (z : Counted). z .refusal) e
+    ∙ number-of refusedCount (doneCount (ofShape (expression u s) 0 (volume u))) (wellFormedRefusal u s) (λ z. z .refusal) (λ m. refl) refl

@@ -11,25 +11,21 @@ use borrow.Author.Tests.{eq-eqb, ne-eqb}
 use lib.Dec.{eqb}
 use lib.ListN.{length, getD, set}
 use lib.Seq.{sets, set-out}
-use Rattle.universe.specs.declared.Universe.{Universe}
-use Rattle.universe.specs.Universe.{universeRefusal, levels}
 use Rattle.bintree.specs.declared.Colour.{Colour}
 use Rattle.bintree.specs.declared.Colour.the-variants.{White, Black}
-use Rattle.bintree.specs.declared.Written.{Written}
 use Rattle.bintree.specs.declared.lay.Laid.{Laid}
 use Rattle.bintree.specs.declared.lay.Laid.the-variants.{Done, Unread}
 use Rattle.bintree.specs.Shape.{Shape, leaf, halved, openSymbol, symbolOf, symbols, size}
-use Rattle.bintree.specs.Reading.{Reading, none, read, readAt, expression}
+use Rattle.bintree.specs.Reading.{Reading, none, read, readAt}
 use Rattle.bintree.specs.Merging.{merged, isPair}
-use Rattle.bintree.specs.Walks.{heldOf, isAlike, noted, opened, laid, layAnswer, Lays}
-use Rattle.bintree.specs.Answers.{expressionChecks, mergedSymbols, mergeAnswer, mergeBuffer}
-use Rattle.bintree.proofs.Answers.{levels-fit, checks-universe, checks-none, checks-read, written-refused, kept-refused, written-short, kept-short, written-all, left-all}
+use Rattle.bintree.specs.Walks.{heldOf, isAlike, noted, joinedHalves, laid, layAnswer, Lays}
 use Rattle.bintree.proofs.Shape.{length-symbols, size-positive, symbol-not-zero}
-use Rattle.bintree.proofs.Reading.{leaf-at, other-at, end-at, deep-at, low-missing, high-missing, both-read, expression-none, expression-rest, expression-read}
+use Rattle.bintree.proofs.Reading.{leaf-at, other-at, end-at, deep-at, low-missing, high-missing, both-read}
 use Rattle.bintree.proofs.Merging.{Joined, one, two, joined, join-apart, merged-size}
-use Rattle.lemmas.proofs.Stores.{set-sets, sets-append, sets-first}
+use Rattle.lemmas.proofs.Stores.{set-sets, sets-append, copying-none, copying-start, copying-next, copying-end}
+use Rattle.lemmas.proofs.Stores.{copying-kept, copying-read, copying-write, copying-place}
 
--- ---- `is_alike`, `note` and `open`
+-- ---- `is_alike`, `note` and `join_halves`
 
 pub alike-none : (low high : ℕ) → low ≡ 0 → false ≡ isAlike low high
 unfolding isAlike
@@ -57,9 +53,9 @@ noted-beyond o t x h = go (ℕ-discrete x 0)
     go (yes e) = noted-none o (t + 1) x e
     go (no n) = noted-past o (t + 1) x n (omega arith)
 
-pub opened-is : (o o₁ o₂ o₃ : List ℕ) (t x d y : ℕ) → o₁ ≡ noted o t openSymbol → o₂ ≡ noted o₁ (t + 1) x → o₃ ≡ noted o₂ d y → o₃ ≡ opened o t x d y
-unfolding opened
-opened-is o o₁ o₂ o₃ t x d y e f g = rw (g, f, e)
+pub halves-joined : (o o₁ o₂ o₃ : List ℕ) (t x d y : ℕ) → o₁ ≡ noted o t openSymbol → o₂ ≡ noted o₁ (t + 1) x → o₃ ≡ noted o₂ d y → o₃ ≡ joinedHalves o t x d y
+unfolding joinedHalves
+halves-joined o o₁ o₂ o₃ t x d y e f g = rw (g, f, e)
 
 pub next-fits : (t d : ℕ) → t < d → d < 2 ^ 64 → t + 1 < 2 ^ 64
 next-fits t d h k = omega arith
@@ -67,7 +63,21 @@ next-fits t d h k = omega arith
 pub three-lengths : (o o₁ o₂ o₃ : List ℕ) → length o₁ ≡ length o → length o₂ ≡ length o₁ → length o₃ ≡ length o₂ → length o₃ ≡ length o
 three-lengths o o₁ o₂ o₃ e f g = g ∙ f ∙ e
 
-pub ruleset note-laws = (needs, alike-none, alike-some, noted-none, noted-some, noted-past, noted-beyond, opened-is, next-fits, three-lengths)
+pub ruleset note-laws = (needs, alike-none, alike-some, noted-none, noted-some, noted-past, noted-beyond, halves-joined, next-fits, three-lengths)
+
+-- ---- `copy`
+
+pub ruleset copy-laws = (
+  needs,
+  copying-none,
+  copying-start,
+  copying-next,
+  copying-end,
+  copying-kept,
+  copying-read,
+  copying-write,
+  copying-place,
+)
 
 -- ---- what is held back, and the merged shape of two parts by it
 
@@ -84,7 +94,8 @@ alike-same (one c) e = (c, refl, refl, refl)
 alike-same (two f) e = let z : _≡_ {A = ℕ} 0 1 = cc in absurd (omega arith)
 
 module _ (l r : Shape) where
-  pub merged-same : isAlike (heldOf (merged l)) (heldOf (merged r)) ≡ true → (c : Colour) × (merged l ≡ leaf c) × (merged r ≡ leaf c) × (merged (halved l r) ≡ leaf c)
+  pub merged-same :
+      isAlike (heldOf (merged l)) (heldOf (merged r)) ≡ true → (c : Colour) × (merged l ≡ leaf c) × (merged r ≡ leaf c) × (merged (halved l r) ≡ leaf c)
   unfolding merged
   merged-same e = alike-same (joined (merged l) (merged r)) (sym (held-pair (merged l) (merged r)) ∙ e)
 
@@ -111,8 +122,10 @@ noted-laid o i t x a h = go (ℕ-discrete x 0)
     go (yes e) = sym (noted-none (laid o t a) i x e) ∙ ap (λ z. laid z t a) (noted-none o i x e)
     go (no e) = sym (noted-some (laid o t a) i x e) ∙ set-laid o i t x a h ∙ ap (λ z. laid z t a) (noted-some o i x e)
 
-parts-laid : (o : List ℕ) (t : ℕ) (a b : Shape) → opened (laid (laid o (t + 1) a) (t + 1 + size a) b) t (heldOf a) (t + 1 + size a) (heldOf b) ≡ sets o t (symbols (halved a b))
-unfolding opened symbols
+parts-laid :
+    (o : List ℕ) (t : ℕ) (a b : Shape) →
+    joinedHalves (laid (laid o (t + 1) a) (t + 1 + size a) b) t (heldOf a) (t + 1 + size a) (heldOf b) ≡ sets o t (symbols (halved a b))
+unfolding joinedHalves symbols
 parts-laid o t a b =
     let d : t + 1 + size a ≡ suc t + length (symbols a) = omega (arith, length-symbols a) in
     let e : t + 1 ≡ suc t = omega arith in
@@ -120,8 +133,12 @@ parts-laid o t a b =
     let j : t + 1 < t + 1 + size a = omega (arith, size-positive a) in
     let i : t < t + 1 = omega arith in
     let w : noted o t openSymbol ≡ set o t openSymbol = sym (noted-some o t openSymbol (λ z. omega arith)) in
-    ap (λ z. noted (noted z (t + 1) (heldOf a)) (t + 1 + size a) (heldOf b)) (noted-laid (laid o (t + 1) a) t (t + 1 + size a) openSymbol b k ∙ ap (λ z. laid z (t + 1 + size a) b) (noted-laid o t (t + 1) openSymbol a i ∙ ap (λ z. laid z (t + 1) a) w))
-    ∙ ap (λ z. noted z (t + 1 + size a) (heldOf b)) (noted-laid (laid (set o t openSymbol) (t + 1) a) (t + 1) (t + 1 + size a) (heldOf a) b j ∙ ap (λ z. laid z (t + 1 + size a) b) (laid-noted (set o t openSymbol) (t + 1) a))
+    let m = t + 1 + size a in
+    ap (λ z. noted (noted z (t + 1) (heldOf a)) m (heldOf b)) (noted-laid (laid o (t + 1) a) t m openSymbol b k)
+    ∙ ap (λ z. noted (noted (laid z m b) (t + 1) (heldOf a)) m (heldOf b)) (noted-laid o t (t + 1) openSymbol a i)
+    ∙ ap (λ z. noted (noted (laid (laid z (t + 1) a) m b) (t + 1) (heldOf a)) m (heldOf b)) w
+    ∙ ap (λ z. noted z m (heldOf b)) (noted-laid (laid (set o t openSymbol) (t + 1) a) (t + 1) m (heldOf a) b j)
+    ∙ ap (λ z. noted (laid z m b) m (heldOf b)) (laid-noted (set o t openSymbol) (t + 1) a)
     ∙ laid-noted (sets (set o t openSymbol) (t + 1) (symbols a)) (t + 1 + size a) b
     ∙ rw (d, e) (sets-append (symbols a) (symbols b) (set o t openSymbol) (suc t))
 
@@ -129,8 +146,10 @@ pub leaf-laid : (o : List ℕ) (t : ℕ) (c : Colour) {a : Shape} → a ≡ leaf
 unfolding laid
 leaf-laid o t c e = rw e
 
--- the room after both parts and `open`, where they stay apart
-pub apart-laid : (o o₁ o₂ o₃ : List ℕ) (t d x y : ℕ) (a b : Shape) → o₁ ≡ laid o (t + 1) a → o₂ ≡ laid o₁ d b → d ≡ t + 1 + size a → x ≡ heldOf a → y ≡ heldOf b → o₃ ≡ opened o₂ t x d y → o₃ ≡ laid o t (halved a b)
+-- the room after both parts and `join_halves`, where they stay apart
+pub apart-laid :
+    (o o₁ o₂ o₃ : List ℕ) (t d x y : ℕ) (a b : Shape) → o₁ ≡ laid o (t + 1) a → o₂ ≡ laid o₁ d b → d ≡ t + 1 + size a → x ≡ heldOf a → y ≡ heldOf b →
+    o₃ ≡ joinedHalves o₂ t x d y → o₃ ≡ laid o t (halved a b)
 unfolding laid
 apart-laid o o₁ o₂ o₃ t d x y a b e f g h i j = rw (j, f, e, g, h, i) (parts-laid o t a b)
 
@@ -147,7 +166,7 @@ lays-leaf : (p t : ℕ) (o : List ℕ) (c : Colour) {x : Reading} → x ≡ read
 unfolding layAnswer merged heldOf size laid
 lays-leaf p t o c {x} e = record { tells = rw e; leaves = λ a f. let g : a ≡ leaf c = cc in sym (ap (λ z. laid o t (merged z)) g) }
 
-unread-none : (p t : ℕ) (x : Reading) → Unread ≡ layAnswer p t x → x ≡ none
+pub unread-none : (p t : ℕ) (x : Reading) → Unread ≡ layAnswer p t x → x ≡ none
 unfolding layAnswer
 unread-none p t none w = refl
 unread-none p t (read a) w = let z : _≡_ {A = ℕ} 0 1 = cc in absurd (omega arith)
@@ -165,7 +184,9 @@ laying p t q h d none w = let z : _≡_ {A = ℕ} 0 1 = cc in absurd (omega arit
 laying p t q h d (read a) w = record { shape = a; is = refl; after = (cc); held = (cc); end = (cc) }
 
 -- an answer for a halved shape, from its fields
-lays-halved : (p t q h d : ℕ) (o o′ : List ℕ) (a : Shape) {x : Reading} → x ≡ read a → q ≡ p + size a → h ≡ heldOf (merged a) → d ≡ t + size (merged a) → o′ ≡ laid o t (merged a) → Lays p t o x (Done q h d) o′
+lays-halved :
+    (p t q h d : ℕ) (o o′ : List ℕ) (a : Shape) {x : Reading} → x ≡ read a → q ≡ p + size a → h ≡ heldOf (merged a) → d ≡ t + size (merged a) →
+    o′ ≡ laid o t (merged a) → Lays p t o x (Done q h d) o′
 unfolding layAnswer
 lays-halved p t q h d o o′ a {x} e f g i j = record { tells = rw (e, f, g, i); leaves = λ b k. let m : a ≡ b = cc in j ∙ ap (λ z. laid o t (merged z)) m }
 
@@ -182,13 +203,15 @@ module _ (s : List ℕ) (n p t : ℕ) (o o′ : List ℕ) where
   lay-other h k l = lays-none p t o o′ (other-at s n p h k l)
 
 module _ (s : List ℕ) (n p t : ℕ) (o : List ℕ) where
-  pub lay-black : getD s p 0 ≡ symbolOf Black → Lays p t o (readAt s n p) (Done (p + 1) 66 (t + 1)) o
+  pub lay-black : getD s p 0 ≡ symbolOf Black → Lays p t o (readAt s n p) (Done (p + 1) (symbolOf Black) (t + 1)) o
   lay-black e = lays-leaf p t o Black (leaf-at s n p Black e)
 
-  pub lay-white : getD s p 0 ≡ symbolOf White → Lays p t o (readAt s n p) (Done (p + 1) 87 (t + 1)) o
+  pub lay-white : getD s p 0 ≡ symbolOf White → Lays p t o (readAt s n p) (Done (p + 1) (symbolOf White) (t + 1)) o
   lay-white e = lays-leaf p t o White (leaf-at s n p White e)
 
-  pub lay-low : (o₁ : List ℕ) (r : Laid) → getD s p 0 ≡ openSymbol → (n ≡ 0 → ⊥) → Lays (p + 1) (t + 1) o (readAt s (n - 1) (p + 1)) r o₁ → r ≡ Unread → Lays p t o (readAt s n p) Unread o₁
+  pub lay-low :
+      (o₁ : List ℕ) (r : Laid) → getD s p 0 ≡ openSymbol → (n ≡ 0 → ⊥) → Lays (p + 1) (t + 1) o (readAt s (n - 1) (p + 1)) r o₁ → r ≡ Unread →
+      Lays p t o (readAt s n p) Unread o₁
   lay-low o₁ r e h w g = lays-none p t o o₁ (low-missing s n p e h (unread-none (p + 1) (t + 1) (readAt s (n - 1) (p + 1)) (sym g ∙ w .tells)))
 
   module _ (o₁ : List ℕ) (r₁ : Laid) (q x d : ℕ) (w : Lays (p + 1) (t + 1) o (readAt s (n - 1) (p + 1)) r₁ o₁) (g : r₁ ≡ Done q x d) where
@@ -207,7 +230,8 @@ module _ (s : List ℕ) (n p t : ℕ) (o : List ℕ) where
       at-high = ap (readAt s (n - 1)) (sym (low-laid .after))
 
       pub lay-high : getD s p 0 ≡ openSymbol → (n ≡ 0 → ⊥) → r₂ ≡ Unread → Lays p t o (readAt s n p) Unread o₂
-      lay-high e h j = lays-none p t o o₂ (high-missing s n p e h (low-laid .shape) (low-laid .is) (at-high ∙ unread-none q d (readAt s (n - 1) q) (sym j ∙ v .tells)))
+      lay-high e h j =
+          lays-none p t o o₂ (high-missing s n p e h (low-laid .shape) (low-laid .is) (at-high ∙ unread-none q d (readAt s (n - 1) q) (sym j ∙ v .tells)))
 
       module _ (q′ y d′ : ℕ) (j : r₂ ≡ Done q′ y d′) (e : getD s p 0 ≡ openSymbol) (h : n ≡ 0 → ⊥) where
         high-laid : Laying q d q′ y d′ (readAt s (n - 1) q)
@@ -232,9 +256,13 @@ module _ (s : List ℕ) (n p t : ℕ) (o : List ℕ) where
             lays-halved p t q′ x (t + 1) o o₂ (halved a b) whole whole-after
             (low-laid .held ∙ ap heldOf (m .1 ∙ sym (m .3)))
             (ap (λ z. t + size z) (sym (m .3)))
-            (v .leaves b (high-laid .is) ∙ leaf-laid o₁ d (m .0) (m .2) ∙ w .leaves a (low-laid .is) ∙ leaf-laid o (t + 1) (m .0) (m .1) ∙ sym (leaf-laid o t (m .0) (m .3)))
+            (v .leaves b (high-laid .is)
+            ∙ leaf-laid o₁ d (m .0) (m .2)
+            ∙ w .leaves a (low-laid .is)
+            ∙ leaf-laid o (t + 1) (m .0) (m .1)
+            ∙ sym (leaf-laid o t (m .0) (m .3)))
 
-        pub lay-apart : (f : Bool) (o₃ : List ℕ) → f ≡ isAlike x y → f ≡ false → o₃ ≡ opened o₂ t x d y → Lays p t o (readAt s n p) (Done q′ 0 d′) o₃
+        pub lay-apart : (f : Bool) (o₃ : List ℕ) → f ≡ isAlike x y → f ≡ false → o₃ ≡ joinedHalves o₂ t x d y → Lays p t o (readAt s n p) (Done q′ 0 d′) o₃
         unfolding size heldOf
         lay-apart f o₃ i k j =
             let a = low-laid .shape in
@@ -243,7 +271,9 @@ module _ (s : List ℕ) (n p t : ℕ) (o : List ℕ) where
             lays-halved p t q′ 0 d′ o o₃ (halved a b) whole whole-after
             (sym (ap heldOf m))
             (omega (arith, low-laid .end, high-laid .end, ap size m))
-            (apart-laid o o₁ o₂ o₃ t d x y (merged a) (merged b) (w .leaves a (low-laid .is)) (v .leaves b (high-laid .is)) (low-laid .end) (low-laid .held) (high-laid .held) j ∙ ap (laid o t) (sym m))
+            (apart-laid o o₁ o₂ o₃ t d x y (merged a) (merged b) (w .leaves a (low-laid .is)) (v .leaves b (high-laid .is)) (low-laid .end) (low-laid .held)
+            (high-laid .held) j
+            ∙ ap (laid o t) (sym m))
 
 -- a place within has a next one, and so has one that is not past it
 pub to-fits : (s : List ℕ) (p t : ℕ) → t ≤ p → p < length s → length s < 2 ^ 64 → t + 1 < 2 ^ 64
@@ -252,82 +282,20 @@ to-fits s p t h k l = omega arith
 pub two-lengths : (o o₁ o₂ : List ℕ) → length o₁ ≡ length o → length o₂ ≡ length o₁ → length o₂ ≡ length o
 two-lengths o o₁ o₂ e f = f ∙ e
 
-pub ruleset lay-laws = (needs, lay-end, lay-deep, lay-other, lay-black, lay-white, lay-low, lay-shorter, lay-further, lay-high, lay-alike, lay-apart, to-fits, two-lengths, three-lengths)
-
--- ---- the laws of `merge`: `number` is the universe's own check; the first laying measures, the second one writes
-
-written-eq : {n m k : ℕ} → m ≡ k → _≡_ {A = Written} (record { refusal = n; length = m }) (record { refusal = n; length = k })
-written-eq {n} e = λ i. record { refusal = n; length = e i }
-
-module _ (u : Universe) (s out : List ℕ) (number : ℕ) (e : number ≡ universeRefusal u) where
-  pub merge-refused : (number ≡ 0 → ⊥) → record { refusal = number; length = 0 } ≡ mergeAnswer u s out
-  unfolding mergeAnswer
-  merge-refused n = rw (checks-universe u number e s n) (written-refused number out (mergedSymbols u s) n)
-
-  pub merge-kept : (number ≡ 0 → ⊥) → out ≡ mergeBuffer u s out
-  unfolding mergeBuffer
-  merge-kept n = rw (checks-universe u number e s n) (kept-refused number out (mergedSymbols u s) n)
-
-  seven : number ≡ 0 → expression u s ≡ none → record { refusal = 7; length = 0 } ≡ mergeAnswer u s out
-  unfolding mergeAnswer
-  seven z x = rw (checks-none u number e s z x) (written-refused 7 out (mergedSymbols u s) (λ k. omega arith))
-
-  seven-kept : number ≡ 0 → expression u s ≡ none → out ≡ mergeBuffer u s out
-  unfolding mergeBuffer
-  seven-kept z x = rw (checks-none u number e s z x) (kept-refused 7 out (mergedSymbols u s) (λ k. omega arith))
-
-  module _ (o₀ o₁ : List ℕ) (r : Laid) (z : number ≡ 0) (w : Lays 0 0 o₀ (readAt s (levels u) 0) r o₁) where
-    pub merge-unread : r ≡ Unread → record { refusal = 7; length = 0 } ≡ mergeAnswer u s out
-    merge-unread g = seven z (expression-none u s (unread-none 0 0 (readAt s (levels u) 0) (sym g ∙ w .tells)))
-
-    pub merge-unread-kept : r ≡ Unread → out ≡ mergeBuffer u s out
-    merge-unread-kept g = seven-kept z (expression-none u s (unread-none 0 0 (readAt s (levels u) 0) (sym g ∙ w .tells)))
-
-    module _ (q x d : ℕ) (g : r ≡ Done q x d) where
-      all-laid : Laying 0 0 q x d (readAt s (levels u) 0)
-      all-laid = laying 0 0 q x d (readAt s (levels u) 0) (sym g ∙ w .tells)
-
-      rest : (q ≡ length s → ⊥) → expression u s ≡ none
-      rest n = let l = all-laid in expression-rest u s (l .shape) (l .is) (λ k. n (omega (arith, l .after)))
-
-      pub merge-rest : (q ≡ length s → ⊥) → record { refusal = 7; length = 0 } ≡ mergeAnswer u s out
-      merge-rest n = seven z (rest n)
-
-      pub merge-rest-kept : (q ≡ length s → ⊥) → out ≡ mergeBuffer u s out
-      merge-rest-kept n = seven-kept z (rest n)
-
-      module _ (k : q ≡ length s) where
-        is-read : expression u s ≡ read (all-laid .shape)
-        is-read = let l = all-laid in expression-read u s (l .shape) (l .is) (omega (arith, l .after))
-
-        accepted : expressionChecks u s ≡ 0
-        accepted = checks-read u number e s (all-laid .shape) z is-read
-
-        its-symbols : mergedSymbols u s ≡ symbols (merged (all-laid .shape))
-        its-symbols = rw is-read
-
-        its-length : d ≡ length (mergedSymbols u s)
-        its-length = let l = all-laid in omega (arith, l .end, length-symbols (merged (l .shape)), ap length its-symbols)
-
-        pub merge-short : length out < d → record { refusal = 6; length = d } ≡ mergeAnswer u s out
-        unfolding mergeAnswer
-        merge-short h = written-eq its-length ∙ written-short (expressionChecks u s) out (mergedSymbols u s) accepted (omega (arith, its-length))
-
-        pub merge-short-kept : length out < d → out ≡ mergeBuffer u s out
-        unfolding mergeBuffer
-        merge-short-kept h = kept-short (expressionChecks u s) out (mergedSymbols u s) accepted (omega (arith, its-length))
-
-        pub merge-done : d ≤ length out → record { refusal = 0; length = d } ≡ mergeAnswer u s out
-        unfolding mergeAnswer
-        merge-done h = written-eq its-length ∙ written-all (expressionChecks u s) out (mergedSymbols u s) accepted (omega (arith, its-length))
-
-        pub merge-left : (r₂ : Laid) (o₂ o₃ : List ℕ) → d ≤ length out → Lays 0 0 out (readAt s (levels u) 0) r₂ o₂ → o₃ ≡ noted o₂ 0 x → o₃ ≡ mergeBuffer u s out
-        unfolding mergeBuffer
-        merge-left r₂ o₂ o₃ h v f =
-            let a = all-laid .shape in
-            let room : length (mergedSymbols u s) ≤ length out = omega (arith, its-length) in
-            f ∙ ap (λ y. noted y 0 x) (v .leaves a (all-laid .is)) ∙ ap (noted (laid out 0 (merged a)) 0) (all-laid .held)
-            ∙ laid-noted out 0 (merged a) ∙ ap (sets out 0) (sym its-symbols) ∙ sets-first (mergedSymbols u s) out room
-            ∙ left-all (expressionChecks u s) out (mergedSymbols u s) accepted room
-
-pub ruleset merge-laws = (needs, levels-fit, merge-refused, merge-kept, merge-unread, merge-unread-kept, merge-rest, merge-rest-kept, merge-short, merge-short-kept, merge-done, merge-left, two-lengths)
+pub ruleset lay-laws = (
+  needs,
+  lay-end,
+  lay-deep,
+  lay-other,
+  lay-black,
+  lay-white,
+  lay-low,
+  lay-shorter,
+  lay-further,
+  lay-high,
+  lay-alike,
+  lay-apart,
+  to-fits,
+  two-lengths,
+  three-lengths,
+)

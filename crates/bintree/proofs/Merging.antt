@@ -170,7 +170,9 @@ replaced (inLow h r) =
       colour = w .colour;
       left = openSymbol ∷ w .left;
       right = w .right ++ symbols h;
-      was = ap (λ z. openSymbol ∷ (z ++ symbols h)) (w .was) ∙ ap (λ z. openSymbol ∷ z) (append-assoc (w .left) (openSymbol ∷ symbolOf (w .colour) ∷ symbolOf (w .colour) ∷ w .right) (symbols h));
+      was =
+          ap (λ z. openSymbol ∷ (z ++ symbols h)) (w .was)
+          ∙ ap (λ z. openSymbol ∷ z) (append-assoc (w .left) (openSymbol ∷ symbolOf (w .colour) ∷ symbolOf (w .colour) ∷ w .right) (symbols h));
       is = ap (λ z. openSymbol ∷ (z ++ symbols h)) (w .is) ∙ ap (λ z. openSymbol ∷ z) (append-assoc (w .left) (symbolOf (w .colour) ∷ w .right) (symbols h));
     }
 replaced (inHigh l r) =
@@ -179,8 +181,12 @@ replaced (inHigh l r) =
       colour = w .colour;
       left = openSymbol ∷ (symbols l ++ w .left);
       right = w .right;
-      was = ap (λ z. openSymbol ∷ (symbols l ++ z)) (w .was) ∙ ap (λ z. openSymbol ∷ z) (sym (append-assoc (symbols l) (w .left) (openSymbol ∷ symbolOf (w .colour) ∷ symbolOf (w .colour) ∷ w .right)));
-      is = ap (λ z. openSymbol ∷ (symbols l ++ z)) (w .is) ∙ ap (λ z. openSymbol ∷ z) (sym (append-assoc (symbols l) (w .left) (symbolOf (w .colour) ∷ w .right)));
+      was =
+          ap (λ z. openSymbol ∷ (symbols l ++ z)) (w .was)
+          ∙ ap (λ z. openSymbol ∷ z) (sym (append-assoc (symbols l) (w .left) (openSymbol ∷ symbolOf (w .colour) ∷ symbolOf (w .colour) ∷ w .right)));
+      is =
+          ap (λ z. openSymbol ∷ (symbols l ++ z)) (w .is)
+          ∙ ap (λ z. openSymbol ∷ z) (sym (append-assoc (symbols l) (w .left) (symbolOf (w .colour) ∷ w .right)));
     }
 
 -- THEOREM: the merged expression has no place where `(BB` or `(WW` stands
@@ -217,15 +223,21 @@ module _ (c : Colour) where
   unfolding symbols size
   no-pair-in (leaf d) rest zero m h w = symbol-not-open d (w .opens)
   no-pair-in (leaf d) rest (suc p) m h w = omega arith
-  no-pair-in (halved a b) rest zero m h w = first-pair a b rest (apart a b m .pair) (subst (λ z. PairAt c (openSymbol ∷ z) 0) (append-assoc (symbols a) (symbols b) rest) w)
+  no-pair-in (halved a b) rest zero m h w =
+      first-pair a b rest (apart a b m .pair) (subst (λ z. PairAt c (openSymbol ∷ z) 0) (append-assoc (symbols a) (symbols b) rest) w)
   no-pair-in (halved a b) rest (suc p) m h w = go (λ r q. no-pair-in a r q (apart a b m .low)) (λ r q. no-pair-in b r q (apart a b m .high)) (decLt p (size a))
     where
       parts : PairAt c (symbols a ++ (symbols b ++ rest)) p
-      parts = pair-on c (openSymbol ∷ []) (symbols a ++ (symbols b ++ rest)) (suc p) p (omega arith) (subst (λ z. PairAt c (openSymbol ∷ z) (suc p)) (append-assoc (symbols a) (symbols b) rest) w)
+      parts =
+          pair-on c (openSymbol ∷ []) (symbols a ++ (symbols b ++ rest)) (suc p) p (omega arith)
+          (subst (λ z. PairAt c (openSymbol ∷ z) (suc p)) (append-assoc (symbols a) (symbols b) rest) w)
 
-      go : ((r : List ℕ) (q : ℕ) → q < size a → PairAt c (symbols a ++ r) q → ⊥) → ((r : List ℕ) (q : ℕ) → q < size b → PairAt c (symbols b ++ r) q → ⊥) → Dec (p < size a) → ⊥
+      go :
+          ((r : List ℕ) (q : ℕ) → q < size a → PairAt c (symbols a ++ r) q → ⊥) → ((r : List ℕ) (q : ℕ) → q < size b → PairAt c (symbols b ++ r) q → ⊥) →
+          Dec (p < size a) → ⊥
       go low high (yes k) = low (symbols b ++ rest) p k parts
-      go low high (no k) = high rest (p - size a) (omega arith) (pair-on c (symbols a) (symbols b ++ rest) p (p - size a) (omega (arith, length-symbols a)) parts)
+      go low high (no k) =
+          high rest (p - size a) (omega arith) (pair-on c (symbols a) (symbols b ++ rest) p (p - size a) (omega (arith, length-symbols a)) parts)
 
 pub merged-no-pair : (s : Shape) (c : Colour) (p : ℕ) → PairAt c (symbols (merged s)) p → ⊥
 merged-no-pair s c p w =
@@ -284,5 +296,7 @@ merged-depth (halved a b) =
     let x = merged-depth a in
     let y = merged-depth b in
     let z = join-depth (joined (merged a) (merged b)) in
-    let w : max (depth (merged a)) (depth (merged b)) ≤ max (depth a) (depth b) = max-le (omega (arith, le-max-left (depth a) (depth b))) (omega (arith, le-max-right (depth a) (depth b))) in
+    let l = le-max-left (depth a) (depth b) in
+    let r = le-max-right (depth a) (depth b) in
+    let w : max (depth (merged a)) (depth (merged b)) ≤ max (depth a) (depth b) = max-le (omega arith) (omega arith) in
     omega arith

@@ -3,12 +3,12 @@
 use mathlib.Core.Path.{_≡_, refl, sym, ap, _∙_}
 use mathlib.Core.List.{List, [], _∷_}
 use Prim.Native.Nat.{ℕ, zero, suc, _+_, _-_, _*_, _%_, _^_, _≤_, _<_}
-use native.Mathlib.Nat.{le-trans, le-of-suc-le-suc, mul-one, mul-assoc, pow-succ'}
+use native.Mathlib.Nat.{le-trans, le-of-suc-le-suc, lt-of-not-le, not-le-of-lt, mul-one, mul-assoc, pow-succ'}
 use native.Mathlib.Decide.{decLt}
 use native.Mathlib.Omega.{arith}
 use lib.Bits.{shifted-half, shifted-even}
 use lib.Count.{trailingZeros}
-use lib.Pow.{pow-add, pow-lt, pow-pos}
+use lib.Pow.{pow-add, pow-lt, pow-mono, pow-pos}
 
 -- the number with a bit at each level owed
 unfoldable pub mask : List ℕ → ℕ
@@ -57,8 +57,11 @@ pub bit-under : {l k : ℕ} → 2 ^ l ≤ 2 ^ k → l ≤ k
 bit-under {l} {k} h = go (decLt k l)
   where
     go : Dec (k < l) → l ≤ k
-    go (yes g) = absurd (omega (arith, pow-lt g))
+    go (yes g) = absurd (not-le-of-lt (pow-lt g) h)
     go (no g) = omega arith
+
+pub bit-less : {l k : ℕ} → 2 ^ l < 2 ^ k → l < k
+bit-less h = lt-of-not-le (λ g. not-le-of-lt h (pow-mono g))
 
 -- levels from n on are a multiple of 2ⁿ, and the first of them makes an odd multiple of its bit
 odd-multiple : (l m x : ℕ) → x ≡ m * 2 ^ suc l → 2 ^ l + x ≡ (1 + 2 * m) * 2 ^ l
@@ -91,3 +94,18 @@ unfolding mask
 mask-zeros d {n} {l} {ls} (next h r) k =
     let w = rising-multiple r in
     rw (odd-multiple l (w .0) (mask ls) (w .1)) (shifted-zeros d (1 + 2 * w .0) l (odd-number (w .0)) k)
+
+-- what is owed first: its level is the number's trailing zeros, and its bit goes first
+pub record Due (owed : ℕ) (levels : List ℕ) : Type 0 where
+  pub first : ℕ
+  pub rest : List ℕ
+  pub are : levels ≡ first ∷ rest
+  pub zeros : trailingZeros 64 owed ≡ first
+  pub owes : owed ≡ 2 ^ first + mask rest
+  pub rising : Rising (suc first) rest
+
+pub due : (owed : ℕ) {n : ℕ} (levels : List ℕ) → owed ≡ mask levels → Rising n levels → owed < 2 ^ 64 → (owed ≡ 0 → ⊥) → Due owed levels
+due owed [] e r h n = absurd (n (e ∙ mask-none))
+due owed (l ∷ ls) e r h n =
+    let few : l < 64 = bit-less (omega (arith, mask-first l ls)) in
+    record { first = l; rest = ls; are = refl; zeros = rw e (mask-zeros 64 r few); owes = e ∙ mask-more l ls; rising = rising-rest r }

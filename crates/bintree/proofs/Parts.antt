@@ -1,25 +1,32 @@
--- The part at a path, by the path's halves; where its symbols stand among the shape's; and the colour at a voxel, whose path has L halves, so that the part there is a leaf.
+-- The part at a path, by the path's halves; where its symbols stand among the shape's; and the colour at a voxel, whose path has L halves, so that the part
+-- there is a leaf.
 use mathlib.Core.Path.{_≡_, refl, sym, ap, _∙_}
 use mathlib.Core.Bool.{Bool, true, false, cond, _&&_}
 use mathlib.Core.List.{List, [], _∷_, _++_, append-assoc, append-nil}
 use Prim.Native.Nat.{ℕ, zero, suc, _+_, _-_, _≤_, _<_}
+use native.Mathlib.Decide.{ℕ-discrete}
 use native.Mathlib.Omega.{arith}
-use borrow.Author.Tests.{leb-true, le-leb, ltb-true, lt-ltb}
+use borrow.Author.Tests.{eq-eqb, ne-eqb, leb-true, le-leb, ltb-true, lt-ltb}
 use lib.Dec.{eqb, leb, ltb}
 use lib.ListN.{length, getD, take, drop}
 use lib.Seq.{take-at, drop-at, drop-drop}
 use Rattle.lemmas.specs.Sums.{every}
 use Rattle.lemmas.proofs.Sums.{and-left, and-right, and-both, every-all, all-every}
-use Rattle.universe.proofs.Refusals.{unless-holds, holds-unless}
+use Rattle.universe.proofs.Refusing.{unless-holds, holds-unless}
 use Rattle.universe.proofs.Voxel.{path-length}
 use Rattle.universe.specs.declared.Universe.{Universe}
-use Rattle.universe.specs.Refusals.{unless}
+use Rattle.universe.specs.Refusals.{outside, unless}
 use Rattle.universe.specs.Universe.{levels}
 use Rattle.universe.specs.Voxel.{pathTo}
 use Rattle.bintree.specs.declared.Colour.{Colour}
 use Rattle.bintree.specs.Shape.{Shape, leaf, halved, symbols, size, depth}
-use Rattle.bintree.specs.Parts.{part, partStart, pathRefusal}
+use Rattle.bintree.specs.declared.Placed.{Placed}
+use Rattle.bintree.specs.Reading.{Reading, none, read, expression}
+use Rattle.bintree.specs.Answers.{ofShape}
+use Rattle.bintree.specs.Parts.{part, partStart, pathRefusal, refusedPlace, donePlace, partRefusal, placeAnswer, partAnswer}
 use Rattle.bintree.proofs.Shape.{length-symbols, depth-low, depth-high, halved-deep}
+use Rattle.bintree.proofs.Reading.{expression-at, read-is}
+use Rattle.bintree.proofs.Answers.{number-of}
 
 pub part-empty : (s : Shape) → part s [] ≡ s
 unfolding part
@@ -70,10 +77,13 @@ part-within (halved a b) [] = omega arith
 part-within (halved a b) (h ∷ path) =
     let x = part-within a path in
     let y = part-within b path in
-    within-choice (eqb h 0) (suc (partStart a path)) (suc (size a + partStart b path)) (part a path) (part b path) (suc (size a + size b)) (omega arith) (omega arith)
+    within-choice (eqb h 0) (suc (partStart a path)) (suc (size a + partStart b path)) (part a path) (part b path) (suc (size a + size b))
+    (omega arith) (omega arith)
 
 -- the part's symbols stand there, whatever follows the shape's
-cut-choice : (choice : Bool) (s : List ℕ) (m n : ℕ) (x y : Shape) → take (size x) (drop m s) ≡ symbols x → take (size y) (drop n s) ≡ symbols y → take (size (cond choice x y)) (drop (cond choice m n) s) ≡ symbols (cond choice x y)
+cut-choice :
+    (choice : Bool) (s : List ℕ) (m n : ℕ) (x y : Shape) → take (size x) (drop m s) ≡ symbols x → take (size y) (drop n s) ≡ symbols y →
+    take (size (cond choice x y)) (drop (cond choice m n) s) ≡ symbols (cond choice x y)
 cut-choice true s m n x y h k = h
 cut-choice false s m n x y h k = k
 
@@ -106,7 +116,22 @@ depth-part (halved a b) n [] h = omega arith
 depth-part (halved a b) zero (d ∷ path) h = absurd (omega arith)
 depth-part (halved a b) (suc n) (d ∷ path) h =
     let e : suc n - suc (length path) ≡ n - length path = omega arith in
-    rw e (depth-choice (eqb d 0) (part a path) (part b path) (n - length path) (depth-part a n path (depth-low a b n h)) (depth-part b n path (depth-high a b n h)))
+    rw e
+    (depth-choice (eqb d 0) (part a path) (part b path) (n - length path)
+    (depth-part a n path (depth-low a b n h)) (depth-part b n path (depth-high a b n h)))
+
+-- and no more halves of the path are followed than the shape is deep
+choice-same : {A : Type 0} (choice : Bool) {x x′ y y′ : A} → x ≡ x′ → y ≡ y′ → cond choice x y ≡ cond choice x′ y′
+choice-same true e f = e
+choice-same false e f = f
+
+pub part-front : (s : Shape) (n : ℕ) (path : List ℕ) → depth s ≤ n → part s (take n path) ≡ part s path
+unfolding part depth
+part-front (leaf c) n path h = refl
+part-front (halved a b) zero path h = absurd (omega arith)
+part-front (halved a b) (suc n) [] h = refl
+part-front (halved a b) (suc n) (d ∷ path) h =
+    choice-same (eqb d 0) (part-front a n path (depth-low a b n h)) (part-front b n path (depth-high a b n h))
 
 -- so a path that is as long as the shape is deep leads to a leaf
 flat-leaf : (s : Shape) → depth s ≤ 0 → (c : Colour) × (s ≡ leaf c)
@@ -133,7 +158,7 @@ unfolding pathRefusal
 accepted-path u path e =
     let short : Bool = leb (length path) (levels u) in
     let halves : Bool = every (length path) (λ i. ltb (getD path i 0) 2) in
-    let both = unless-holds (short && halves) 9 (omega arith) e in
+    let both = unless-holds (short && halves) outside (omega arith) e in
     record {
       short = leb-true _ _ (and-left short halves both);
       halves = λ i h. ltb-true _ _ (every-all (length path) (λ i. ltb (getD path i 0) 2) (and-right short halves both) i h);
@@ -142,12 +167,53 @@ accepted-path u path e =
 pub path-accepted : (u : Universe) (path : List ℕ) → IsPath u path → pathRefusal u path ≡ 0
 unfolding pathRefusal
 path-accepted u path w =
-    holds-unless _ 9 (and-both (le-leb _ _ (w .short)) (all-every (length path) (λ i. ltb (getD path i 0) 2) (λ i h. lt-ltb _ _ (w .halves i h))))
+    holds-unless _ outside (and-both (le-leb _ _ (w .short)) (all-every (length path) (λ i. ltb (getD path i 0) 2) (λ i h. lt-ltb _ _ (w .halves i h))))
 
-pub path-refused : (u : Universe) (path : List ℕ) → (IsPath u path → ⊥) → pathRefusal u path ≡ 9
+pub path-refused : (u : Universe) (path : List ℕ) → (IsPath u path → ⊥) → pathRefusal u path ≡ outside
 unfolding pathRefusal
 path-refused u path h = number (leb (length path) (levels u) && every (length path) (λ i. ltb (getD path i 0) 2)) (λ e. h (accepted-path u path e))
   where
-    number : (good : Bool) → (unless good 9 ≡ 0 → ⊥) → unless good 9 ≡ 9
+    number : (good : Bool) → (unless good outside ≡ 0 → ⊥) → unless good outside ≡ outside
     number true k = absurd (k refl)
     number false k = refl
+
+-- where the part for a block stands: the answer by its number
+module _ (u : Universe) (s path : List ℕ) where
+  placed-refused : (partRefusal u s path ≡ 0 → ⊥) → placeAnswer u s path ≡ refusedPlace (partRefusal u s path)
+  unfolding placeAnswer
+  placed-refused h = rw (ne-eqb (partRefusal u s path) 0 h)
+
+  placed-read : (a : Shape) → partRefusal u s path ≡ 0 → expression u s ≡ read a → placeAnswer u s path ≡ donePlace (partStart a path) (size (part a path))
+  unfolding placeAnswer
+  placed-read a e f = rw (eq-eqb (partRefusal u s path) 0 e, f)
+
+  placed-none : partRefusal u s path ≡ 0 → expression u s ≡ none → placeAnswer u s path ≡ donePlace 0 0
+  unfolding placeAnswer
+  placed-none e f = rw (eq-eqb (partRefusal u s path) 0 e, f)
+
+  pub placed-number : (r : Placed) → r ≡ placeAnswer u s path → r .refusal ≡ partRefusal u s path
+  unfolding placeAnswer
+  placed-number r e =
+      ap (λ (z : Placed). z .refusal) e ∙ number-of refusedPlace _ (partRefusal u s path) (λ z. z .refusal) (λ m. refl) (go (expression u s))
+    where
+      go : (x : Reading) → ofShape x (donePlace 0 0) (λ a. donePlace (partStart a path) (size (part a path))) .refusal ≡ 0
+      go none = refl
+      go (read a) = refl
+
+  -- the place is inside the expression, whatever was asked
+  pub placed-within : placeAnswer u s path .start + placeAnswer u s path .length ≤ length s
+  placed-within = go (ℕ-discrete (partRefusal u s path) 0) (expression u s) refl
+    where
+      go : Dec (partRefusal u s path ≡ 0) → (x : Reading) → expression u s ≡ x → placeAnswer u s path .start + placeAnswer u s path .length ≤ length s
+      go (no n) x f = rw (placed-refused n) (omega arith)
+      go (yes z) none f = rw (placed-none z f) (omega arith)
+      go (yes z) (read a) f = rw (placed-read a z f) (omega (arith, part-within a path, expression-at u s a f .1))
+
+  -- THEOREM: the part that is handed back is the part's own expression; and empty where the path or the expression is refused
+  pub part-is : (a : Shape) → partRefusal u s path ≡ 0 → expression u s ≡ read a → partAnswer u s path ≡ symbols (part a path)
+  unfolding partAnswer
+  part-is a e f = rw (placed-read a e f, ← read-is u s a f .0) (part-symbols a path)
+
+  pub part-refused : (partRefusal u s path ≡ 0 → ⊥) → partAnswer u s path ≡ []
+  unfolding partAnswer
+  part-refused h = rw (placed-refused h)

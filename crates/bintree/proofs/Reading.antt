@@ -16,7 +16,7 @@ use Rattle.universe.specs.Universe.{levels}
 use Rattle.bintree.specs.declared.Colour.{Colour}
 use Rattle.bintree.specs.declared.Colour.the-variants.{White, Black}
 use Rattle.bintree.specs.Shape.{Shape, leaf, halved, openSymbol, symbolOf, symbols, size, depth}
-use Rattle.bintree.specs.Reading.{Reading, none, read, readLeaf, withHigh, readHalves, readAt, exactly, expression, refusalOf, expressionRefusal}
+use Rattle.bintree.specs.Reading.{Reading, none, read, readLeaf, withHigh, readHalves, readAt, exactly, expression, readingRefusal, expressionRefusal}
 use Rattle.bintree.proofs.Shape.{length-symbols, depth-low, depth-high, halved-deep, symbol-not-zero, symbol-not-open}
 
 -- what is read at a place, by the symbol there
@@ -27,17 +27,17 @@ leaf-read White = refl
 
 pub other-leaf : (x : ℕ) → (x ≡ symbolOf Black → ⊥) → (x ≡ symbolOf White → ⊥) → readLeaf x ≡ none
 unfolding readLeaf
-other-leaf x h k = rw (ne-eqb x 66 h, ne-eqb x 87 k)
+other-leaf x h k = rw (ne-eqb x (symbolOf Black) h, ne-eqb x (symbolOf White) k)
 
 module _ (s : List ℕ) where
   pub open-suc : (n p : ℕ) → getD s p 0 ≡ openSymbol → readAt s (suc n) p ≡ readHalves (readAt s n (suc p)) (λ a. readAt s n (suc p + size a))
   unfolding readAt
-  open-suc n p e = rw (readAt, eq-eqb (getD s p 0) 40 e)
+  open-suc n p e = rw (readAt, eq-eqb (getD s p 0) openSymbol e)
 
   pub closed-at : (n p : ℕ) → (getD s p 0 ≡ openSymbol → ⊥) → readAt s n p ≡ readLeaf (getD s p 0)
   unfolding readAt
   closed-at zero p h = refl
-  closed-at (suc n) p h = rw (readAt, ne-eqb (getD s p 0) 40 h)
+  closed-at (suc n) p h = rw (readAt, ne-eqb (getD s p 0) openSymbol h)
 
   pub flat-at : (p : ℕ) → readAt s 0 p ≡ readLeaf (getD s p 0)
   unfolding readAt
@@ -97,22 +97,23 @@ pub data Stands (s : List ℕ) : ℕ → ℕ → Shape → Type 0 where
 
 -- what is read there stands there
 leaf-symbol : (x : ℕ) (a : Shape) → readLeaf x ≡ read a → (c : Colour) × (x ≡ symbolOf c) × (a ≡ leaf c)
-leaf-symbol x a e = at-black (ℕ-discrete x 66)
+leaf-symbol x a e = at-black (ℕ-discrete x (symbolOf Black))
   where
-    at-white : (x ≡ 66 → ⊥) → Dec (x ≡ 87) → (c : Colour) × (x ≡ symbolOf c) × (a ≡ leaf c)
+    at-white : (x ≡ symbolOf Black → ⊥) → Dec (x ≡ symbolOf White) → (c : Colour) × (x ≡ symbolOf c) × (a ≡ leaf c)
     at-white k (yes h) = let f : readLeaf x ≡ read (leaf White) = rw h (leaf-read White) in (White, h, (cc))
     at-white k (no h) = let f : readLeaf x ≡ none = other-leaf x k h in let z : _≡_ {A = ℕ} 0 1 = cc in absurd (omega arith)
 
-    at-black : Dec (x ≡ 66) → (c : Colour) × (x ≡ symbolOf c) × (a ≡ leaf c)
+    at-black : Dec (x ≡ symbolOf Black) → (c : Colour) × (x ≡ symbolOf c) × (a ≡ leaf c)
     at-black (yes h) = let f : readLeaf x ≡ read (leaf Black) = rw h (leaf-read Black) in (Black, h, (cc))
-    at-black (no h) = at-white h (ℕ-discrete x 87)
+    at-black (no h) = at-white h (ℕ-discrete x (symbolOf White))
 
 with-high : (l : Shape) (y : Reading) (a : Shape) → withHigh l y ≡ read a → (r : Shape) × (y ≡ read r) × (a ≡ halved l r)
 unfolding withHigh
 with-high l none a e = let z : _≡_ {A = ℕ} 0 1 = cc in absurd (omega arith)
 with-high l (read r) a e = (r, refl, (cc))
 
-of-halves : (x : Reading) (k : Shape → Reading) (a : Shape) → readHalves x k ≡ read a → (l : Shape) × (x ≡ read l) × (r : Shape) × (k l ≡ read r) × (a ≡ halved l r)
+of-halves :
+    (x : Reading) (k : Shape → Reading) (a : Shape) → readHalves x k ≡ read a → (l : Shape) × (x ≡ read l) × (r : Shape) × (k l ≡ read r) × (a ≡ halved l r)
 unfolding readHalves
 of-halves none k a e = let z : _≡_ {A = ℕ} 0 1 = cc in absurd (omega arith)
 of-halves (read l) k a e = let w = with-high l (k l) a e in (l, refl, w .0, w .1, w .2)
@@ -122,9 +123,9 @@ leaf-there s n p a e = let w = leaf-symbol (getD s p 0) a e in rw (w .2) (leaf-s
 
 pub stands : (s : List ℕ) (n p : ℕ) (a : Shape) → readAt s n p ≡ read a → Stands s n p a
 stands s zero p a e = leaf-there s 0 p a (sym (flat-at s p) ∙ e)
-stands s (suc n) p a e = go (λ q b h. stands s n q b h) (ℕ-discrete (getD s p 0) 40)
+stands s (suc n) p a e = go (λ q b h. stands s n q b h) (ℕ-discrete (getD s p 0) openSymbol)
   where
-    go : ((q : ℕ) (b : Shape) → readAt s n q ≡ read b → Stands s n q b) → Dec (getD s p 0 ≡ 40) → Stands s (suc n) p a
+    go : ((q : ℕ) (b : Shape) → readAt s n q ≡ read b → Stands s n q b) → Dec (getD s p 0 ≡ openSymbol) → Stands s (suc n) p a
     go ih (no h) = leaf-there s (suc n) p a (sym (closed-at s (suc n) p h) ∙ e)
     go ih (yes h) =
         let w = of-halves (readAt s n (suc p)) (λ l. readAt s n (suc p + size l)) a (sym (open-suc s n p h) ∙ e) in
@@ -179,8 +180,8 @@ unfolding symbols
 spelt s n p (leaf c) rest h e = leaf-stands (first-symbol s p (symbolOf c) rest e)
 spelt s zero p (halved a b) rest h e = absurd (halved-deep a b h)
 spelt s (suc n) p (halved a b) rest h e =
-    let l = after-symbol s p 40 (symbols a ++ symbols b ++ rest) e ∙ append-assoc (symbols a) (symbols b) rest in
-    open-stands (first-symbol s p 40 (symbols a ++ symbols b ++ rest) e)
+    let l = after-symbol s p openSymbol (symbols a ++ symbols b ++ rest) e ∙ append-assoc (symbols a) (symbols b) rest in
+    open-stands (first-symbol s p openSymbol (symbols a ++ symbols b ++ rest) e)
     (spelt s n (suc p) a (symbols b ++ rest) (depth-low a b n h) l)
     (spelt s n (suc p + size a) b rest (depth-high a b n h) (after-shape s (suc p) a (symbols b ++ rest) l))
 
@@ -245,6 +246,6 @@ pub accepted-shape : (u : Universe) (s : List ℕ) → expressionRefusal u s ≡
 unfolding expressionRefusal
 accepted-shape u s e = go (expression u s) refl e
   where
-    go : (x : Reading) → expression u s ≡ x → refusalOf x ≡ 0 → (a : Shape) × (expression u s ≡ read a)
+    go : (x : Reading) → expression u s ≡ x → readingRefusal x ≡ 0 → (a : Shape) × (expression u s ≡ read a)
     go none f h = absurd (omega arith)
     go (read a) f h = (a, f)

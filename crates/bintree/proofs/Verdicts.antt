@@ -1,6 +1,7 @@
 -- Verdicts over a window, both ends in: Clear exactly where no frame of the window has a black voxel, and otherwise Hit with the first and the
 -- last frame that has one and the sum of all. Frames are named by any test, and a window of n frames by its first.
-use mathlib.Core.Path.{_≡_, refl, ap, _∙_}
+use mathlib.Core.Path.{_≡_, refl, sym, ap, _∙_}
+use mathlib.Core.List.{List}
 use mathlib.Core.Bool.{Bool, true, false, cond}
 use Prim.Native.Nat.{ℕ, zero, suc, _+_, _-_, _≤_, _<_}
 use native.Mathlib.Decide.{decLt}
@@ -9,11 +10,15 @@ use borrow.Author.Tests.{ltb-true, ltb-false, lt-ltb, le-ltb}
 use Rattle.lemmas.specs.Sums.{sum}
 use Rattle.lemmas.proofs.Sums.{sum-zero, sum-part}
 use Rattle.universe.specs.declared.Universe.{Universe}
+use Rattle.universe.specs.Universe.{universeRefusal}
+use Rattle.universe.specs.Voxel.{windowRefusal}
 use Rattle.bintree.specs.declared.Contact.{Contact}
 use Rattle.bintree.specs.declared.Verdict.the-variants.{Clear, Hit}
 use Rattle.bintree.specs.Shape.{Shape}
+use Rattle.bintree.specs.Reading.{read, expression}
 use Rattle.bintree.specs.Counts.{voxelsAt}
-use Rattle.bintree.specs.Verdicts.{windowLength, firstFrame, lastFrame, voxelsIn, isHit, verdict}
+use Rattle.bintree.specs.Verdicts.{windowLength, firstFrame, lastFrame, voxelsIn, isHit, verdict, refusedVerdict, doneVerdict, verdictAnswer}
+use Rattle.bintree.proofs.Answers.{answer-last}
 
 -- both ends are in: a window of one frame has one, and its frames are first to last
 pub one-frame : (c : ℕ) → windowLength c c ≡ 1
@@ -61,7 +66,9 @@ module _ (named : ℕ → Bool) where
       later m c e h k l (yes d) = h c d l
       later m c e h k l (no d) = same-frame c frame (omega arith) e
 
-      go : (b : Bool) → named frame ≡ b → (Names (suc frame) n → IsFirst (suc frame) n (firstFrame named (suc frame) n)) → IsFirst frame (suc n) (cond b frame (firstFrame named (suc frame) n))
+      go :
+          (b : Bool) → named frame ≡ b → (Names (suc frame) n → IsFirst (suc frame) n (firstFrame named (suc frame) n)) →
+          IsFirst frame (suc n) (cond b frame (firstFrame named (suc frame) n))
       go true e ih = record { from = omega arith; below = omega arith; names = e; none = λ c h k. absurd (omega arith) }
       go false e ih =
           let f = not-named frame (w .which) e (w .names) in
@@ -78,11 +85,15 @@ module _ (named : ℕ → Bool) where
   last-is frame zero w = absurd (omega (arith, w .from, w .below))
   last-is frame (suc n) w = go (named (frame + n)) refl (last-is frame n)
     where
-      earlier : (m c : ℕ) → named (frame + n) ≡ false → ((e : ℕ) → m < e → e < frame + n → named e ≡ false) → m < c → c < frame + suc n → Dec (c < frame + n) → named c ≡ false
+      earlier :
+          (m c : ℕ) → named (frame + n) ≡ false → ((e : ℕ) → m < e → e < frame + n → named e ≡ false) → m < c → c < frame + suc n → Dec (c < frame + n) →
+          named c ≡ false
       earlier m c e h k l (yes d) = h c k d
       earlier m c e h k l (no d) = same-frame c (frame + n) (omega arith) e
 
-      go : (b : Bool) → named (frame + n) ≡ b → (Names frame n → IsLast frame n (lastFrame named frame n)) → IsLast frame (suc n) (cond b (frame + n) (lastFrame named frame n))
+      go :
+          (b : Bool) → named (frame + n) ≡ b → (Names frame n → IsLast frame n (lastFrame named frame n)) →
+          IsLast frame (suc n) (cond b (frame + n) (lastFrame named frame n))
       go true e ih = record { from = omega arith; below = omega arith; names = e; none = λ c h k. absurd (omega arith) }
       go false e ih =
           let f = not-named (frame + n) (w .which) e (w .names) in
@@ -119,7 +130,12 @@ pub record HitIn (u : Universe) (s : Shape) (first last : ℕ) (contact : Contac
 module _ (u : Universe) (s : Shape) (first last : ℕ) where
   -- the contact of a window that has a black voxel
   abbrev contactIn : Contact
-  contactIn = record { first = firstFrame (isHit u s) first (windowLength first last); last = lastFrame (isHit u s) first (windowLength first last); voxels = voxelsIn u s first last }
+  contactIn =
+      record {
+        first = firstFrame (isHit u s) first (windowLength first last);
+        last = lastFrame (isHit u s) first (windowLength first last);
+        voxels = voxelsIn u s first last;
+      }
 
   verdict-none : voxelsIn u s first last ≡ 0 → verdict u s first last ≡ Clear
   unfolding verdict
@@ -191,7 +207,8 @@ module _ (u : Universe) (s : Shape) (first last : ℕ) where
 pub one-clear : (u : Universe) (s : Shape) (c : ℕ) → voxelsAt u s c ≡ 0 → verdict u s c c ≡ Clear
 one-clear u s c h = none-clear u s c c (λ e i j. let f : e ≡ c = omega arith in ap (voxelsAt u s) f ∙ h)
 
-contact-eq : (contact : Contact) (a b n : ℕ) → contact .first ≡ a → contact .last ≡ b → contact .voxels ≡ n → contact ≡ record { first = a; last = b; voxels = n }
+contact-eq :
+    (contact : Contact) (a b n : ℕ) → contact .first ≡ a → contact .last ≡ b → contact .voxels ≡ n → contact ≡ record { first = a; last = b; voxels = n }
 contact-eq contact a b n e f g = λ i. record { first = e i; last = f i; voxels = g i }
 
 one-sum : (c : ℕ) (f : ℕ → ℕ) → sum (windowLength c c) (λ e. f (c + e)) ≡ f c
@@ -204,4 +221,14 @@ pub one-hit : (u : Universe) (s : Shape) (c : ℕ) → 0 < voxelsAt u s c → ve
 one-hit u s c h =
     let w = some-hit u s c c c (omega arith) (omega arith) h in
     let v = hit-is u s c c (w .0) (w .1) in
-    w .1 ∙ ap Hit (contact-eq (w .0) c c (voxelsAt u s c) (omega (arith, v .first-from, v .first-to)) (omega (arith, v .last-from, v .last-to)) (v .count ∙ one-sum c (voxelsAt u s)))
+    let e : w .0 .first ≡ c = omega (arith, v .first-from, v .first-to) in
+    let f : w .0 .last ≡ c = omega (arith, v .last-from, v .last-to) in
+    w .1 ∙ ap Hit (contact-eq (w .0) c c (voxelsAt u s c) e f (v .count ∙ one-sum c (voxelsAt u s)))
+
+-- THEOREM: a well-formed expression's verdict over a window of its universe is its shape's
+pub verdict-accepted :
+    (u : Universe) (s : List ℕ) (first last : ℕ) (a : Shape) → universeRefusal u ≡ 0 → expression u s ≡ read a → windowRefusal u first last ≡ 0 →
+    verdictAnswer u s first last ≡ doneVerdict (verdict u a first last)
+unfolding verdictAnswer
+verdict-accepted u s first last a ok x w =
+    sym (answer-last u 0 (sym ok) refusedVerdict _ (doneVerdict (verdict u a first last)) s (windowRefusal u first last) a refl x (rw (w, x)))

@@ -3,7 +3,6 @@
 use mathlib.Core.Path.{_≡_, refl, sym, ap, _∙_}
 use mathlib.Core.Bool.{Bool, true, false, cond, _&&_}
 use Prim.Native.Nat.{ℕ, zero, suc, _+_, _-_, _*_, _/_, _%_, _≤_, _<_, min, max}
-use native.Mathlib.Nat.{div-eq-of-lt-le}
 use native.Mathlib.Decide.{ℕ-discrete, decLe, decLt}
 use native.Mathlib.Omega.{arith}
 use borrow.Author.Tests.{eq-eqb, ne-eqb, le-leb, lt-leb, lt-ltb, le-ltb}
@@ -20,8 +19,8 @@ use Rattle.bintree.specs.declared.Verdict.the-variants.{Clear, Hit}
 use Rattle.bintree.specs.Shape.{Shape, leaf, halved, depth}
 use Rattle.bintree.specs.Counts.{ofHalves, voxelsFrom, voxelsAt}
 use Rattle.bintree.specs.Verdicts.{windowLength, verdict}
-use Rattle.bintree.specs.Windows.{noContact, joined, touched, contactFrom, verdictOf}
-use Rattle.bintree.proofs.Counts.{level-below, low-fits, high-fits}
+use Rattle.bintree.specs.Windows.{noContact, withFrames, touched, contactFrom, verdictOf}
+use Rattle.bintree.proofs.Counts.{level-below, low-fits, high-fits, lower-frame, upper-frame}
 use Rattle.bintree.proofs.Verdicts.{HitIn, clear-none, hit-is}
 
 -- f at the n frames from `frame` on, and 0 elsewhere
@@ -66,16 +65,13 @@ both-inside frame n low high c = go (decLe frame c) (decLt c (frame + n))
   where
     go : Dec (frame ≤ c) → Dec (c < frame + n) → inside frame n low c + inside frame n high c ≡ inside frame n (λ e. low e + high e) c
     go (yes h) (yes k) = rw (inside-at frame n low c h k, inside-at frame n high c h k, inside-at frame n (λ e. low e + high e) c h k)
-    go (yes h) (no k) = let l : frame + n ≤ c = omega arith in rw (after-at frame n low c l, after-at frame n high c l, after-at frame n (λ e. low e + high e) c l)
+    go (yes h) (no k) =
+        let l : frame + n ≤ c = omega arith in rw (after-at frame n low c l, after-at frame n high c l, after-at frame n (λ e. low e + high e) c l)
     go (no h) k = let l : c < frame = omega arith in rw (before-at frame n low c l, before-at frame n high c l, before-at frame n (λ e. low e + high e) c l)
 
-lower-frame : (n m c : ℕ) → m * (2 * n) ≤ c → c < m * (2 * n) + n → c / n % 2 ≡ 0
-lower-frame n m c h k = let e : c / n ≡ 2 * m = div-eq-of-lt-le n (omega arith) (omega arith) in omega arith
-
-upper-frame : (n m c : ℕ) → m * (2 * n) + n ≤ c → c < m * (2 * n) + 2 * n → c / n % 2 ≡ 1
-upper-frame n m c h k = let e : c / n ≡ 2 * m + 1 = div-eq-of-lt-le n (omega arith) (omega arith) in omega arith
-
-halves-inside : (n m : ℕ) (low high : ℕ → ℕ) (c : ℕ) → inside (m * (2 * n)) n low c + inside (m * (2 * n) + n) n high c ≡ inside (m * (2 * n)) (2 * n) (λ e. ofHalves true (eqb (e / n % 2) 0) (low e) (high e)) c
+halves-inside :
+    (n m : ℕ) (low high : ℕ → ℕ) (c : ℕ) →
+    inside (m * (2 * n)) n low c + inside (m * (2 * n) + n) n high c ≡ inside (m * (2 * n)) (2 * n) (λ e. ofHalves true (eqb (e / n % 2) 0) (low e) (high e)) c
 halves-inside n m low high c = go (decLe frame c) (decLt c (frame + n)) (decLt c (frame + 2 * n))
   where
     frame : ℕ
@@ -86,12 +82,23 @@ halves-inside n m low high c = go (decLe frame c) (decLt c (frame + n)) (decLt c
 
     go : Dec (frame ≤ c) → Dec (c < frame + n) → Dec (c < frame + 2 * n) → inside frame n low c + inside (frame + n) n high c ≡ inside frame (2 * n) both c
     go (no h) k l = rw (before-at frame n low c (omega arith), before-at (frame + n) n high c (omega arith), before-at frame (2 * n) both c (omega arith))
-    go (yes h) (yes k) l = rw (inside-at frame n low c h k, before-at (frame + n) n high c k, inside-at frame (2 * n) both c h (omega arith), lower-frame n m c h k) (omega arith)
-    go (yes h) (no k) (yes l) = rw (after-at frame n low c (omega arith), inside-at (frame + n) n high c (omega arith) (omega arith), inside-at frame (2 * n) both c h l, upper-frame n m c (omega arith) l) (omega arith)
-    go (yes h) (no k) (no l) = rw (after-at frame n low c (omega arith), after-at (frame + n) n high c (omega arith), after-at frame (2 * n) both c (omega arith))
+    go (yes h) (yes k) l =
+        rw (inside-at frame n low c h k, before-at (frame + n) n high c k, inside-at frame (2 * n) both c h (omega arith), lower-frame n m c h k) (omega arith)
+    go (yes h) (no k) (yes l) =
+        rw (
+          after-at frame n low c (omega arith),
+          inside-at (frame + n) n high c (omega arith) (omega arith),
+          inside-at frame (2 * n) both c h l,
+          upper-frame n m c (omega arith) l,
+        )
+        (omega arith)
+    go (yes h) (no k) (no l) =
+        rw (after-at frame n low c (omega arith), after-at (frame + n) n high c (omega arith), after-at frame (2 * n) both c (omega arith))
 
 -- the same with numbers of their own
-follow-inside : (n m frame wide next : ℕ) → wide ≡ 2 * n → frame ≡ m * wide → next ≡ frame + (wide - n) → (low high : ℕ → ℕ) (c : ℕ) → inside frame n low c + inside next n high c ≡ inside frame wide (λ e. ofHalves true (eqb (e / n % 2) 0) (low e) (high e)) c
+follow-inside :
+    (n m frame wide next : ℕ) → wide ≡ 2 * n → frame ≡ m * wide → next ≡ frame + (wide - n) → (low high : ℕ → ℕ) (c : ℕ) →
+    inside frame n low c + inside next n high c ≡ inside frame wide (λ e. ofHalves true (eqb (e / n % 2) 0) (low e) (high e)) c
 follow-inside n m frame wide next e f g low high c =
     let p : frame ≡ m * (2 * n) = f ∙ ap (λ (x : ℕ). m * x) e in
     let q : next ≡ m * (2 * n) + n = omega arith in
@@ -109,7 +116,9 @@ frames-sum first each frame n (suc w) = go (decLe frame (first + w)) (decLt (fir
     next : ℕ
     next = min (frame + n) (first + suc w) - max frame first
 
-    go : Dec (frame ≤ first + w) → Dec (first + w < frame + n) → sum w (λ c. inside frame n (λ e. each) (first + c)) ≡ now * each → sum w (λ c. inside frame n (λ e. each) (first + c)) + inside frame n (λ e. each) (first + w) ≡ next * each
+    go :
+        Dec (frame ≤ first + w) → Dec (first + w < frame + n) → sum w (λ c. inside frame n (λ e. each) (first + c)) ≡ now * each →
+        sum w (λ c. inside frame n (λ e. each) (first + c)) + inside frame n (λ e. each) (first + w) ≡ next * each
     go (yes h) (yes k) ih =
         let e : next ≡ suc now = omega arith in
         rw (e, ih, inside-at frame n (λ e. each) (first + w) h k) (omega arith)
@@ -165,7 +174,10 @@ module _ (first last : ℕ) where
 
   -- frames `from` to `to` of the window joined, where m counts as many voxels in each of them and none elsewhere
   module _ (from to each : ℕ) (begins : first ≤ from) (some : from ≤ to) (ends : to ≤ last) (black : 0 < each) (g m : ℕ → ℕ) where
-    joined-tells : (k : Contact) → Tells g k → ((c : ℕ) → from ≤ c → c ≤ to → m c ≡ each) → ((c : ℕ) → first ≤ c → c < from → m c ≡ 0) → ((c : ℕ) → to < c → c ≤ last → m c ≡ 0) → sum (windowLength first last) (λ c. m (first + c)) ≡ windowLength from to * each → Tells (λ c. g c + m c) (joined k from to each)
+    joined-tells :
+        (k : Contact) → Tells g k → ((c : ℕ) → from ≤ c → c ≤ to → m c ≡ each) → ((c : ℕ) → first ≤ c → c < from → m c ≡ 0) →
+        ((c : ℕ) → to < c → c ≤ last → m c ≡ 0) → sum (windowLength first last) (λ c. m (first + c)) ≡ windowLength from to * each →
+        Tells (λ c. g c + m c) (withFrames k from to each)
     joined-tells k t at before after whole =
         record {
           count = omega (arith, t .count, whole, sum-add (windowLength first last) (λ c. g (first + c)) (λ c. m (first + c)));
@@ -188,7 +200,9 @@ module _ (first last : ℕ) where
         greatest (no d) i = let e : max (k .last) to ≡ to = omega arith in rw e (omega (arith, at to some (omega arith)))
 
   -- a black block's frames, as far as they lie in the window
-  touched-tells : (frame n each : ℕ) → first ≤ last → 0 < n → 0 < each → (g : ℕ → ℕ) (k : Contact) → Tells g k → Tells (λ c. g c + inside frame n (λ e. each) c) (touched k first last frame n each)
+  touched-tells :
+      (frame n each : ℕ) → first ≤ last → 0 < n → 0 < each → (g : ℕ → ℕ) (k : Contact) → Tells g k →
+      Tells (λ c. g c + inside frame n (λ e. each) c) (touched k first last frame n each)
   unfolding touched
   touched-tells frame n each h some black g k t = go (decLe (max frame first) (min (frame + (n - 1)) last))
     where
@@ -207,7 +221,7 @@ module _ (first last : ℕ) where
           let e : min (frame + n) (suc last) ≡ suc to = omega arith in
           frames-sum first each frame n (windowLength first last) ∙ rw (d, e)
 
-      go : Dec (from ≤ to) → Tells (λ c. g c + m c) (cond (leb from to) (joined k from to each) k)
+      go : Dec (from ≤ to) → Tells (λ c. g c + m c) (cond (leb from to) (withFrames k from to each) k)
       go (yes i) =
           rw (le-leb from to i)
           (joined-tells from to each (omega arith) i (omega arith) black g m k t
@@ -225,19 +239,26 @@ module _ (u : Universe) (some : 0 < u .axes) (first last : ℕ) (order : first �
   frames l = blockSide u l (frameAxis u)
 
   Joins : ℕ → Shape → Type 0
-  Joins l s = (m frame : ℕ) → frame ≡ m * frames l → (g : ℕ → ℕ) (k : Contact) → Tells first last g k → Tells first last (λ c. g c + inside frame (frames l) (voxelsFrom u l s) c) (contactFrom u first last l frame s k)
+  Joins l s =
+      (m frame : ℕ) → frame ≡ m * frames l → (g : ℕ → ℕ) (k : Contact) → Tells first last g k → Tells first last
+      (λ c. g c + inside frame (frames l) (voxelsFrom u l s) c) (contactFrom u first last l frame s k)
 
-  across-at : (l : ℕ) (a b : Shape) → axisAt u l ≡ frameAxis u → (c : ℕ) → ofHalves true (eqb (c / frames (suc l) % 2) 0) (voxelsFrom u (suc l) a c) (voxelsFrom u (suc l) b c) ≡ voxelsFrom u l (halved a b) c
+  across-at :
+      (l : ℕ) (a b : Shape) → axisAt u l ≡ frameAxis u → (c : ℕ) →
+      ofHalves true (eqb (c / frames (suc l) % 2) 0) (voxelsFrom u (suc l) a c) (voxelsFrom u (suc l) b c) ≡ voxelsFrom u l (halved a b) c
   unfolding voxelsFrom frames
   across-at l a b e c = rw (eq-eqb (axisAt u l) (frameAxis u) e, e)
 
-  along-at : (l : ℕ) (a b : Shape) → (axisAt u l ≡ frameAxis u → ⊥) → (c : ℕ) → voxelsFrom u (suc l) a c + voxelsFrom u (suc l) b c ≡ voxelsFrom u l (halved a b) c
+  along-at :
+      (l : ℕ) (a b : Shape) → (axisAt u l ≡ frameAxis u → ⊥) → (c : ℕ) → voxelsFrom u (suc l) a c + voxelsFrom u (suc l) b c ≡ voxelsFrom u l (halved a b) c
   unfolding voxelsFrom
   along-at l a b n c = rw (ne-eqb (axisAt u l) (frameAxis u) n)
 
   across-joins : (l : ℕ) (a b : Shape) → l < levels u → axisAt u l ≡ frameAxis u → Joins (suc l) a → Joins (suc l) b → Joins l (halved a b)
   unfolding Joins frames contactFrom
-  across-joins l a b h e x y m frame f g k t = same-tells first last at (y (2 * m + 1) next after (λ c. g c + inside frame n low c) (contactFrom u first last (suc l) frame a k) (x (2 * m) frame before g k t))
+  across-joins l a b h e x y m frame f g k t =
+      same-tells first last at
+      (y (2 * m + 1) next after (λ c. g c + inside frame n low c) (contactFrom u first last (suc l) frame a k) (x (2 * m) frame before g k t))
     where
       n : ℕ
       n = frames (suc l)
@@ -270,7 +291,10 @@ module _ (u : Universe) (some : 0 < u .axes) (first last : ℕ) (order : first �
 
   along-joins : (l : ℕ) (a b : Shape) → (axisAt u l ≡ frameAxis u → ⊥) → Joins (suc l) a → Joins (suc l) b → Joins l (halved a b)
   unfolding Joins frames contactFrom
-  along-joins l a b n x y m frame f g k t = rw (next, same) (same-tells first last at (y m frame f′ (λ c. g c + inside frame (frames (suc l)) low c) (contactFrom u first last (suc l) frame a k) (x m frame f′ g k t)))
+  along-joins l a b n x y m frame f g k t =
+      rw (next, same)
+      (same-tells first last at
+      (y m frame f′ (λ c. g c + inside frame (frames (suc l)) low c) (contactFrom u first last (suc l) frame a k) (x m frame f′ g k t)))
     where
       low : ℕ → ℕ
       low = voxelsFrom u (suc l) a
@@ -287,7 +311,9 @@ module _ (u : Universe) (some : 0 < u .axes) (first last : ℕ) (order : first �
       f′ : frame ≡ m * frames (suc l)
       f′ = f ∙ ap (λ (z : ℕ). m * z) same
 
-      at : (c : ℕ) → first ≤ c → c ≤ last → g c + inside frame (frames (suc l)) low c + inside frame (frames (suc l)) high c ≡ g c + inside frame (frames (suc l)) (voxelsFrom u l (halved a b)) c
+      at :
+          (c : ℕ) → first ≤ c → c ≤ last →
+          g c + inside frame (frames (suc l)) low c + inside frame (frames (suc l)) high c ≡ g c + inside frame (frames (suc l)) (voxelsFrom u l (halved a b)) c
       at c i j =
           omega (
             arith,
@@ -297,16 +323,20 @@ module _ (u : Universe) (some : 0 < u .axes) (first last : ℕ) (order : first �
 
   shape-joins : (l : ℕ) (s : Shape) → l + depth s ≤ levels u → Joins l s
   unfolding Joins frames contactFrom voxelsFrom
-  shape-joins l (leaf Black) h = λ m frame f g k t. touched-tells first last frame (frames l) (product (frameAxis u) (blockSide u l)) order (side-positive u l (frameAxis u)) (product-positive (frameAxis u) (blockSide u l) (λ i j. side-positive u l i)) g k t
+  shape-joins l (leaf Black) h =
+      λ m frame f g k t. touched-tells first last frame (frames l) (product (frameAxis u) (blockSide u l)) order (side-positive u l (frameAxis u))
+      (product-positive (frameAxis u) (blockSide u l) (λ i j. side-positive u l i)) g k t
   shape-joins l (leaf White) h = λ m frame f g k t. same-tells first last (λ c i j. omega (arith, none-inside frame (frames l) c)) t
-  shape-joins l (halved a b) h = go (ℕ-discrete (axisAt u l) (frameAxis u)) (shape-joins (suc l) a (low-fits u l a b h)) (shape-joins (suc l) b (high-fits u l a b h))
+  shape-joins l (halved a b) h =
+      go (ℕ-discrete (axisAt u l) (frameAxis u)) (shape-joins (suc l) a (low-fits u l a b h)) (shape-joins (suc l) b (high-fits u l a b h))
     where
       go : Dec (axisAt u l ≡ frameAxis u) → Joins (suc l) a → Joins (suc l) b → Joins l (halved a b)
       go (yes e) x y = across-joins l a b (level-below u l a b h) e x y
       go (no n) x y = along-joins l a b n x y
 
   -- all of the shape, from its whole universe on
-  pub contact-tells : (s : Shape) → depth s ≤ levels u → last < frameCount u → Tells first last (voxelsAt u s) (contactFrom u first last 0 0 s (noContact first last))
+  pub contact-tells :
+      (s : Shape) → depth s ≤ levels u → last < frameCount u → Tells first last (voxelsAt u s) (contactFrom u first last 0 0 s (noContact first last))
   unfolding Joins frames
   contact-tells s h k =
       same-tells first last
@@ -316,7 +346,12 @@ module _ (u : Universe) (some : 0 < u .axes) (first last : ℕ) (order : first �
 -- THEOREM: a contact that tells of a shape's black voxels is the shape's verdict: Clear where it counts none, else Hit with it
 module _ (u : Universe) (s : Shape) (first last : ℕ) (order : first ≤ last) (k : Contact) (t : Tells first last (voxelsAt u s) k) where
   same-contact : (contact : Contact) → HitIn u s first last contact → contact ≡ k
-  same-contact contact w = λ i. record { first = least (ℕ-discrete (contact .first) (k .first)) i; last = greatest (ℕ-discrete (contact .last) (k .last)) i; voxels = (w .count ∙ sym (t .count)) i }
+  same-contact contact w =
+      λ i. record {
+        first = least (ℕ-discrete (contact .first) (k .first)) i;
+        last = greatest (ℕ-discrete (contact .last) (k .last)) i;
+        voxels = (w .count ∙ sym (t .count)) i;
+      }
     where
       least : Dec (contact .first ≡ k .first) → contact .first ≡ k .first
       least (yes e) = e
@@ -339,10 +374,13 @@ module _ (u : Universe) (s : Shape) (first last : ℕ) (order : first ≤ last) 
     where
       go : (v : Verdict) → verdict u s first last ≡ v → v ≡ verdictOf k
       go Clear e =
-          let z = sum-zero (windowLength first last) (λ c. voxelsAt u s (first + c)) (λ c i. clear-none u s first last e (first + c) (omega arith) (omega arith)) in
+          let none : (c : ℕ) → c < windowLength first last → voxelsAt u s (first + c) ≡ 0 =
+          λ c i. clear-none u s first last e (first + c) (omega arith) (omega arith) in
+          let z = sum-zero (windowLength first last) (λ c. voxelsAt u s (first + c)) none in
           rw (eq-eqb (k .voxels) 0 (t .count ∙ z))
       go (Hit contact) e =
           let w = hit-is u s first last contact e in
           let q : first + (contact .first - first) ≡ contact .first = omega (arith, w .first-from) in
-          let p = rw q at (sum-part (windowLength first last) (λ c. voxelsAt u s (first + c)) (contact .first - first) (omega (arith, w .first-from, w .first-to))) in
+          let within : contact .first - first < windowLength first last = omega (arith, w .first-from, w .first-to) in
+          let p = rw q at (sum-part (windowLength first last) (λ c. voxelsAt u s (first + c)) (contact .first - first) within) in
           rw (ne-eqb (k .voxels) 0 (λ z. omega (arith, t .count, w .first-black))) (ap Hit (same-contact contact w))

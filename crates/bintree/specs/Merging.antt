@@ -1,9 +1,16 @@
--- Document 01, "Expressions": merged is "what remains when each `(BB` becomes `B` and each `(WW` becomes `W`, until none is left".
+-- Document 01, "Expressions": merged is "what remains when each `(BB` becomes `B` and each `(WW` becomes `W`, until
+-- none is left"; and what merging answers and writes.
+use Prim.Native.Nat.{ℕ}
 use mathlib.Core.Bool.{Bool, true, false, not, _&&_}
+use mathlib.Core.List.{List, []}
 use lib.Dec.{eqb}
+use Rattle.universe.specs.declared.Universe.{Universe}
 use Rattle.bintree.specs.declared.Colour.{Colour}
 use Rattle.bintree.specs.declared.Colour.the-variants.{White, Black}
-use Rattle.bintree.specs.Shape.{Shape, leaf, halved, symbolOf}
+use Rattle.bintree.specs.declared.Written.{Written}
+use Rattle.bintree.specs.Shape.{Shape, leaf, halved, symbolOf, symbols}
+use Rattle.bintree.specs.Reading.{expression}
+use Rattle.bintree.specs.Answers.{ofShape, wellFormedRefusal, writtenAnswer, writtenBuffer}
 
 -- two parts that hold no pair to replace, joined so that none is left
 unfoldable pub join : Shape → Shape → Shape
@@ -40,3 +47,13 @@ isPair (halved a b) s = false
 unfoldable pub isMerged : Shape → Bool
 isMerged (leaf c) = true
 isMerged (halved a b) = not (isPair a b) && isMerged a && isMerged b
+
+-- merging writes the merged expression
+abbrev pub mergedSymbols : Universe → List ℕ → List ℕ
+mergedSymbols u s = ofShape (expression u s) [] (λ a. symbols (merged a))
+
+unfoldable pub mergeAnswer : Universe → List ℕ → List ℕ → Written
+mergeAnswer u s out = writtenAnswer (wellFormedRefusal u s) out (mergedSymbols u s)
+
+unfoldable pub mergeBuffer : Universe → List ℕ → List ℕ → List ℕ
+mergeBuffer u s out = writtenBuffer (wellFormedRefusal u s) out (mergedSymbols u s)

@@ -5,6 +5,7 @@ use mathlib.Core.List.{List}
 use lib.Dec.{eqb}
 use lib.ListN.{length, getD}
 use Rattle.universe.specs.declared.Universe.{Universe}
+use Rattle.universe.specs.Refusals.{badExpression}
 use Rattle.universe.specs.Universe.{levels}
 use Rattle.bintree.specs.declared.Colour.the-variants.{White, Black}
 use Rattle.bintree.specs.Shape.{Shape, leaf, halved, openSymbol, symbolOf, size}
@@ -46,9 +47,9 @@ unfoldable pub expression : Universe → List ℕ → Reading
 expression u s = exactly (length s) (readAt s (levels u) 0)
 
 -- number 7 exactly where it is not
-abbrev pub refusalOf : Reading → ℕ
-refusalOf none = 7
-refusalOf (read a) = 0
+abbrev pub readingRefusal : Reading → ℕ
+readingRefusal none = badExpression
+readingRefusal (read a) = 0
 
 unfoldable pub expressionRefusal : Universe → List ℕ → ℕ
-expressionRefusal u s = refusalOf (expression u s)
+expressionRefusal u s = readingRefusal (expression u s)

@@ -1,12 +1,20 @@
--- Document 01, "Verdicts": Clear, or Hit with first frame, last frame and black voxel count, over frames first to last, both ends in.
+-- Document 01, "Verdicts": Clear, or Hit with first frame, last frame and black voxel count, over frames first to last,
+-- both ends in; and what the question for the verdict answers.
 use Prim.Native.Nat.{ℕ, zero, suc, _+_, _-_}
 use mathlib.Core.Bool.{Bool, cond}
+use mathlib.Core.List.{List, [], _∷_}
 use lib.Dec.{ltb}
 use Rattle.lemmas.specs.Sums.{sum}
 use Rattle.universe.specs.declared.Universe.{Universe}
+use Rattle.universe.specs.Refusals.{firstRefusal}
+use Rattle.universe.specs.Universe.{universeRefusal}
+use Rattle.universe.specs.Voxel.{windowRefusal}
 use Rattle.bintree.specs.declared.Verdict.{Verdict}
 use Rattle.bintree.specs.declared.Verdict.the-variants.{Clear, Hit}
+use Rattle.bintree.specs.declared.VerdictAnswer.{VerdictAnswer}
 use Rattle.bintree.specs.Shape.{Shape}
+use Rattle.bintree.specs.Reading.{expression, expressionRefusal}
+use Rattle.bintree.specs.Answers.{ofShape, unlessRefused}
 use Rattle.bintree.specs.Counts.{voxelsAt}
 
 -- how many frames a window holds: both ends are in
@@ -39,3 +47,18 @@ verdict u s first last =
       voxels = voxelsIn u s first last;
     }))
     Clear
+
+-- the answer, 9 after 7: a refusal and Clear, or 0 and the verdict of the expression over the window
+abbrev pub refusedVerdict : ℕ → VerdictAnswer
+refusedVerdict number = record { refusal = number; verdict = Clear }
+
+abbrev pub doneVerdict : Verdict → VerdictAnswer
+doneVerdict v = record { refusal = 0; verdict = v }
+
+abbrev pub windowChecks : Universe → List ℕ → ℕ → ℕ → List ℕ
+windowChecks u s first last = universeRefusal u ∷ expressionRefusal u s ∷ windowRefusal u first last ∷ []
+
+unfoldable pub verdictAnswer : Universe → List ℕ → ℕ → ℕ → VerdictAnswer
+verdictAnswer u s first last =
+    unlessRefused (firstRefusal (windowChecks u s first last)) refusedVerdict
+    (doneVerdict (ofShape (expression u s) Clear (λ a. verdict u a first last)))

@@ -1,4 +1,5 @@
--- What the crate's own walks over an expression tell, from the shape that is read where they begin. A block with n levels left has 2ⁿ voxels.
+-- What the crate's own walks over an expression tell, from the shape that is read where they begin. A block with n
+-- levels left has 2ⁿ voxels.
 use Prim.Native.Nat.{ℕ, _+_, _-_, _^_}
 use mathlib.Core.Path.{_≡_}
 use mathlib.Core.Bool.{Bool, false, cond}
@@ -7,7 +8,7 @@ use lib.Dec.{eqb}
 use lib.ListN.{set}
 use lib.Seq.{sets}
 use Rattle.universe.specs.declared.Universe.{Universe}
-use Rattle.universe.specs.Voxel.{pathFrom, voxelRefusal}
+use Rattle.universe.specs.Voxel.{voxelRefusal}
 use Rattle.bintree.specs.declared.Colour.{Colour}
 use Rattle.bintree.specs.declared.Colour.the-variants.{White, Black}
 use Rattle.bintree.specs.declared.Coloured.{Coloured}
@@ -18,12 +19,11 @@ use Rattle.bintree.specs.declared.lay.Laid.{Laid}
 use Rattle.bintree.specs.declared.lay.Laid.the-variants.{Done, Unread}
 use Rattle.bintree.specs.declared.place.Traced.{Traced}
 use Rattle.bintree.specs.declared.place.Traced.the-variants.{Led, Lost}
-use Rattle.bintree.specs.declared.voxel.Sought.{Sought}
-use Rattle.bintree.specs.declared.voxel.Sought.the-variants.{Found, Missing}
 use Rattle.bintree.specs.Shape.{Shape, leaf, halved, openSymbol, symbolOf, symbols, size}
 use Rattle.bintree.specs.Reading.{Reading, none, read}
 use Rattle.bintree.specs.Merging.{merged}
-use Rattle.bintree.specs.Parts.{part, partStart, pathRefusal, colourOf}
+use Rattle.bintree.specs.Answers.{unlessRefused}
+use Rattle.bintree.specs.Parts.{part, partStart, pathRefusal, refusedPlace, donePlace, refusedColour, doneColour}
 
 -- black voxels of a block with n levels left
 unfoldable pub voxelsBelow : ℕ → Shape → ℕ
@@ -36,14 +36,13 @@ unfoldable pub walked : ℕ → ℕ → Reading → Walked
 walked p n none = Nowhere
 walked p n (read a) = Past (p + size a) (voxelsBelow n a)
 
--- the place after the tree that begins at p and has n levels, and the colour at the voxel v, whose block of level l the tree stands for
-unfoldable pub sought : Universe → List ℕ → ℕ → ℕ → ℕ → Reading → Sought
-sought u v p l n none = Missing
-sought u v p l n (read a) = Found (p + size a) (colourOf (part a (pathFrom u v l n)))
+-- the colour that a symbol stands for
+abbrev pub symbolColour : ℕ → Colour
+symbolColour symbol = cond (eqb symbol (symbolOf Black)) Black White
 
 -- the answer for a voxel of a well-formed expression
-unfoldable pub shownAt : Universe → List ℕ → Colour → Coloured
-shownAt u v c = record { refusal = voxelRefusal u v; colour = cond (eqb (voxelRefusal u v) 0) c White }
+unfoldable pub voxelAnswer : Universe → List ℕ → Colour → Coloured
+voxelAnswer u v c = unlessRefused (voxelRefusal u v) refusedColour (doneColour c)
 
 -- the place after the tree that begins at p, and where the part at a path stands and its length
 unfoldable pub traced : ℕ → Reading → List ℕ → Traced
@@ -51,13 +50,8 @@ traced p none path = Lost
 traced p (read a) path = Led (p + size a) (p + partStart a path) (size (part a path))
 
 -- the answer for a path of a well-formed expression
-unfoldable pub placedAt : Universe → List ℕ → ℕ → ℕ → Placed
-placedAt u path start length =
-    record {
-      refusal = pathRefusal u path;
-      start = cond (eqb (pathRefusal u path) 0) start 0;
-      length = cond (eqb (pathRefusal u path) 0) length 0;
-    }
+unfoldable pub pathAnswer : Universe → List ℕ → ℕ → ℕ → Placed
+pathAnswer u path start length = unlessRefused (pathRefusal u path) refusedPlace (donePlace start length)
 
 -- what is held back of a merged shape: the symbol of a leaf, which may still meet its brother; 0 is none
 unfoldable pub heldOf : Shape → ℕ
@@ -73,8 +67,8 @@ unfoldable pub noted : List ℕ → ℕ → ℕ → List ℕ
 noted out at symbol = cond (eqb symbol 0) out (set out at symbol)
 
 -- room with `(` and what was held back of the two parts behind it
-unfoldable pub opened : List ℕ → ℕ → ℕ → ℕ → ℕ → List ℕ
-opened out to low middle high = noted (noted (noted out to openSymbol) (to + 1) low) middle high
+unfoldable pub joinedHalves : List ℕ → ℕ → ℕ → ℕ → ℕ → List ℕ
+joinedHalves out to low middle high = noted (noted (noted out to openSymbol) (to + 1) low) middle high
 
 -- room with a merged shape laid into it: all but a leaf, which is held back
 unfoldable pub laid : List ℕ → ℕ → Shape → List ℕ

@@ -1,15 +1,16 @@
 // How many black voxels an expression has, and whether it is well-formed: one walk tells both.
 ghost use mathlib.Core.Path.{_≡_};
-ghost use mathlib.Core.List.{[], _∷_};
-ghost use Prim.Native.Nat.{_^_, _≤_};
+ghost use Prim.Native.Nat.{_≤_};
 ghost use lib.Count.{trailingZeros};
-ghost use Rattle.universe.specs.Refusals.{firstRefusal};
-ghost use Rattle.universe.specs.Universe.{universeRefusal};
-ghost use Rattle.bintree.specs.Reading.{readAt, expressionRefusal};
+ghost use Rattle.universe.specs.Questions.{voxelsLeft};
+ghost use Rattle.universe.specs.Universe.{mostLevels};
+ghost use Rattle.bintree.specs.Reading.{readAt};
+ghost use Rattle.bintree.specs.Answers.{wellFormedRefusal};
+ghost use Rattle.bintree.specs.Counts.{volumeAnswer};
 ghost use Rattle.bintree.specs.Walks.{walked};
-ghost use Rattle.bintree.specs.Answers.{volumeAnswer};
 use crate::Counted;
 use universe::Universe;
+use universe::refusals;
 
 // What a walk over one tree tells: the place after the tree and its black voxels, or that there is no tree.
 pub(crate) enum Walked {
@@ -17,25 +18,25 @@ pub(crate) enum Walked {
     Nowhere,
 }
 
-// The voxels of a block with `levels` left.
-fn voxels_of(levels: u64) -> u64
-    requires { ⌜ levels ≤ 40 ⌝ }
-    ensures { λ r. ⌜ r ≡ 2 ^ levels ⌝ }
+// The voxels of a block with so many levels left: what the universe answers, without its check that there are so few.
+pub(crate) fn voxels_of(levels: u64) -> u64
+    requires { ⌜ levels ≤ mostLevels ⌝ }
+    ensures { λ r. ⌜ r ≡ voxelsLeft levels ⌝ }
 {
     1 << levels
 }
 
 // The levels left to the smallest of the blocks whose voxels are `owed`, no two of them of one size.
-fn levels_of(owed: u64) -> u64
+pub(crate) fn levels_of(owed: u64) -> u64
     ensures { λ r. ⌜ r ≡ trailingZeros 64 owed ⌝ }
 {
     u64::trailing_zeros(owed) as u64
 }
 
-// Walks over the tree of at most `left` levels that begins at `at`. `owed` counts the voxels of the high halves still to come: one bit for each, at
-// the levels left to it.
+// Walks over the tree of at most `left` levels that begins at `at`. `owed` counts the voxels of the high halves still
+// to come: one bit for each, at the levels left to it.
 pub(crate) fn walk(expression: &[u8], at: usize, left: u64) -> Walked
-    requires { ⌜ left ≤ 40 ⌝ }
+    requires { ⌜ left ≤ mostLevels ⌝ }
     ensures { λ r. ⌜ r ≡ walked at left (readAt (now (expression .entry)) left at) ⌝ }
 {
     let mut place = at;
@@ -73,35 +74,23 @@ pub fn volume(universe: Universe, expression: &[u8]) -> Counted
 {
     let refusal = universe.refusal();
     if refusal != 0 {
-        return Counted {
-            refusal: refusal,
-            voxels: 0,
-        };
+        return Counted::refused(refusal);
     }
-    match walk(expression, 0, universe.axes * universe.bits) {
+    match walk(expression, 0, universe.levels()) {
         Walked::Past(end, voxels) => {
             if end == expression.len() {
-                Counted {
-                    refusal: 0,
-                    voxels: voxels,
-                }
+                Counted::done(voxels)
             } else {
-                Counted {
-                    refusal: 7,
-                    voxels: 0,
-                }
+                Counted::refused(refusals::BAD_EXPRESSION)
             }
         }
-        Walked::Nowhere => Counted {
-            refusal: 7,
-            voxels: 0,
-        },
+        Walked::Nowhere => Counted::refused(refusals::BAD_EXPRESSION),
     }
 }
 
 // 0 where an expression is well-formed, 2 where axes or bits are refused, else 7.
 pub fn well_formed(universe: Universe, expression: &[u8]) -> u64
-    ensures { λ r. ⌜ r ≡ firstRefusal (universeRefusal universe ∷ expressionRefusal universe (now (expression .entry)) ∷ []) ⌝ }
+    ensures { λ r. ⌜ r ≡ wellFormedRefusal universe (now (expression .entry)) ⌝ }
 {
     let counted = volume(universe, expression);
     counted.refusal

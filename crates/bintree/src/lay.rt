@@ -1,14 +1,17 @@
 // Merging into lent room: one walk measures, a second one writes.
 ghost use mathlib.Core.Path.{_≡_};
 ghost use Prim.Native.Nat.{_+_, _≤_};
+ghost use lib.Seq.{sets};
 ghost use Rattle.bintree.specs.Reading.{readAt};
-ghost use Rattle.bintree.specs.Walks.{isAlike, noted, opened, Lays};
-ghost use Rattle.bintree.specs.Answers.{mergeAnswer, mergeBuffer};
+ghost use Rattle.bintree.specs.Walks.{isAlike, noted, joinedHalves, Lays};
+ghost use Rattle.bintree.specs.Merging.{mergeAnswer, mergeBuffer};
 use crate::Written;
+use crate::window::lesser;
 use universe::Universe;
+use universe::refusals;
 
-// What laying one merged tree tells: the place after the tree, the symbol of a merged tree that is one leaf (it is held back) or else 0 (all is
-// written), and the place after what is written or held back; or that there is no tree.
+// What laying one merged tree tells: the place after the tree, the symbol of a merged tree that is one leaf (it is held
+// back) or else 0 (all is written), and the place after what is written or held back; or that there is no tree.
 pub(crate) enum Laid {
     Done(usize, u8, usize),
     Unread,
@@ -45,12 +48,28 @@ fn note_next(out: &mut [u8], at: usize, symbol: u8)
 }
 
 // Writes `(` at `to` and what was held back of the two parts behind it, as far as there is room.
-pub fn open(out: &mut [u8], to: usize, low: u8, middle: usize, high: u8)
-    ensures { λ _. ⌜ now (out .exit) ≡ opened (now (out .entry)) to low middle high ⌝ }
+pub fn join_halves(out: &mut [u8], to: usize, low: u8, middle: usize, high: u8)
+    ensures { λ _. ⌜ now (out .exit) ≡ joinedHalves (now (out .entry)) to low middle high ⌝ }
 {
     note(out, to, b'(');
     note_next(out, to, low);
     note(out, middle, high);
+}
+
+// Copies symbols to a place, as far as there is room.
+pub fn copy(symbols: &[u8], out: &mut [u8], at: usize)
+    ensures { λ _. ⌜ now (out .exit) ≡ sets (now (out .entry)) at (now (symbols .entry)) ⌝ }
+{
+    if out.len() <= at {
+        return;
+    }
+    let room = out.len() - at;
+    let count = lesser(symbols.len() as u64, room as u64) as usize;
+    let mut i: usize = 0;
+    while i < count {
+        out[at + i] = symbols[i];
+        i += 1;
+    }
 }
 
 // Lays the merged tree of at most `left` levels that begins at `at` into `out` from `to` on, as far as there is room.
@@ -72,7 +91,7 @@ fn lay(expression: &[u8], at: usize, left: u64, out: &mut [u8], to: usize) -> La
                     if is_alike(low, high) {
                         return Laid::Done(after, low, to + 1);
                     }
-                    open(out, to, low, middle, high);
+                    join_halves(out, to, low, middle, high);
                     Laid::Done(after, 0, end)
                 }
                 Laid::Unread => Laid::Unread,
@@ -95,38 +114,23 @@ pub fn merge(universe: Universe, expression: &[u8], out: &mut [u8]) -> Written
 {
     let refusal = universe.refusal();
     if refusal != 0 {
-        return Written {
-            refusal: refusal,
-            length: 0,
-        };
+        return Written::refused(refusal);
     }
-    let levels = universe.axes * universe.bits;
+    let levels = universe.levels();
     let mut nothing = [0u8; 0];
     match lay(expression, 0, levels, &mut nothing, 0) {
         Laid::Done(after, symbol, length) => {
             if after == expression.len() {
                 if out.len() < length {
-                    return Written {
-                        refusal: 6,
-                        length: length as u64,
-                    };
+                    return Written::short(length as u64);
                 }
                 lay(expression, 0, levels, out, 0);
                 note(out, 0, symbol);
-                Written {
-                    refusal: 0,
-                    length: length as u64,
-                }
+                Written::done(length as u64)
             } else {
-                Written {
-                    refusal: 7,
-                    length: 0,
-                }
+                Written::refused(refusals::BAD_EXPRESSION)
             }
         }
-        Laid::Unread => Written {
-            refusal: 7,
-            length: 0,
-        },
+        Laid::Unread => Written::refused(refusals::BAD_EXPRESSION),
     }
 }

@@ -7,15 +7,21 @@ mod window;
 
 pub use count::volume;
 pub use count::well_formed;
+pub use lay::copy;
 pub use lay::is_alike;
+pub use lay::join_halves;
 pub use lay::merge;
 pub use lay::note;
-pub use lay::open;
 pub use place::part;
 pub use place::part_place;
 pub use place::part_refusal;
 pub use voxel::colour_at;
 pub use window::verdict_of;
+ghost use mathlib.Core.Path.{_≡_};
+ghost use Rattle.bintree.specs.Answers.{refusedWriting, shortWriting, doneWriting};
+ghost use Rattle.bintree.specs.Counts.{refusedCount, doneCount};
+ghost use Rattle.bintree.specs.Parts.{refusedColour, doneColour, refusedPlace, donePlace};
+ghost use Rattle.bintree.specs.Verdicts.{refusedVerdict, doneVerdict};
 
 // The two colours of a voxel.
 pub enum Colour {
@@ -23,7 +29,8 @@ pub enum Colour {
     Black,
 }
 
-// What a Hit tells: the first and the last frame of the window that hold a black voxel, and how many black voxels the window holds.
+// What a Hit tells: the first and the last frame of the window that hold a black voxel, and how many black voxels
+// the window holds.
 pub struct Contact {
     pub first: u64,
     pub last: u64,
@@ -36,10 +43,43 @@ pub enum Verdict {
     Hit(Contact),
 }
 
-// What a call answers that writes into lent room: 0 and the length written, 6 and the length needed, or another refusal and 0.
+// What a call answers that writes into lent room: 0 and the length written, 6 and the length needed, or another
+// refusal and 0.
 pub struct Written {
     pub refusal: u64,
     pub length: u64,
+}
+
+impl Written {
+    // Refused with a number other than 6.
+    pub fn refused(number: u64) -> Written
+        ensures { λ r. ⌜ r ≡ refusedWriting number ⌝ }
+    {
+        Written {
+            refusal: number,
+            length: 0,
+        }
+    }
+
+    // Refused 6: so much room is needed.
+    pub fn short(needed: u64) -> Written
+        ensures { λ r. ⌜ r ≡ shortWriting needed ⌝ }
+    {
+        Written {
+            refusal: universe::refusals::NO_ROOM,
+            length: needed,
+        }
+    }
+
+    // So much is written.
+    pub fn done(length: u64) -> Written
+        ensures { λ r. ⌜ r ≡ doneWriting length ⌝ }
+    {
+        Written {
+            refusal: 0,
+            length: length,
+        }
+    }
 }
 
 // What `volume` answers: a refusal and 0, or 0 and the black voxels.
@@ -48,10 +88,50 @@ pub struct Counted {
     pub voxels: u64,
 }
 
+impl Counted {
+    pub(crate) fn refused(number: u64) -> Counted
+        ensures { λ r. ⌜ r ≡ refusedCount number ⌝ }
+    {
+        Counted {
+            refusal: number,
+            voxels: 0,
+        }
+    }
+
+    pub(crate) fn done(voxels: u64) -> Counted
+        ensures { λ r. ⌜ r ≡ doneCount voxels ⌝ }
+    {
+        Counted {
+            refusal: 0,
+            voxels: voxels,
+        }
+    }
+}
+
 // What `colour_at` answers: a refusal and White, or 0 and the colour.
 pub struct Coloured {
     pub refusal: u64,
     pub colour: Colour,
+}
+
+impl Coloured {
+    pub(crate) fn refused(number: u64) -> Coloured
+        ensures { λ r. ⌜ r ≡ refusedColour number ⌝ }
+    {
+        Coloured {
+            refusal: number,
+            colour: Colour::White,
+        }
+    }
+
+    pub(crate) fn done(colour: Colour) -> Coloured
+        ensures { λ r. ⌜ r ≡ doneColour colour ⌝ }
+    {
+        Coloured {
+            refusal: 0,
+            colour: colour,
+        }
+    }
 }
 
 // What `part_place` answers: a refusal, 0 and 0, or 0 and where the part starts and how many symbols it has.
@@ -61,8 +141,50 @@ pub struct Placed {
     pub length: u64,
 }
 
+impl Placed {
+    pub(crate) fn refused(number: u64) -> Placed
+        ensures { λ r. ⌜ r ≡ refusedPlace number ⌝ }
+    {
+        Placed {
+            refusal: number,
+            start: 0,
+            length: 0,
+        }
+    }
+
+    pub(crate) fn done(start: u64, length: u64) -> Placed
+        ensures { λ r. ⌜ r ≡ donePlace start length ⌝ }
+    {
+        Placed {
+            refusal: 0,
+            start: start,
+            length: length,
+        }
+    }
+}
+
 // What `verdict_of` answers: a refusal and Clear, or 0 and the verdict.
-pub struct Judged {
+pub struct VerdictAnswer {
     pub refusal: u64,
     pub verdict: Verdict,
+}
+
+impl VerdictAnswer {
+    pub(crate) fn refused(number: u64) -> VerdictAnswer
+        ensures { λ r. ⌜ r ≡ refusedVerdict number ⌝ }
+    {
+        VerdictAnswer {
+            refusal: number,
+            verdict: Verdict::Clear,
+        }
+    }
+
+    pub(crate) fn done(verdict: Verdict) -> VerdictAnswer
+        ensures { λ r. ⌜ r ≡ doneVerdict verdict ⌝ }
+    {
+        VerdictAnswer {
+            refusal: 0,
+            verdict: verdict,
+        }
+    }
 }

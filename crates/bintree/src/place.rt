@@ -1,36 +1,37 @@
-// The part for a block, asked by a path: one walk that follows the path's halves and judges the rest.
+// The part for a block, asked by a path: one walk that follows the path's halves and reads the rest.
 ghost use mathlib.Core.Path.{_≡_};
 ghost use mathlib.Core.List.{[]};
 ghost use Prim.Native.Nat.{_≤_};
 ghost use lib.ListN.{drop};
-ghost use Rattle.universe.specs.Universe.{universeRefusal};
+ghost use Rattle.universe.specs.Universe.{universeRefusal, mostLevels};
 ghost use Rattle.bintree.specs.Reading.{readAt};
-ghost use Rattle.bintree.specs.Parts.{pathRefusal};
-ghost use Rattle.bintree.specs.Walks.{traced, placedAt};
-ghost use Rattle.bintree.specs.Answers.{pathChecks, placeAnswer, partAnswer};
+ghost use Rattle.bintree.specs.Parts.{pathRefusal, partRefusal, placeAnswer, partAnswer};
+ghost use Rattle.bintree.specs.Walks.{traced, pathAnswer};
 use crate::Placed;
 use crate::count::Walked;
 use crate::count::walk;
 use universe::Universe;
+use universe::refusals;
 
-// What following a path in one tree tells: the place after the tree, where the part stands and its length, or that there is no tree.
+// What following a path in one tree tells: the place after the tree, where the part stands and its length, or that
+// there is no tree.
 pub(crate) enum Traced {
     Led(usize, usize, usize),
     Lost,
 }
 
 // 9 where a path is longer than the levels or has a byte that is neither 0 nor 1, else 0.
-fn strayed(universe: Universe, path: &[u8]) -> u64
+fn path_refusal(universe: Universe, path: &[u8]) -> u64
     requires { ⌜ universeRefusal universe ≡ 0 ⌝ }
     ensures { λ r. ⌜ r ≡ pathRefusal universe (now (path .entry)) ⌝ }
 {
-    if universe.axes * universe.bits < path.len() as u64 {
-        return 9;
+    if universe.levels() < path.len() as u64 {
+        return refusals::OUTSIDE;
     }
     let mut step: usize = 0;
     while step < path.len() {
         if 1 < path[step] {
-            return 9;
+            return refusals::OUTSIDE;
         }
         step += 1;
     }
@@ -39,7 +40,7 @@ fn strayed(universe: Universe, path: &[u8]) -> u64
 
 // The tree of at most `left` levels that begins at `at`, whole.
 fn all(expression: &[u8], at: usize, left: u64) -> Traced
-    requires { ⌜ left ≤ 40 ⌝ }
+    requires { ⌜ left ≤ mostLevels ⌝ }
     ensures { λ r. ⌜ r ≡ traced at (readAt (now (expression .entry)) left at) [] ⌝ }
 {
     match walk(expression, at, left) {
@@ -49,8 +50,8 @@ fn all(expression: &[u8], at: usize, left: u64) -> Traced
 }
 
 // Follows the path from `step` on in the tree of at most `left` levels that begins at `at`.
-fn trace(expression: &[u8], at: usize, left: u64, path: &[u8], step: usize) -> Traced
-    requires { ⌜ left ≤ 40 ⌝ }
+pub(crate) fn trace(expression: &[u8], at: usize, left: u64, path: &[u8], step: usize) -> Traced
+    requires { ⌜ left ≤ mostLevels ⌝ }
     ensures { λ r. ⌜ r ≡ traced at (readAt (now (expression .entry)) left at) (drop step (now (path .entry))) ⌝ }
 {
     if path.len() <= step {
@@ -82,23 +83,15 @@ fn trace(expression: &[u8], at: usize, left: u64, path: &[u8], step: usize) -> T
 }
 
 // The answer for a path of a well-formed expression: the place found, or 9 where the path is refused.
-fn judged(universe: Universe, path: &[u8], start: usize, length: usize) -> Placed
+fn path_answer(universe: Universe, path: &[u8], start: usize, length: usize) -> Placed
     requires { ⌜ universeRefusal universe ≡ 0 ⌝ }
-    ensures { λ r. ⌜ r ≡ placedAt universe (now (path .entry)) start length ⌝ }
+    ensures { λ r. ⌜ r ≡ pathAnswer universe (now (path .entry)) start length ⌝ }
 {
-    let nine = strayed(universe, path);
+    let nine = path_refusal(universe, path);
     if nine != 0 {
-        return Placed {
-            refusal: nine,
-            start: 0,
-            length: 0,
-        };
+        return Placed::refused(nine);
     }
-    Placed {
-        refusal: 0,
-        start: start as u64,
-        length: length as u64,
-    }
+    Placed::done(start as u64, length as u64)
 }
 
 // Where the part for the block at the end of a path stands in an expression, and its length.
@@ -107,35 +100,23 @@ pub fn part_place(universe: Universe, expression: &[u8], path: &[u8]) -> Placed
 {
     let refusal = universe.refusal();
     if refusal != 0 {
-        return Placed {
-            refusal: refusal,
-            start: 0,
-            length: 0,
-        };
+        return Placed::refused(refusal);
     }
-    match trace(expression, 0, universe.axes * universe.bits, path, 0) {
+    match trace(expression, 0, universe.levels(), path, 0) {
         Traced::Led(end, start, length) => {
             if end == expression.len() {
-                judged(universe, path, start, length)
+                path_answer(universe, path, start, length)
             } else {
-                Placed {
-                    refusal: 7,
-                    start: 0,
-                    length: 0,
-                }
+                Placed::refused(refusals::BAD_EXPRESSION)
             }
         }
-        Traced::Lost => Placed {
-            refusal: 7,
-            start: 0,
-            length: 0,
-        },
+        Traced::Lost => Placed::refused(refusals::BAD_EXPRESSION),
     }
 }
 
 // 0 where there is a part for a path, else the number of its refusal: 2, 7 or 9.
 pub fn part_refusal(universe: Universe, expression: &[u8], path: &[u8]) -> u64
-    ensures { λ r. ⌜ r ≡ pathChecks universe (now (expression .entry)) (now (path .entry)) ⌝ }
+    ensures { λ r. ⌜ r ≡ partRefusal universe (now (expression .entry)) (now (path .entry)) ⌝ }
 {
     let placed = part_place(universe, expression, path);
     placed.refusal

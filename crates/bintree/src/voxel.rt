@@ -1,24 +1,18 @@
-// The colour at a voxel: one walk that follows the voxel's halves and judges the rest.
+// The colour at a voxel: that of the part at the end of the voxel's path.
 ghost use mathlib.Core.Path.{_≡_};
 ghost use mathlib.Core.Bool.{cond};
-ghost use Prim.Native.Nat.{_+_, _<_};
 ghost use lib.Dec.{ltb, eqb};
-ghost use Rattle.universe.specs.Universe.{universeRefusal, levels, axisAt, sideAlong};
-ghost use Rattle.universe.specs.Voxel.{voxelRefusal, placeAlong, halfAt};
-ghost use Rattle.bintree.specs.Reading.{readAt};
-ghost use Rattle.bintree.specs.Walks.{sought, shownAt};
-ghost use Rattle.bintree.specs.Answers.{colourAnswer};
+ghost use lib.ListN.{take};
+ghost use Rattle.universe.specs.Universe.{universeRefusal, levels, sideAlong};
+ghost use Rattle.universe.specs.Voxel.{voxelRefusal, pathTo};
+ghost use Rattle.bintree.specs.Parts.{colourAnswer};
+ghost use Rattle.bintree.specs.Walks.{symbolColour, voxelAnswer};
 use crate::Colour;
 use crate::Coloured;
-use crate::count::Walked;
-use crate::count::walk;
+use crate::place::Traced;
+use crate::place::trace;
 use universe::Universe;
-
-// What seeking a voxel in one tree tells: the place after the tree and the colour at the voxel, or that there is no tree.
-pub(crate) enum Sought {
-    Found(usize, Colour),
-    Missing,
-}
+use universe::refusals;
 
 // Whether a voxel's place along an axis is inside the universe; above the universe's axes it is 0.
 fn is_inside(universe: Universe, axis: u64, place: u64) -> bool
@@ -26,140 +20,99 @@ fn is_inside(universe: Universe, axis: u64, place: u64) -> bool
     ensures { λ r. ⌜ r ≡ cond (ltb axis (universe .axes)) (ltb place (sideAlong universe axis)) (eqb place 0) ⌝ }
 {
     if axis < universe.axes {
-        place < 1 << universe.bits
+        place < universe.side(axis)
     } else {
         place == 0
     }
 }
 
 // 9 where a voxel is outside the universe, else 0.
-fn outside(universe: Universe, voxel: [u64; 4]) -> u64
+fn voxel_refusal(universe: Universe, voxel: [u64; Universe::MOST_AXES as usize]) -> u64
     requires { ⌜ universeRefusal universe ≡ 0 ⌝ }
     ensures { λ r. ⌜ r ≡ voxelRefusal universe voxel ⌝ }
 {
-    let mut axis: usize = 0;
-    while axis < 4 {
-        if is_inside(universe, axis as u64, voxel[axis]) {
+    let mut axis: u64 = 0;
+    while axis < Universe::MOST_AXES {
+        if is_inside(universe, axis, voxel[axis as usize]) {
             axis += 1;
         } else {
-            return 9;
+            return refusals::OUTSIDE;
         }
     }
     0
 }
 
-// The half, 0 or 1, that holds a voxel in its block of a level.
-fn half(universe: Universe, voxel: [u64; 4], level: u64) -> u64
+// The halves that lead to a voxel from the whole universe, one for each level, found from the last up. `rest` has the
+// voxel's places in blocks of the level that is reached.
+fn path_to(
+    universe: Universe,
+    voxel: [u64; Universe::MOST_AXES as usize],
+) -> [u8; Universe::MOST_LEVELS as usize]
     requires { ⌜ universeRefusal universe ≡ 0 ⌝ }
-    requires { ⌜ level < levels universe ⌝ }
-    ensures { λ r. ⌜ r ≡ halfAt universe level (placeAlong voxel (axisAt universe level)) ⌝ }
+    ensures { λ r. ⌜ take (levels universe) r ≡ pathTo universe voxel ⌝ }
 {
-    let axis = level % universe.axes;
-    let below = universe.bits - 1 - level / universe.axes;
-    (voxel[axis as usize] >> below) % 2
+    let axes = universe.axes_left();
+    let levels = universe.levels() as usize;
+    let mut path = [0u8; Universe::MOST_LEVELS as usize];
+    let mut rest = voxel;
+    let mut left: usize = 0;
+    while left < levels {
+        let axis = axes[left];
+        left += 1;
+        path[levels - left] = (rest[axis] % 2) as u8;
+        rest[axis] = rest[axis] / 2;
+    }
+    path
 }
 
-// Seeks a voxel in the tree of at most `left` levels that begins at `at` and stands for the voxel's block of `level`.
-fn seek(
-    universe: Universe,
-    voxel: [u64; 4],
-    expression: &[u8],
-    at: usize,
-    level: u64,
-    left: u64,
-) -> Sought
-    requires { ⌜ universeRefusal universe ≡ 0 ⌝ }
-    requires { ⌜ level + left ≡ levels universe ⌝ }
-    ensures { λ r. ⌜ r ≡ sought universe voxel at level left (readAt (now (expression .entry)) left at) ⌝ }
+// The colour that a symbol stands for.
+fn colour_of(symbol: u8) -> Colour
+    ensures { λ r. ⌜ r ≡ symbolColour symbol ⌝ }
 {
-    if expression.len() <= at {
-        return Sought::Missing;
-    }
-    let symbol = expression[at];
-    if symbol == b'(' {
-        if left == 0 {
-            return Sought::Missing;
-        }
-        if half(universe, voxel, level) == 0 {
-            match seek(universe, voxel, expression, at + 1, level + 1, left - 1) {
-                Sought::Found(middle, colour) => match walk(expression, middle, left - 1) {
-                    Walked::Past(end, _) => Sought::Found(end, colour),
-                    Walked::Nowhere => Sought::Missing,
-                },
-                Sought::Missing => Sought::Missing,
-            }
-        } else {
-            match walk(expression, at + 1, left - 1) {
-                Walked::Past(middle, _) => seek(
-                    universe,
-                    voxel,
-                    expression,
-                    middle,
-                    level + 1,
-                    left - 1,
-                ),
-                Walked::Nowhere => Sought::Missing,
-            }
-        }
-    } else if symbol == b'B' {
-        Sought::Found(at + 1, Colour::Black)
-    } else if symbol == b'W' {
-        Sought::Found(at + 1, Colour::White)
+    if symbol == b'B' {
+        Colour::Black
     } else {
-        Sought::Missing
+        Colour::White
     }
 }
 
 // The answer for a voxel of a well-formed expression: the colour found, or 9 where the voxel is outside.
-fn shown(universe: Universe, voxel: [u64; 4], colour: Colour) -> Coloured
+fn voxel_answer(
+    universe: Universe,
+    voxel: [u64; Universe::MOST_AXES as usize],
+    colour: Colour,
+) -> Coloured
     requires { ⌜ universeRefusal universe ≡ 0 ⌝ }
-    ensures { λ r. ⌜ r ≡ shownAt universe voxel colour ⌝ }
+    ensures { λ r. ⌜ r ≡ voxelAnswer universe voxel colour ⌝ }
 {
-    let nine = outside(universe, voxel);
+    let nine = voxel_refusal(universe, voxel);
     if nine != 0 {
-        return Coloured {
-            refusal: nine,
-            colour: Colour::White,
-        };
+        return Coloured::refused(nine);
     }
-    Coloured {
-        refusal: 0,
-        colour: colour,
-    }
+    Coloured::done(colour)
 }
 
 // The colour at a voxel.
-pub fn colour_at(universe: Universe, expression: &[u8], voxel: [u64; 4]) -> Coloured
+pub fn colour_at(
+    universe: Universe,
+    expression: &[u8],
+    voxel: [u64; Universe::MOST_AXES as usize],
+) -> Coloured
     ensures { λ r. ⌜ r ≡ colourAnswer universe (now (expression .entry)) voxel ⌝ }
 {
     let refusal = universe.refusal();
     if refusal != 0 {
-        return Coloured {
-            refusal: refusal,
-            colour: Colour::White,
-        };
+        return Coloured::refused(refusal);
     }
-    match seek(
-        universe,
-        voxel,
-        expression,
-        0,
-        0,
-        universe.axes * universe.bits,
-    ) {
-        Sought::Found(end, colour) => {
+    let path = path_to(universe, voxel);
+    match trace(expression, 0, universe.levels(), &path, 0) {
+        Traced::Led(end, start, _) => {
             if end == expression.len() {
-                shown(universe, voxel, colour)
+                voxel_answer(universe, voxel, colour_of(expression[start]))
             } else {
-                Coloured {
-                    refusal: 7,
-                    colour: Colour::White,
-                }
+                Coloured::refused(refusals::BAD_EXPRESSION)
             }
         }
-        Sought::Missing => Coloured {
-            refusal: 7,
-            colour: Colour::White,
-        },
+        Traced::Lost => Coloured::refused(refusals::BAD_EXPRESSION),
     }
 }

@@ -1,4 +1,5 @@
--- Document 01, "Both sides of the edges": the cases marked P, as one list. A closed case is one line: what is computed, and what it must be.
+-- Document 01, "Both sides of the edges": the cases marked P, as one list, and after them both sides of the last word
+-- that names a halfspace. A closed case is one line: what is computed, and what it must be.
 use Prim.Native.Nat.{ℕ, _+_}
 use Prim.Native.String.{String}
 use Prim.Native.Char.{code}
@@ -18,9 +19,10 @@ use Rattle.bintree.specs.Merging.{merged}
 use Rattle.bintree.specs.Parts.{colourAt}
 use Rattle.bintree.specs.Counts.{volume}
 use Rattle.bintree.specs.Verdicts.{verdict}
-use Rattle.csg.specs.Halfspace.{rowAt, rowCount, centreValue}
+use Rattle.csg.specs.Halfspace.{rowAt, centreValue}
+use Rattle.csg.specs.Surfaces.{Surfaces, surfacesOf, Named, named}
 use Rattle.csg.specs.Tree.{Tree}
-use Rattle.csg.specs.Words.{treeOf, halfspaceWords}
+use Rattle.csg.specs.Words.{treeRefusal, treeOf, halfspaceWords}
 use Rattle.csg.specs.Raw.{raw, both}
 
 -- a universe of d axes and k bits
@@ -49,15 +51,15 @@ pub data Trees : Type 0 where
   two : List ℕ → List ℕ → Trees
 
 pub record Scene : Type 0 where
-  pub rows : List ℤ
+  pub surfaces : Surfaces
   pub trees : Trees
 
-abbrev pub treeIn : ℕ → Trees → Tree
-treeIn rows (one ws) = treeOf rows ws
-treeIn rows (two ws₁ ws₂) = both (treeOf rows ws₁) (treeOf rows ws₂)
+abbrev pub treeIn : Named → Trees → Tree
+treeIn names (one ws) = treeOf names ws
+treeIn names (two ws₁ ws₂) = both (treeOf names ws₁) (treeOf names ws₂)
 
 abbrev pub rawOf : Scene → Shape
-rawOf s = raw square (s .rows) (treeIn (rowCount (s .rows)) (s .trees))
+rawOf s = raw square (s .surfaces) (treeIn (named (s .surfaces)) (s .trees))
 
 abbrev pub leavesIn : Trees → ℕ
 leavesIn (one ws) = halfspaceWords ws
@@ -65,13 +67,16 @@ leavesIn (two ws₁ ws₂) = halfspaceWords ws₁ + halfspaceWords ws₂
 
 -- case 1: (−2,2,−1)
 abbrev pub slanted : Scene
-slanted = record { rows = row (minus 2) (pos 2) (minus 1) []; trees = one (256 ∷ []) }
+slanted = record { surfaces = surfacesOf (row (minus 2) (pos 2) (minus 1) []); trees = one (256 ∷ []) }
 
 -- cases 2 and 3: (−2,1,0), (−2,0,1), (6,−1,−1) intersected
-abbrev pub corner : Scene
-corner =
+abbrev pub triangle : Scene
+triangle =
     record {
-      rows = row (minus 2) (pos 1) (pos 0) (row (minus 2) (pos 0) (pos 1) (row (pos 6) (minus 1) (minus 1) []));
+      surfaces = surfacesOf
+          (row (minus 2) (pos 1) (pos 0)
+          (row (minus 2) (pos 0) (pos 1)
+          (row (pos 6) (minus 1) (minus 1) [])));
       trees = one (256 ∷ 257 ∷ 258 ∷ 3 ∷ 3 ∷ []);
     }
 
@@ -79,13 +84,17 @@ corner =
 abbrev pub program : Scene
 program =
     record {
-      rows = row (pos 0) (pos 1) (minus 1) (row (pos 1) (minus 1) (pos 1) (row (minus 2) (pos 1) (pos 0) (row (pos 3) (minus 1) (pos 0) [])));
+      surfaces = surfacesOf
+          (row (pos 0) (pos 1) (minus 1)
+          (row (pos 1) (minus 1) (pos 1)
+          (row (minus 2) (pos 1) (pos 0)
+          (row (pos 3) (minus 1) (pos 0) []))));
       trees = two (256 ∷ 257 ∷ 3 ∷ []) (258 ∷ 259 ∷ 3 ∷ []);
     }
 
 -- case 6: the all-zero halfspace
 abbrev pub allZero : Scene
-allZero = record { rows = row (pos 0) (pos 0) (pos 0) []; trees = one (256 ∷ []) }
+allZero = record { surfaces = surfacesOf (row (pos 0) (pos 0) (pos 0) []); trees = one (256 ∷ []) }
 
 -- what a case computes
 pub data Value : Type 0 where
@@ -93,7 +102,7 @@ pub data Value : Type 0 where
   number : ℕ → Value
   value : ℤ → Value
   coloured : Colour → Value
-  judged : Verdict → Value
+  verdictIs : Verdict → Value
 
 pub record Case : Type 0 where
   pub computed : Value
@@ -109,11 +118,15 @@ rawSymbols s = symbolsAre (symbols (rawOf s))
 abbrev pub mergedSymbols : Scene → Value
 mergedSymbols s = symbolsAre (symbols (merged (rawOf s)))
 
-abbrev pub hit : ℕ → ℕ → ℕ → Value
-hit first last voxels = judged (Hit (record { first = first; last = last; voxels = voxels }))
+-- the number that a tree of one word is refused with, where there are so many halfspaces
+abbrev pub wordRefusal : ℕ → ℕ → Value
+wordRefusal count word = number (treeRefusal (record { halfspaces = count }) (word ∷ []))
 
-abbrev pub judgedOver : Scene → ℕ → ℕ → Value
-judgedOver s first last = judged (verdict square (rawOf s) first last)
+abbrev pub hit : ℕ → ℕ → ℕ → Value
+hit first last voxels = verdictIs (Hit (record { first = first; last = last; voxels = voxels }))
+
+abbrev pub verdictOver : Scene → ℕ → ℕ → Value
+verdictOver s first last = verdictIs (verdict square (rawOf s) first last)
 
 abbrev pub mergedOf : Reading → List ℕ
 mergedOf none = []
@@ -128,20 +141,20 @@ closed =
     ∷ (number (volume square (rawOf slanted)) is number 8)
     ∷ (number (room square (leavesIn (slanted .trees))) is number 23)
     -- 2
-    ∷ (rawSymbols corner is symbolsAre (text "(W(W((BB(BW"))
-    ∷ (mergedSymbols corner is symbolsAre (text "(W(W(B(BW"))
-    ∷ (number (volume square (rawOf corner)) is number 3)
+    ∷ (rawSymbols triangle is symbolsAre (text "(W(W((BB(BW"))
+    ∷ (mergedSymbols triangle is symbolsAre (text "(W(W(B(BW"))
+    ∷ (number (volume square (rawOf triangle)) is number 3)
     -- 3
-    ∷ (value (centreValue square (rowAt (corner .rows) 2) (3 ∷ 2 ∷ [])) is value (pos 0))
-    ∷ (coloured (colourAt square (rawOf corner) (3 ∷ 2 ∷ [])) is coloured Black)
-    ∷ (coloured (colourAt square (rawOf corner) (3 ∷ 3 ∷ [])) is coloured White)
+    ∷ (value (centreValue square (rowAt (triangle .surfaces .rows) 2) (3 ∷ 2 ∷ [])) is value (pos 0))
+    ∷ (coloured (colourAt square (rawOf triangle) (3 ∷ 2 ∷ [])) is coloured Black)
+    ∷ (coloured (colourAt square (rawOf triangle) (3 ∷ 3 ∷ [])) is coloured White)
     -- 4
     ∷ (rawSymbols program is symbolsAre (text "(W(((WBW((BWW"))
-    ∷ (judgedOver program 0 3 is hit 1 2 2)
+    ∷ (verdictOver program 0 3 is hit 1 2 2)
     -- 5
-    ∷ (judgedOver program 0 0 is judged Clear)
-    ∷ (judgedOver program 2 2 is hit 2 2 1)
-    ∷ (judgedOver program 3 3 is judged Clear)
+    ∷ (verdictOver program 0 0 is verdictIs Clear)
+    ∷ (verdictOver program 2 2 is hit 2 2 1)
+    ∷ (verdictOver program 3 3 is verdictIs Clear)
     -- 6
     ∷ (rawSymbols allZero is symbolsAre (text "B"))
     -- 7
@@ -153,15 +166,24 @@ closed =
     ∷ (number (expressionRefusal square []) is number 7)
     ∷ (number (expressionRefusal square (text "(B")) is number 7)
     ∷ (number (expressionRefusal square (text "BB")) is number 7)
+    -- a word names a halfspace where it is 256 to 511 and its index is below their count
+    ∷ (wordRefusal 1000 511 is number 0)
+    ∷ (wordRefusal 1000 512 is number 4)
+    ∷ (wordRefusal 1000 600 is number 4)
+    ∷ (wordRefusal 256 511 is number 0)
+    ∷ (wordRefusal 255 511 is number 4)
     ∷ []
 
 -- 6: "N = 0 has room 1", for all d and k
 abbrev pub NoLeavesRoom : Type 0
 NoLeavesRoom = (u : Universe) → room u 0 ≡ 1
 
--- 8: "k = 0: one symbol always, room 1", for all d, rows and trees
+-- 8: "k = 0: one symbol always, room 1", for all d, surfaces and trees
+abbrev pub isOneSymbol : Shape → Type 0
+isOneSymbol s = (length (symbols s) ≡ 1) × (length (symbols (merged s)) ≡ 1)
+
 abbrev pub NoBitsOneSymbol : Type 0
-NoBitsOneSymbol = (d : ℕ) (rows : List ℤ) (t : Tree) → (length (symbols (raw (universe d 0) rows t)) ≡ 1) × (length (symbols (merged (raw (universe d 0) rows t))) ≡ 1)
+NoBitsOneSymbol = (d : ℕ) (surfaces : Surfaces) (t : Tree) → isOneSymbol (raw (universe d 0) surfaces t)
 
 abbrev pub NoBitsRoom : Type 0
 NoBitsRoom = (d leaves : ℕ) → room (universe d 0) leaves ≡ 1
@@ -172,4 +194,9 @@ Every [] = Unit {0}
 Every (p ∷ ps) = p × Every ps
 
 abbrev pub cases : List (Type 0)
-cases = (map (λ c. c .computed) closed ≡ map (λ c. c .expected) closed) ∷ NoLeavesRoom ∷ NoBitsOneSymbol ∷ NoBitsRoom ∷ []
+cases =
+    (map (λ c. c .computed) closed ≡ map (λ c. c .expected) closed)
+    ∷ NoLeavesRoom
+    ∷ NoBitsOneSymbol
+    ∷ NoBitsRoom
+    ∷ []

@@ -141,7 +141,7 @@ fn questions(expression: &[u8], path: &[u8]) {
     written(b"  merge", answer, &room);
 }
 
-fn colour(expression: &[u8], voxel: [u64; 4]) {
+fn colour(expression: &[u8], voxel: [u64; Universe::MOST_AXES as usize]) {
     let answer = bintree::colour_at(square(), expression, voxel);
     let refusal = answer.refusal;
     let colour = answer.colour;

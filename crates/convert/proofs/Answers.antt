@@ -1,138 +1,180 @@
 -- The answers of the conversions. The first check that refuses is the answer's number, and where none refuses the recursion is ready. Room that is as
 -- large as the formula says suffices; else what was written into scratch room is copied, or written once more.
-use Prim.Native.Nat.{ℕ, zero, suc, _+_, _-_, _^_, _≤_, _<_}
+use Prim.Native.Nat.{ℕ, _+_, _≤_, _<_}
 use mathlib.Core.Path.{_≡_, refl, sym, ap, ap₂, _∙_}
-use mathlib.Core.List.{List, [], _∷_}
+use mathlib.Core.Bool.{Bool, true, false}
+use mathlib.Core.List.{List}
 use native.Mathlib.Omega.{arith}
 use borrow.Author.Tests.{eq-eqb, ne-eqb}
-use lib.IntN.{ℤ}
-use lib.ListN.{length, replicate}
-use lib.Seq.{sets, length-sets, paste}
+use lib.ListN.{length, replicate, take}
+use lib.Seq.{sets, length-sets}
 use Rattle.universe.specs.declared.Universe.{Universe}
-use Rattle.universe.specs.Refusals.{firstRefusal}
-use Rattle.universe.specs.Universe.{mostAxes, universeRefusal, levels, axisAt}
+use Rattle.universe.specs.Universe.{mostAxes, mostLevels, universeRefusal}
+use Rattle.universe.specs.Questions.{levelsAnswer, axesLeft}
 use Rattle.universe.specs.declared.room.RoomAnswer.{RoomAnswer}
 use Rattle.universe.specs.Room.{room, roomAnswer}
-use Rattle.universe.proofs.Universes.{accepted, levels-few}
+use Rattle.universe.proofs.Refusing.{last-check}
+use Rattle.universe.proofs.Questions.{levels-told, levels-answered}
 use Rattle.bintree.specs.Shape.{Shape, symbols, size}
+use Rattle.bintree.specs.Walks.{noted, laid}
 use Rattle.bintree.specs.declared.Written.{Written}
-use Rattle.bintree.specs.Answers.{writtenAnswer, writtenBuffer}
+use Rattle.bintree.specs.Answers.{refusedWriting, shortWriting, doneWriting}
 use Rattle.bintree.proofs.Shape.{length-symbols}
+use Rattle.bintree.proofs.Lays.{laid-noted}
 use Rattle.bintree.proofs.Answers.{written-refused, kept-refused, written-short, kept-short, written-all, left-all}
-use Rattle.lemmas.proofs.Stores.{sets-first, stores-copied}
-use Rattle.csg.specs.Halfspace.{rowCount, rowsRefusal, mostRows}
+use Rattle.lemmas.proofs.Stores.{sets-first, sets-front}
+use Rattle.csg.specs.Halfspace.{rowsRefusal}
+use Rattle.csg.specs.Surfaces.{Surfaces, named}
 use Rattle.csg.specs.Tree.{leaves}
 use Rattle.csg.specs.Words.{treeRefusal, halfspaceWords}
+use Rattle.csg.specs.Raw.{raw}
 use Rattle.csg.proofs.Words.{accepted-length, tree-leaves}
 use Rattle.demands.proofs.Room.{raw-room}
-use Rattle.convert.specs.Blocks.{Ready, RoomReady, Standing, treesOf, wholeSides}
-use Rattle.convert.specs.Shapes.{shapeOf}
-use Rattle.convert.specs.Answers.{refusalOfTwo, rawOfTwo}
-use Rattle.convert.proofs.Blocks.{whole-standing, whole-is, whole-axis}
-use Rattle.convert.proofs.Judging.{rows-few}
-use Rattle.convert.proofs.Shapes.{shape-small}
+use Rattle.convert.specs.declared.lay.Piece.{Piece}
+use Rattle.convert.specs.Blocks.{Ready, RoomReady, Standing, treesOf, wholeSides, axisLeft}
+use Rattle.convert.specs.Shapes.{shapeOf, shaped, laidShape, pieceOf, Laying}
+use Rattle.convert.specs.Answers.{twoTreesChecks, twoTreesRefusal, rawOfTwo, mergedOfTwo, writtenOfTwo, conversionAnswer, conversionBuffer}
+use Rattle.convert.specs.Answers.{rawOfTwoAnswer, rawOfTwoBuffer, mergedOfTwoAnswer, mergedOfTwoBuffer}
+use Rattle.convert.proofs.Blocks.{whole-standing, whole-is}
+use Rattle.convert.proofs.Shapes.{shape-small, shaped-size}
 
 -- ---- the checks in their order
-module _ (u : Universe) (rows : List ℤ) (first second : List ℕ) where
-  pub refused-universe : {n : ℕ} → n ≡ universeRefusal u → (n ≡ 0 → ⊥) → (n ≡ refusalOfTwo u rows first second) × (n ≡ 0 → Ready u rows first second)
-  unfolding refusalOfTwo
+module _ (u : Universe) (surfaces : Surfaces) (first second : List ℕ) where
+  abbrev Checked : ℕ → Type 0
+  Checked n = (n ≡ twoTreesRefusal u surfaces first second) × (n ≡ 0 → Ready u surfaces first second)
+
+  pub refused-universe : {n : ℕ} → n ≡ universeRefusal u → (n ≡ 0 → ⊥) → Checked n
+  unfolding twoTreesChecks
   refused-universe {n} e h = (rw (← e, ne-eqb n 0 h), λ z. absurd (h z))
 
   module _ {a : ℕ} (ea : a ≡ universeRefusal u) (za : a ≡ 0) where
-    pub refused-rows : {n : ℕ} → n ≡ rowsRefusal u rows → (n ≡ 0 → ⊥) → (n ≡ refusalOfTwo u rows first second) × (n ≡ 0 → Ready u rows first second)
-    unfolding refusalOfTwo
+    pub refused-rows : {n : ℕ} → n ≡ rowsRefusal u (surfaces .rows) → (n ≡ 0 → ⊥) → Checked n
+    unfolding twoTreesChecks
     refused-rows {n} e h = (rw (← ea, eq-eqb a 0 za, ← e, ne-eqb n 0 h), λ z. absurd (h z))
 
-    module _ {b : ℕ} (eb : b ≡ rowsRefusal u rows) (zb : b ≡ 0) where
-      pub refused-first : {n : ℕ} → n ≡ treeRefusal (rowCount rows) first → (n ≡ 0 → ⊥) → (n ≡ refusalOfTwo u rows first second) × (n ≡ 0 → Ready u rows first second)
-      unfolding refusalOfTwo
+    module _ {b : ℕ} (eb : b ≡ rowsRefusal u (surfaces .rows)) (zb : b ≡ 0) where
+      pub refused-first : {n : ℕ} → n ≡ treeRefusal (named surfaces) first → (n ≡ 0 → ⊥) → Checked n
+      unfolding twoTreesChecks
       refused-first {n} e h = (rw (← ea, eq-eqb a 0 za, ← eb, eq-eqb b 0 zb, ← e, ne-eqb n 0 h), λ z. absurd (h z))
 
-      module _ {d : ℕ} (ed : d ≡ treeRefusal (rowCount rows) first) (zd : d ≡ 0) where
-        pub last-check : {n : ℕ} → n ≡ treeRefusal (rowCount rows) second → (n ≡ refusalOfTwo u rows first second) × (n ≡ 0 → Ready u rows first second)
-        unfolding refusalOfTwo
-        last-check {n} e = (
-          rw (← ea, eq-eqb a 0 za, ← eb, eq-eqb b 0 zb, ← ed, eq-eqb d 0 zd, ← e) (only n),
+      module _ {d : ℕ} (ed : d ≡ treeRefusal (named surfaces) first) (zd : d ≡ 0) where
+        pub checked-second : {n : ℕ} → n ≡ treeRefusal (named surfaces) second → Checked n
+        unfolding twoTreesChecks
+        checked-second {n} e = (
+          rw (← ea, eq-eqb a 0 za, ← eb, eq-eqb b 0 zb, ← ed, eq-eqb d 0 zd, ← e) (sym (last-check n)),
           λ z. record { accepted-universe = sym ea ∙ za; accepted-rows = sym eb ∙ zb; accepted-first = sym ed ∙ zd; accepted-second = sym e ∙ z },
         )
-          where
-            only : (m : ℕ) → m ≡ firstRefusal (m ∷ [])
-            only zero = refl
-            only (suc m) = rw (ne-eqb (suc m) 0 (λ z. omega arith))
 
--- ---- room
-module _ {u : Universe} {rows : List ℤ} {first second : List ℕ} (r : Ready u rows first second) where
-  pub levels-fit : levels u < 2 ^ 64
-  levels-fit = omega (arith, levels-few u (accepted u (r .accepted-universe)))
+-- ---- the whole universe's block, and what its recursion writes
+pub levels-most : (u : Universe) {left : ℕ} → left ≡ levelsAnswer u → left ≤ mostLevels
+levels-most u e = rw e (levels-answered u)
+
+module _ {u : Universe} {surfaces : Surfaces} {first second : List ℕ} (r : Ready u surfaces first second) where
+  pub standing : {left : ℕ} {side : List ℕ} → left ≡ levelsAnswer u → side ≡ wholeSides u → Standing u left (replicate mostAxes 0) side
+  standing l e = rw (levels-told u refl (r .accepted-universe) l, e) (whole-standing u (r .accepted-universe))
+
+  pub laying : {left axis : ℕ} {side axes : List ℕ} → left ≡ levelsAnswer u → side ≡ wholeSides u → axes ≡ axesLeft u → axis ≡ axisLeft axes left →
+      Laying u surfaces first second axes left (replicate mostAxes 0) side axis 0
+  laying l e o a = record { ready = r; order = o; standing = standing l e; turn = a; fits = omega (arith, shape-small r (standing l e)) }
+
+  module _ (m : Bool) {left : ℕ} (l : left ≡ levelsAnswer u) where
+    abbrev written : List ℕ
+    written = writtenOfTwo m u surfaces first second
+
+    abbrev wholeShape : Shape
+    wholeShape = laidShape m u surfaces first second left (replicate mostAxes 0)
+
+    whole-symbols : symbols wholeShape ≡ written
+    unfolding shapeOf writtenOfTwo
+    whole-symbols = rw (levels-told u refl (r .accepted-universe) l, whole-is u)
+
+    module _ {piece : Piece} (p : piece ≡ pieceOf 0 wholeShape) where
+      pub piece-length : piece .end ≡ length written
+      piece-length = omega (arith, ap (λ (x : Piece). x .end) p, length-symbols wholeShape, ap length whole-symbols)
+
+      pub noted-whole : (out : List ℕ) {one now : List ℕ} → one ≡ laid out 0 wholeShape → now ≡ noted one 0 (piece .held) → now ≡ sets out 0 written
+      noted-whole out f g = g ∙ rw (f, ap (λ (x : Piece). x .held) p) (laid-noted out 0 wholeShape) ∙ ap (sets out 0) whole-symbols
+
+  -- ---- room that is as large as the formula says suffices
+  module _ (m : Bool) where
+    in-room : length (writtenOfTwo m u surfaces first second) ≤ room u (halfspaceWords first + halfspaceWords second)
+    unfolding writtenOfTwo leaves
+    in-room =
+        let s = raw u surfaces (treesOf surfaces first second) in
+        let e = raw-room u (r .accepted-universe) surfaces (treesOf surfaces first second) in
+        rw (← tree-leaves (named surfaces) first (r .accepted-first), ← tree-leaves (named surfaces) second (r .accepted-second))
+        (omega (arith, e, shaped-size m s, length-symbols s, length-symbols (shaped m s)))
+
+    pub room-suffices : {x lent k : ℕ} → x ≡ room u (halfspaceWords first + halfspaceWords second) → x ≤ lent →
+        k ≡ length (writtenOfTwo m u surfaces first second) → k ≤ lent
+    room-suffices e h l = omega (arith, in-room)
 
   pub room-ready : RoomReady u first second
   room-ready =
       record {
         accepted-universe = r .accepted-universe;
-        first-few = accepted-length (rowCount rows) first (r .accepted-first);
-        second-few = accepted-length (rowCount rows) second (r .accepted-second);
+        first-few = accepted-length (named surfaces) first (r .accepted-first);
+        second-few = accepted-length (named surfaces) second (r .accepted-second);
       }
 
-  -- the whole universe's block, and what its recursion writes
-  pub standing : {side : List ℕ} → side ≡ wholeSides u → Standing u (levels u) (replicate mostAxes 0) side
-  standing e = rw e (whole-standing u (r .accepted-universe))
-
-  pub first-axis : 0 ≡ axisAt u (levels u - levels u)
-  first-axis = whole-axis u (r .accepted-universe)
-
-  abbrev pub wholeShape : Shape
-  wholeShape = shapeOf u rows first second (levels u) (replicate mostAxes 0)
-
-  pub whole-symbols : symbols wholeShape ≡ rawOfTwo u rows first second
-  unfolding shapeOf rawOfTwo
-  whole-symbols = rw (whole-is u)
-
-  pub whole-length : size wholeShape ≡ length (rawOfTwo u rows first second)
-  whole-length = sym (length-symbols wholeShape) ∙ ap length whole-symbols
-
-  pub whole-fits : 0 + size wholeShape < 2 ^ 64
-  whole-fits = omega (arith, shape-small r (standing refl))
-
-  pub raw-in-room : length (rawOfTwo u rows first second) ≤ room u (halfspaceWords first + halfspaceWords second)
-  unfolding rawOfTwo leaves
-  raw-in-room =
-      rw (← tree-leaves (rowCount rows) first (r .accepted-first) few, ← tree-leaves (rowCount rows) second (r .accepted-second) few)
-      (raw-room u (r .accepted-universe) rows (treesOf rows first second))
-    where
-      few : rowCount rows ≤ mostRows
-      few = rows-few u rows (r .accepted-rows)
-
--- ---- the ends of a conversion that writes these symbols
--- a refusal by the checks, which gave m
-pub answer-refused : {m n : ℕ} → m ≡ n → (out written : List ℕ) → (m ≡ 0 → ⊥) → (record { refusal = m; length = 0 } ≡ writtenAnswer n out written) × (out ≡ writtenBuffer n out written)
-answer-refused {m} e out written h = rw (← e) (written-refused m out written h, kept-refused m out written h)
-
--- too little room for k symbols
-pub answer-short : (out written : List ℕ) {k : ℕ} → k ≡ length written → length out < k → (record { refusal = 6; length = k } ≡ writtenAnswer 0 out written) × (out ≡ writtenBuffer 0 out written)
-answer-short out written {k} e h = rw e (written-short 0 out written refl (omega arith), kept-short 0 out written refl (omega arith))
-
--- k symbols written
-pub answer-written : (out written : List ℕ) {k : ℕ} {now : List ℕ} → k ≡ length written → k ≤ length out → now ≡ sets out 0 written → (record { refusal = 0; length = k } ≡ writtenAnswer 0 out written) × (now ≡ writtenBuffer 0 out written)
-answer-written out written {k} e f h =
-    let g : length written ≤ length out = omega arith in
-    rw (e, h) (written-all 0 out written refl g, sets-first written out g ∙ left-all 0 out written refl g)
-
--- the same by way of scratch room that holds them all
-pub answer-copied : (out scratch before written : List ℕ) {k : ℕ} {now : List ℕ} → k ≡ length written → k ≤ length out → k ≤ length scratch → scratch ≡ sets before 0 written → now ≡ paste out 0 scratch k → (record { refusal = 0; length = k } ≡ writtenAnswer 0 out written) × (now ≡ writtenBuffer 0 out written)
-answer-copied out scratch before written {k} {now} e f g s p =
-    answer-written out written e f (p ∙ rw (e, s) (stores-copied written before out (omega (arith, ap length s, length-sets before 0 written)) (omega arith)))
-
--- where the checks gave 0, a conversion's answer after them is its answer
-pub answer-accepted : {m n : ℕ} → m ≡ n → m ≡ 0 → (out written : List ℕ) {answer : Written} {now : List ℕ} → (answer ≡ writtenAnswer 0 out written) × (now ≡ writtenBuffer 0 out written) → (answer ≡ writtenAnswer n out written) × (now ≡ writtenBuffer n out written)
-answer-accepted {m} {n} e z out written p = rw (sym e ∙ z) p
-
--- ---- room that is as large as the formula says suffices
-module _ {u : Universe} {rows : List ℤ} {first second : List ℕ} (r : Ready u rows first second) where
-  pub raw-lent : {x lent : ℕ} → x ≡ room u (halfspaceWords first + halfspaceWords second) → x ≤ lent → length (rawOfTwo u rows first second) ≤ lent
-  raw-lent {x} {lent} e h = omega (arith, raw-in-room r)
-
 -- the room question's answer, for leaves that two calls counted
-pub room-is : (u : Universe) (first second : List ℕ) {x y : ℕ} {answer : RoomAnswer} → universeRefusal u ≡ 0 → x ≡ halfspaceWords first → y ≡ halfspaceWords second → answer ≡ roomAnswer u (x + y) → answer .symbols ≡ room u (halfspaceWords first + halfspaceWords second)
+pub room-is : (u : Universe) (first second : List ℕ) {x y : ℕ} {answer : RoomAnswer} → universeRefusal u ≡ 0 →
+    x ≡ halfspaceWords first → y ≡ halfspaceWords second → answer ≡ roomAnswer u (x + y) →
+    answer .symbols ≡ room u (halfspaceWords first + halfspaceWords second)
 unfolding roomAnswer
 room-is u first second {x} {y} z p q e =
     ap (λ (a : RoomAnswer). a .symbols) e ∙ rw (eq-eqb (universeRefusal u) 0 z) (ap₂ (λ (a b : ℕ). room u (a + b)) p q)
+
+-- ---- the ends of a conversion that writes these symbols
+module _ (out written : List ℕ) where
+  -- its answer and the room as it leaves it, where the checks before 6 give n
+  abbrev pub Ends : ℕ → Written → List ℕ → Type 0
+  Ends n answer now = (answer ≡ conversionAnswer n written out) × (now ≡ conversionBuffer n written out)
+
+  -- a refusal by the checks, which gave m
+  pub ends-refused : {m n : ℕ} → m ≡ n → (m ≡ 0 → ⊥) → {answer : Written} → answer ≡ refusedWriting m → Ends n answer out
+  ends-refused {m} e h a = rw (a, ← e) (written-refused m out written h, kept-refused m out written h)
+
+  -- where they gave 0, the answer after them is the answer
+  pub ends-accepted : {m n : ℕ} → m ≡ n → m ≡ 0 → {answer : Written} {now : List ℕ} → Ends 0 answer now → Ends n answer now
+  ends-accepted e z p = rw (sym e ∙ z) p
+
+  module _ {k : ℕ} (e : k ≡ length written) where
+    -- too little room for k symbols
+    pub ends-short : length out < k → {answer : Written} → answer ≡ shortWriting k → Ends 0 answer out
+    ends-short h a = rw (a, e) (written-short 0 out written refl (omega arith), kept-short 0 out written refl (omega arith))
+
+    -- k symbols written
+    pub ends-written : {now : List ℕ} → k ≤ length out → now ≡ sets out 0 written → {answer : Written} → answer ≡ doneWriting k → Ends 0 answer now
+    ends-written f h a =
+        let g : length written ≤ length out = omega arith in
+        rw (a, e, h) (written-all 0 out written refl g, sets-first written out g ∙ left-all 0 out written refl g)
+
+    -- the same by way of scratch room that holds them all
+    pub ends-copied : (scratch before : List ℕ) {now : List ℕ} → k ≤ length out → k ≤ length scratch → scratch ≡ sets before 0 written →
+        now ≡ sets out 0 (take k scratch) → {answer : Written} → answer ≡ doneWriting k → Ends 0 answer now
+    ends-copied scratch before f g s p a =
+        let h : length written ≤ length before = omega (arith, ap length s, length-sets before 0 written) in
+        let same : take k scratch ≡ written = rw (e, s) (sets-front written before h) in
+        ends-written f (p ∙ ap (sets out 0) same) a
+
+-- ---- the two conversions, by their flag
+module _ (u : Universe) (surfaces : Surfaces) (first second : List ℕ) where
+  pub raw-written : writtenOfTwo false u surfaces first second ≡ rawOfTwo u surfaces first second
+  unfolding writtenOfTwo rawOfTwo shaped
+  raw-written = refl
+
+  pub merged-written : writtenOfTwo true u surfaces first second ≡ mergedOfTwo u surfaces first second
+  unfolding writtenOfTwo mergedOfTwo shaped
+  merged-written = refl
+
+  module _ (out : List ℕ) {r : Written} {now : List ℕ} where
+    pub raw-ends : Ends out (writtenOfTwo false u surfaces first second) (twoTreesRefusal u surfaces first second) r now →
+        (r ≡ rawOfTwoAnswer u surfaces first second out) × (now ≡ rawOfTwoBuffer u surfaces first second out)
+    unfolding rawOfTwoAnswer rawOfTwoBuffer
+    raw-ends e = rw raw-written at e
+
+    pub merged-ends : Ends out (writtenOfTwo true u surfaces first second) (twoTreesRefusal u surfaces first second) r now →
+        (r ≡ mergedOfTwoAnswer u surfaces first second out) × (now ≡ mergedOfTwoBuffer u surfaces first second out)
+    unfolding mergedOfTwoAnswer mergedOfTwoBuffer
+    merged-ends e = rw merged-written at e

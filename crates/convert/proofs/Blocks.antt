@@ -1,74 +1,74 @@
--- The block that the arrays hold. Halving the side along the axis in turn gives both halves: the low one has the block's own corner, the high one lies half
--- a side further along that axis.
-use Prim.Native.Nat.{ℕ, zero, suc, _+_, _-_, _*_, _/_, _%_, _^_, _≤_, _<_}
+-- The block that the arrays hold. Halving the side along the axis of the levels left gives both halves: the low one has the block's own low places, the high
+-- one lies half a side further along that axis.
+use Prim.Native.Nat.{ℕ, zero, suc, _+_, _-_, _*_, _/_, _^_, _≤_, _<_}
 use mathlib.Core.Path.{_≡_, refl, sym, ap, _∙_}
 use mathlib.Core.List.{List}
-use native.Mathlib.Nat.{mod-eq-of-lt, mod-lt, div-add-mod', suc-mul}
 use native.Mathlib.Omega.{arith}
-use native.Mathlib.Decide.{ℕ-discrete}
-use borrow.Author.Tests.{eq-eqb, ne-eqb}
-use lib.ListN.{getD, replicate, length-set, getD-replicate}
+use native.Mathlib.Decide.{ℕ-discrete, decLt}
+use lib.ListN.{length, getD, replicate, length-set, List·getD-eq-default}
 use lib.Seq.{getD-set-same, getD-set-other}
-use lib.Arith.{digits-mod}
+use Rattle.lemmas.specs.Grid.{listed}
+use Rattle.lemmas.proofs.Grid.{listed-length, listed-at}
 use Rattle.universe.specs.declared.Universe.{Universe}
-use Rattle.universe.specs.Universe.{mostAxes, mostBits, universeRefusal, levels, axisAt, sideAlong, blockSide}
+use Rattle.universe.specs.Universe.{mostAxes, longestSide, universeRefusal, levels, axisAt, blockSide}
+use Rattle.universe.specs.Questions.{sideAnswer, axesLeft}
 use Rattle.universe.specs.Block.{wholeBlock, low, high}
 use Rattle.universe.proofs.Universes.{Accepted, accepted, side-few, axis-below, side-first, side-halved, side-kept}
-use Rattle.convert.specs.Small.{SmallCorner}
-use Rattle.convert.specs.Blocks.{Standing, blockAt, wholeSides, nextAxis, halfSide, halvedSides, highCorner}
+use Rattle.universe.proofs.Questions.{side-is, side-beyond, axes-left-at}
+use Rattle.convert.specs.Small.{SmallPlaces}
+use Rattle.convert.specs.Blocks.{Standing, blockLeft, wholeSides, halfSide, halvedSides, highLows}
 
--- a block that ends inside the universe has a small corner and small sides
-pub low-small : {u : Universe} {left : ℕ} {corner side : List ℕ} → Standing u left corner side → SmallCorner corner
+-- a block that ends inside the universe has small low places and small sides
+pub low-small : {u : Universe} {left : ℕ} {lows side : List ℕ} → Standing u left lows side → SmallPlaces lows
 low-small s = record { place = λ i. record { most = omega (arith, s .inside i .most) } }
 
-pub side-small : {u : Universe} {left : ℕ} {corner side : List ℕ} → Standing u left corner side → SmallCorner side
+pub side-small : {u : Universe} {left : ℕ} {lows side : List ℕ} → Standing u left lows side → SmallPlaces side
 side-small s = record { place = λ i. record { most = omega (arith, s .inside i .most) } }
 
 -- ---- the whole universe's block
-repeated : (n x i : ℕ) → getD (replicate n x) i 0 ≤ x
-repeated zero x i = omega arith
-repeated (suc n) x zero = omega arith
-repeated (suc n) x (suc i) = repeated n x i
+zeros : (n i : ℕ) → _≡_ {A = ℕ} (getD (replicate n 0) i 0) 0
+zeros zero i = refl
+zeros (suc n) zero = refl
+zeros (suc n) (suc i) = zeros n i
 
-pub whole-standing : (u : Universe) → universeRefusal u ≡ 0 → Standing u (levels u) (replicate mostAxes 0) (wholeSides u)
-whole-standing u e =
-    let a = accepted u e in
-    let z : levels u - levels u ≡ 0 = omega arith in
-    record {
-      above = omega arith;
-      low-places = refl;
-      side-places = refl;
-      inside = λ i. record { most = omega (arith, repeated mostAxes 0 i, repeated mostAxes (sideAlong u 0) i, side-few u a 0) };
-      along = λ i h. rw (z, getD-replicate mostAxes i (sideAlong u 0) 0 (omega (arith, a .few-axes)), side-first u i);
-    }
+module _ (u : Universe) (e : universeRefusal u ≡ 0) where
+  side-answered : (i : ℕ) → sideAnswer u i ≤ longestSide
+  side-answered i = go (decLt i (u .axes))
+    where
+      go : Dec (i < u .axes) → sideAnswer u i ≤ longestSide
+      go (yes h) = rw (side-is u refl e i h) (side-few u (accepted u e) i)
+      go (no n) = rw (← side-beyond u refl e i (omega arith)) (omega arith)
 
-pub whole-is : (u : Universe) → blockAt u (levels u) (replicate mostAxes 0) ≡ wholeBlock u
+  whole-few : (i : ℕ) → getD (wholeSides u) i 0 ≤ longestSide
+  whole-few i = go (decLt i mostAxes)
+    where
+      go : Dec (i < mostAxes) → getD (wholeSides u) i 0 ≤ longestSide
+      go (yes h) = rw (listed-at mostAxes (sideAnswer u) i h) (side-answered i)
+      go (no n) = rw (List·getD-eq-default (wholeSides u) 0 {n = i} (omega (arith, listed-length mostAxes (sideAnswer u)))) (omega arith)
+
+  pub whole-standing : Standing u (levels u) (replicate mostAxes 0) (wholeSides u)
+  whole-standing =
+      let a = accepted u e in
+      let z : levels u - levels u ≡ 0 = omega arith in
+      record {
+        above = omega arith;
+        low-places = refl;
+        side-places = listed-length mostAxes (sideAnswer u);
+        inside = λ i. record { most = omega (arith, zeros mostAxes i, whole-few i) };
+        along = λ i h. rw z (listed-at mostAxes (sideAnswer u) i (omega (arith, a .few-axes)) ∙ side-is u refl e i h ∙ sym (side-first u i));
+      }
+
+pub whole-is : (u : Universe) → blockLeft u (levels u) (replicate mostAxes 0) ≡ wholeBlock u
 whole-is u = let z : levels u - levels u ≡ 0 = omega arith in rw z
 
-pub whole-axis : (u : Universe) → universeRefusal u ≡ 0 → 0 ≡ axisAt u (levels u - levels u)
-whole-axis u e = let z : levels u - levels u ≡ 0 = omega arith in rw z (sym (mod-eq-of-lt (accepted u e .some-axes)))
-
 -- ---- a block's halves
--- the axis in turn after that of level l is that of the next level
-turn : (d l : ℕ) → 0 < d → nextAxis d (l % d) ≡ suc l % d
-turn d l some = go (ℕ-discrete (l % d + 1) d)
-  where
-    m : l % d < d
-    m = mod-lt l some
+-- the axis of the levels left
+pub axis-is : (u : Universe) → universeRefusal u ≡ 0 → {axes : List ℕ} → axes ≡ axesLeft u → (n : ℕ) → suc n ≤ levels u →
+    getD axes n 0 ≡ axisAt u (levels u - suc n)
+axis-is u e o n h = rw o (axes-left-at u e n h)
 
-    e : l / d * d + l % d ≡ l
-    e = div-add-mod' l d
-
-    go : Dec (l % d + 1 ≡ d) → nextAxis d (l % d) ≡ suc l % d
-    go (yes p) =
-        let f : suc l ≡ suc (l / d) * d + 0 = omega (arith, e, suc-mul (l / d) d) in
-        rw (eq-eqb (l % d + 1) d p, f) (sym (digits-mod (suc (l / d)) some))
-    go (no n) =
-        let f : suc l ≡ l / d * d + (l % d + 1) = omega (arith, e) in
-        let h : l % d + 1 < d = omega (arith, m) in
-        rw (ne-eqb (l % d + 1) d n) (sym (ap (λ (k : ℕ). k % d) f ∙ digits-mod (l / d) h))
-
-module _ (u : Universe) (e : universeRefusal u ≡ 0) (n : ℕ) (corner side : List ℕ) (s : Standing u (suc n) corner side) (axis : ℕ) (axis-is : axis ≡ axisAt u (levels u - suc n)) where
+module _ (u : Universe) (e : universeRefusal u ≡ 0) (n : ℕ) (lows side : List ℕ) (s : Standing u (suc n) lows side)
+    (axis : ℕ) (at-level : axis ≡ axisAt u (levels u - suc n)) where
   a : Accepted u
   a = accepted u e
 
@@ -81,7 +81,7 @@ module _ (u : Universe) (e : universeRefusal u ≡ 0) (n : ℕ) (corner side : L
 
   axis-at : axis ≡ axisAt u level
   unfolding level
-  axis-at = axis-is
+  axis-at = at-level
 
   axis-in : axis < u .axes
   axis-in = rw axis-at (axis-below u (a .some-axes) level)
@@ -92,7 +92,7 @@ module _ (u : Universe) (e : universeRefusal u ≡ 0) (n : ℕ) (corner side : L
   -- along the axis a block is twice as long as its halves, along the others as long
   halved : blockSide u level axis ≡ 2 * blockSide u (levels u - n) axis
   unfolding level
-  halved = rw (axis-is, ← level-next) (side-halved u (a .some-axes) level (omega (arith, s .above)))
+  halved = rw (at-level, ← level-next) (side-halved u (a .some-axes) level (omega (arith, s .above)))
 
   kept : (i : ℕ) → (axis ≡ i → ⊥) → blockSide u (levels u - n) i ≡ blockSide u level i
   kept i d = rw (← level-next) (side-kept u level i (λ p. d (axis-at ∙ p)))
@@ -104,27 +104,31 @@ module _ (u : Universe) (e : universeRefusal u ≡ 0) (n : ℕ) (corner side : L
   half-is : halfSide side axis ≡ blockSide u (levels u - n) axis
   half-is = omega (arith, along axis axis-in, halved)
 
-  pub next-is : nextAxis (u .axes) axis ≡ axisAt u (levels u - n)
-  next-is = rw (axis-at, ← level-next) (turn (u .axes) level (a .some-axes))
+  -- a half along the axis ends no later than the block
+  side-set : getD (halvedSides side axis) axis 0 ≡ halfSide side axis
+  side-set = getD-set-same side axis (halfSide side axis) 0 (omega (arith, axis-few, s .side-places))
 
   sides-along : (i : ℕ) → i < u .axes → Dec (i ≡ axis) → getD (halvedSides side axis) i 0 ≡ blockSide u (levels u - n) i
-  sides-along i h (yes e) = rw (e, getD-set-same side axis (halfSide side axis) 0 (omega (arith, axis-few, s .side-places))) half-is
+  sides-along i h (yes e) = rw (e, side-set) half-is
   sides-along i h (no d) = rw (getD-set-other side axis i (halfSide side axis) 0 d) (along i h ∙ sym (kept i (λ p. d (sym p))))
 
-  -- a half along the axis ends no later than the block
-  lower-ends : (i : ℕ) → Dec (i ≡ axis) → getD corner i 0 + getD (halvedSides side axis) i 0 ≤ 2 ^ mostBits
-  lower-ends i (yes e) = rw (e, getD-set-same side axis (halfSide side axis) 0 (omega (arith, axis-few, s .side-places))) (omega (arith, s .inside axis .most))
+  low-set : getD (highLows lows side axis) axis 0 ≡ getD lows axis 0 + halfSide side axis
+  low-set = getD-set-same lows axis (getD lows axis 0 + halfSide side axis) 0 (omega (arith, axis-few, s .low-places))
+
+  pub high-ends : getD lows axis 0 + halfSide side axis < 2 ^ 64
+  high-ends = omega (arith, s .inside axis .most)
+
+  lower-ends : (i : ℕ) → Dec (i ≡ axis) → getD lows i 0 + getD (halvedSides side axis) i 0 ≤ longestSide
+  lower-ends i (yes e) = rw (e, side-set) (omega (arith, s .inside axis .most))
   lower-ends i (no d) = rw (getD-set-other side axis i (halfSide side axis) 0 d) (s .inside i .most)
 
-  upper-ends : (i : ℕ) → Dec (i ≡ axis) → getD (highCorner corner side axis) i 0 + getD (halvedSides side axis) i 0 ≤ 2 ^ mostBits
-  upper-ends i (yes e) =
-      rw (e, getD-set-same side axis (halfSide side axis) 0 (omega (arith, axis-few, s .side-places)), getD-set-same corner axis (getD corner axis 0 + halfSide side axis) 0 (omega (arith, axis-few, s .low-places)))
-      (omega (arith, s .inside axis .most))
+  upper-ends : (i : ℕ) → Dec (i ≡ axis) → getD (highLows lows side axis) i 0 + getD (halvedSides side axis) i 0 ≤ longestSide
+  upper-ends i (yes e) = rw (e, side-set, low-set) (omega (arith, s .inside axis .most))
   upper-ends i (no d) =
-      rw (getD-set-other side axis i (halfSide side axis) 0 d, getD-set-other corner axis i (getD corner axis 0 + halfSide side axis) 0 d)
+      rw (getD-set-other side axis i (halfSide side axis) 0 d, getD-set-other lows axis i (getD lows axis 0 + halfSide side axis) 0 d)
       (s .inside i .most)
 
-  pub lower-standing : Standing u n corner (halvedSides side axis)
+  pub lower-standing : Standing u n lows (halvedSides side axis)
   lower-standing =
       record {
         above = omega (arith, s .above);
@@ -134,20 +138,20 @@ module _ (u : Universe) (e : universeRefusal u ≡ 0) (n : ℕ) (corner side : L
         along = λ i h. sides-along i h (ℕ-discrete i axis);
       }
 
-  pub upper-standing : Standing u n (highCorner corner side axis) (halvedSides side axis)
+  pub upper-standing : Standing u n (highLows lows side axis) (halvedSides side axis)
   upper-standing =
       record {
         above = omega (arith, s .above);
-        low-places = length-set corner axis (getD corner axis 0 + halfSide side axis) ∙ s .low-places;
+        low-places = length-set lows axis (getD lows axis 0 + halfSide side axis) ∙ s .low-places;
         side-places = lower-standing .side-places;
         inside = λ i. record { most = upper-ends i (ℕ-discrete i axis) };
         along = lower-standing .along;
       }
 
-  pub lower-is : low (blockAt u (suc n) corner) ≡ blockAt u n corner
+  pub lower-is : low (blockLeft u (suc n) lows) ≡ blockLeft u n lows
   unfolding level
   lower-is = rw level-next
 
-  pub upper-is : high (blockAt u (suc n) corner) ≡ blockAt u n (highCorner corner side axis)
+  pub upper-is : high (blockLeft u (suc n) lows) ≡ blockLeft u n (highLows lows side axis)
   unfolding level
-  upper-is = rw (half-is, axis-is, level-next)
+  upper-is = rw (half-is, at-level, level-next)

@@ -14,13 +14,15 @@ use Rattle.universe.specs.declared.Universe.{Universe}
 use Rattle.universe.specs.declared.Block.{Block}
 use Rattle.bintree.specs.declared.Colour.the-variants.{White, Black}
 use Rattle.csg.specs.Halfspace.{Halfspace, Mark, decided, undecided, negated, least, greatest, markOver, centreValue, colourAtCentre}
-use Rattle.csg.specs.Tree.{Leaf, white, black, halfspace, Operator, union, intersection, minus, Tree, leaf, node, Plain, colour, side, unionOf, intersectionOf, plain, reversal}
-use Rattle.csg.specs.Words.{fold, InRows, halfspace-in, node-in}
-use Rattle.csg.specs.Marks.{unionMark, intersectionMark, leafMark, leafColour, plainMark, plainColour}
+use Rattle.csg.specs.Surfaces.{Surfaces, Named, Surface, IsNamed}
+use Rattle.csg.specs.Tree.{Leaf, white, black, surface, Operator, union, intersection, minus, Tree, leaf, node}
+use Rattle.csg.specs.Tree.{Plain, colour, side, unionOf, intersectionOf, plain, reversal}
+use Rattle.csg.specs.Words.{fold, AllNamed, surface-named, node-named}
+use Rattle.csg.specs.Marks.{unionMark, intersectionMark, surfaceMark, surfaceColour, plainMark, plainColour}
 use Rattle.csg.proofs.Halfspace.{negated-marks, centre-negated}
 use Rattle.csg.proofs.Marks.{union-colours, intersection-colours}
 use Rattle.convert.specs.declared.spread.Spread.{Spread}
-use Rattle.convert.specs.Codes.{bitsOf, codeOf, spreadCode, joinCode}
+use Rattle.convert.specs.Codes.{bitsOf, codeOf, whiteCode, blackCode, testedCode, spreadCode, joinCode}
 
 -- the mark of two shapes joined, and that of the joined shape's reversal
 abbrev joined : Operator → Mark → Mark → Mark → Mark → Mark
@@ -64,38 +66,40 @@ code-join o a a′ b b′ =
     (at-mark (λ x. ofMarks (λ y. ofMarks (λ z. ofMarks (λ w. test o x y z w)))) (passed o) a) a′) b) b′)
 
 -- the mark of a plain tree by any marks of its leaves
-pub markBy : (Bool → ℕ → Mark) → Plain → Mark
+pub markBy : (Bool → Surface → Mark) → Plain → Mark
 markBy f (colour c) = decided c
-markBy f (side turned i) = f turned i
+markBy f (side turned s) = f turned s
 markBy f (unionOf s t) = unionMark (markBy f s) (markBy f t)
 markBy f (intersectionOf s t) = intersectionMark (markBy f s) (markBy f t)
 
-pub mark-over : (rows : List ℤ) (b : Block) (p : Plain) → markBy (λ turned i. leafMark rows turned i b) p ≡ plainMark rows p b
+pub mark-over : (surfaces : Surfaces) (b : Block) (p : Plain) → markBy (λ turned s. surfaceMark surfaces turned s b) p ≡ plainMark surfaces p b
 unfolding markBy plainMark
-mark-over rows b (colour c) = refl
-mark-over rows b (side turned i) = refl
-mark-over rows b (unionOf s t) = ap₂ unionMark (mark-over rows b s) (mark-over rows b t)
-mark-over rows b (intersectionOf s t) = ap₂ intersectionMark (mark-over rows b s) (mark-over rows b t)
+mark-over surfaces b (colour c) = refl
+mark-over surfaces b (side turned i) = refl
+mark-over surfaces b (unionOf s t) = ap₂ unionMark (mark-over surfaces b s) (mark-over surfaces b t)
+mark-over surfaces b (intersectionOf s t) = ap₂ intersectionMark (mark-over surfaces b s) (mark-over surfaces b t)
 
-pub mark-at : (rows : List ℤ) (u : Universe) (v : List ℕ) (p : Plain) → markBy (λ turned i. decided (leafColour rows u turned i v)) p ≡ decided (plainColour rows u p v)
+pub mark-at : (surfaces : Surfaces) (u : Universe) (v : List ℕ) (p : Plain) →
+    markBy (λ turned i. decided (surfaceColour surfaces u turned i v)) p ≡ decided (plainColour surfaces u p v)
 unfolding markBy plainColour
-mark-at rows u v (colour c) = refl
-mark-at rows u v (side turned i) = refl
-mark-at rows u v (unionOf s t) =
-    ap₂ unionMark (mark-at rows u v s) (mark-at rows u v t) ∙ union-colours (plainColour rows u s v) (plainColour rows u t v)
-mark-at rows u v (intersectionOf s t) =
-    ap₂ intersectionMark (mark-at rows u v s) (mark-at rows u v t) ∙ intersection-colours (plainColour rows u s v) (plainColour rows u t v)
+mark-at surfaces u v (colour c) = refl
+mark-at surfaces u v (side turned i) = refl
+mark-at surfaces u v (unionOf s t) =
+    ap₂ unionMark (mark-at surfaces u v s) (mark-at surfaces u v t) ∙ union-colours (plainColour surfaces u s v) (plainColour surfaces u t v)
+mark-at surfaces u v (intersectionOf s t) =
+    ap₂ intersectionMark (mark-at surfaces u v s) (mark-at surfaces u v t) ∙ intersection-colours (plainColour surfaces u s v) (plainColour surfaces u t v)
 
--- where each row's code is that of its marks, the tree's is that of the tree's marks
-module _ (ofLeaf : Leaf → ℕ) (f : Bool → ℕ → Mark) (whites : ofLeaf white ≡ 6) (blacks : ofLeaf black ≡ 9) (n : ℕ) (rows : (i : ℕ) → i < n → ofLeaf (halfspace i) ≡ codeOf (f false i) (f true i)) where
-  pub code-tree : (t : Tree) → InRows n t → fold ofLeaf joinCode t ≡ codeOf (markBy f (plain t)) (markBy f (reversal t))
+-- where each surface's code is that of its marks, the tree's is that of the tree's marks
+module _ (ofLeaf : Leaf → ℕ) (f : Bool → Surface → Mark) (whites : ofLeaf white ≡ whiteCode) (blacks : ofLeaf black ≡ blackCode) (names : Named)
+    (surfaces : (s : Surface) → IsNamed names s → ofLeaf (surface s) ≡ codeOf (f false s) (f true s)) where
+  pub code-tree : (t : Tree) → AllNamed names t → fold ofLeaf joinCode t ≡ codeOf (markBy f (plain t)) (markBy f (reversal t))
   unfolding fold markBy plain reversal
   code-tree (leaf white) h = whites
   code-tree (leaf black) h = blacks
-  code-tree (leaf (halfspace i)) (halfspace-in h) = rows i h
-  code-tree (node union s t) (node-in p q) = ap₂ (joinCode union) (code-tree s p) (code-tree t q) ∙ code-join union _ _ _ _
-  code-tree (node intersection s t) (node-in p q) = ap₂ (joinCode intersection) (code-tree s p) (code-tree t q) ∙ code-join intersection _ _ _ _
-  code-tree (node minus s t) (node-in p q) = ap₂ (joinCode minus) (code-tree s p) (code-tree t q) ∙ code-join minus _ _ _ _
+  code-tree (leaf (surface s)) (surface-named h) = surfaces s h
+  code-tree (node union s t) (node-named p q) = ap₂ (joinCode union) (code-tree s p) (code-tree t q) ∙ code-join union _ _ _ _
+  code-tree (node intersection s t) (node-named p q) = ap₂ (joinCode intersection) (code-tree s p) (code-tree t q) ∙ code-join intersection _ _ _ _
+  code-tree (node minus s t) (node-named p q) = ap₂ (joinCode minus) (code-tree s p) (code-tree t q) ∙ code-join minus _ _ _ _
 
 -- a code's own two bits
 pub own-bits : (a b : Mark) → codeOf a b % 4 ≡ bitsOf a
@@ -108,23 +112,27 @@ own-bits a b = omega (arith, small a)
 
 -- ---- a row's code is that of its marks: over a block the two tests of its spread are those of its least and greatest values, at the centre of a voxel
 -- both are of the value there
-pub code-of-marks : (h : Halfspace) (b : Block) (s : Spread) → leZ (s .reach) (s .doubled) ≡ leZ (pos 0) (least h b) → leZ (s .doubled +ℤ s .reach) (pos 0) ≡ leZ (greatest h b) (pos 0) → spreadCode (s .doubled) (s .reach) ≡ codeOf (markOver h b) (markOver (negated h) b)
+pub code-of-marks : (h : Halfspace) (b : Block) (s : Spread) →
+    leZ (s .reach) (s .doubled) ≡ leZ (pos 0) (least h b) → leZ (s .doubled +ℤ s .reach) (pos 0) ≡ leZ (greatest h b) (pos 0) →
+    spreadCode (s .doubled) (s .reach) ≡ codeOf (markOver h b) (markOver (negated h) b)
 unfolding markOver
 code-of-marks h b s e f = rw (negated-marks h b, e, f) (by (leZ (pos 0) (least h b)) (leZ (greatest h b) (pos 0)))
   where
-    by : (p q : Bool) → cond p (cond q 5 9) (cond q 6 0) ≡ codeOf (cond p (decided Black) (cond q (decided White) undecided)) (cond q (decided Black) (cond p (decided White) undecided))
+    by : (p q : Bool) →
+        testedCode p q ≡ codeOf (cond p (decided Black) (cond q (decided White) undecided)) (cond q (decided Black) (cond p (decided White) undecided))
     by true true = refl
     by true false = refl
     by false true = refl
     by false false = refl
 
-pub code-of-colours : (h : Halfspace) (u : Universe) (v : List ℕ) → spreadCode (centreValue u h v) (pos 0) ≡ codeOf (decided (colourAtCentre u h v)) (decided (colourAtCentre u (negated h) v))
+pub code-of-colours : (h : Halfspace) (u : Universe) (v : List ℕ) →
+    spreadCode (centreValue u h v) (pos 0) ≡ codeOf (decided (colourAtCentre u h v)) (decided (colourAtCentre u (negated h) v))
 unfolding colourAtCentre
 code-of-colours h u v =
     rw (+ℤ-idr (centreValue u h v), centre-negated h u v, below-negated (centreValue u h v))
     (by (centreValue u h v) (leZ (pos 0) (centreValue u h v)) (leZ (centreValue u h v) (pos 0)) refl refl)
   where
-    by : (z : ℤ) (p q : Bool) → leZ (pos 0) z ≡ p → leZ z (pos 0) ≡ q → cond p (cond q 5 9) (cond q 6 0) ≡ codeOf (decided (cond p Black White)) (decided (cond q Black White))
+    by : (z : ℤ) (p q : Bool) → leZ (pos 0) z ≡ p → leZ z (pos 0) ≡ q → testedCode p q ≡ codeOf (decided (cond p Black White)) (decided (cond q Black White))
     by z true true e f = refl
     by z true false e f = refl
     by z false true e f = refl

@@ -1,4 +1,4 @@
--- Judging by a low corner and sides is judging their block: the two tests of a row's spread are those of its least and greatest values over the block,
+-- Judging by low places and sides is judging their block: the two tests of a row's spread are those of its least and greatest values over the block,
 -- so the code of a tree is that of its mark there, and at level L that of its colour at the centre, which is the same wherever the mark is decided.
 use Prim.Native.Nat.{ℕ, zero, suc, _-_, _%_, _≤_, _<_}
 use mathlib.Core.Path.{_≡_, refl, sym, ap, ap₂, _∙_}
@@ -14,25 +14,27 @@ use Rattle.lemmas.specs.Sums.{every}
 use Rattle.lemmas.proofs.Sums.{and-left, and-right, every-all}
 use Rattle.universe.specs.declared.Universe.{Universe}
 use Rattle.universe.specs.declared.Block.{Block}
+use Rattle.universe.specs.Refusals.{badRows}
 use Rattle.universe.specs.Universe.{mostAxes, offsetLimit, coefficientLimit, levels, blockSide}
 use Rattle.universe.specs.Block.{low, high}
 use Rattle.universe.specs.Voxel.{Within}
-use Rattle.universe.proofs.Refusals.{unless-holds}
+use Rattle.universe.proofs.Refusing.{unless-holds}
 use Rattle.universe.proofs.Universes.{accepted, side-positive, side-last}
 use Rattle.bintree.specs.declared.Colour.{Colour}
 use Rattle.bintree.specs.declared.Colour.the-variants.{White, Black}
 use Rattle.bintree.specs.Shape.{leaf, halved}
 use Rattle.csg.specs.Halfspace.{Halfspace, Mark, decided, undecided, rowCount, rowAt, withinLimits, rowsRefusal, mostRows, rowLength}
-use Rattle.csg.specs.Tree.{Tree, halfspace, plain, reversal}
-use Rattle.csg.specs.Words.{treeOf, InRows}
-use Rattle.csg.specs.Marks.{intersectionMark, leafMark, leafColour, plainMark, plainColour, treeMark, treeColour}
+use Rattle.csg.specs.Tree.{Tree, plain, reversal}
+use Rattle.csg.specs.Surfaces.{Surfaces, named, Surface, halfspace}
+use Rattle.csg.specs.Words.{treeRefusal, treeOf, AllNamed}
+use Rattle.csg.specs.Marks.{intersectionMark, surfaceMark, surfaceColour, plainMark, plainColour, treeMark, treeColour}
 use Rattle.csg.specs.Raw.{both, examine}
-use Rattle.csg.proofs.Words.{tree-in-rows}
+use Rattle.csg.proofs.Words.{tree-named}
 use Rattle.csg.proofs.Marks.{intersection-colours, tree-sound}
 use Rattle.csg.proofs.Raw.{examine-decided, examine-undecided, examine-voxel}
 use Rattle.convert.specs.Small.{SmallCoefficient, SmallHalfspace, JudgeReady}
-use Rattle.convert.specs.Codes.{spreadOf, bitsOf, codeOf, codeOfLeaf, codeOfTree}
-use Rattle.convert.specs.Blocks.{Ready, Standing, treesOf, blockAt, judged}
+use Rattle.convert.specs.Codes.{spreadOf, blackBit, whiteBit, bitsOf, reversalUnit, codeOf, codeOfSurface, codeOfLeaf, codeOfTree}
+use Rattle.convert.specs.Blocks.{Ready, Standing, treesOf, blockLeft, judged}
 use Rattle.convert.proofs.Spreads.{black-test, white-test, centre-doubled}
 use Rattle.convert.proofs.Blocks.{low-small, side-small}
 use Rattle.convert.proofs.Codes.{mark-over, mark-at, code-tree, own-bits, code-of-marks, code-of-colours}
@@ -44,111 +46,113 @@ limit-most false = omega arith
 
 within-small : (u : Universe) (h : Halfspace) → withinLimits u h ≡ true → SmallHalfspace h
 unfolding withinLimits
-within-small u h e = record { offset = leb-true _ _ (and-left (leb (natAbs (h .offset)) offsetLimit) (every mostAxes within) e); coefficient = small }
+within-small u h e = record { offset = leb-true _ _ (and-left offset (every mostAxes within) e); coefficient = small }
   where
+    offset : Bool
+    offset = leb (natAbs (h .offset)) offsetLimit
+
     within : ℕ → Bool
     within i = leb (natAbs (h .coefficient i)) (cond (ltb i (u .axes)) coefficientLimit 0)
 
     small : (i : ℕ) → i < mostAxes → SmallCoefficient (h .coefficient i)
     small i l =
-        record {
-          most = le-trans (leb-true _ _ (every-all mostAxes within (and-right (leb (natAbs (h .offset)) offsetLimit) (every mostAxes within) e) i l)) (limit-most (ltb i (u .axes)));
-        }
+        let w = leb-true _ _ (every-all mostAxes within (and-right offset (every mostAxes within) e) i l) in
+        record { most = le-trans w (limit-most (ltb i (u .axes))) }
 
 module _ (u : Universe) (rows : List ℤ) (e : rowsRefusal u rows ≡ 0) where
+  shaped-rows : Bool
+  shaped-rows = eqb (length rows % rowLength) 0 && leb (rowCount rows) mostRows
+
   within : ℕ → Bool
   within j = withinLimits u (rowAt rows j)
 
-  fives : Bool
-  fives = eqb (length rows % rowLength) 0
-
-  few : Bool
-  few = leb (rowCount rows) mostRows
-
-  good : fives && few && every (rowCount rows) within ≡ true
-  unfolding rowsRefusal within fives few
-  good = unless-holds (fives && few && every (rowCount rows) within) 3 (omega arith) e
-
-  pub rows-few : rowCount rows ≤ mostRows
-  unfolding few
-  rows-few = leb-true _ _ (and-right fives few (and-left (fives && few) (every (rowCount rows) within) good))
+  good : shaped-rows && every (rowCount rows) within ≡ true
+  unfolding rowsRefusal shaped-rows within
+  good = unless-holds (shaped-rows && every (rowCount rows) within) badRows (omega arith) e
 
   pub small-rows : (i : ℕ) → i < rowCount rows → SmallHalfspace (rowAt rows i)
   unfolding within
-  small-rows i l = within-small u (rowAt rows i) (every-all (rowCount rows) within (and-right (fives && few) (every (rowCount rows) within) good) i l)
+  small-rows i l = within-small u (rowAt rows i) (every-all (rowCount rows) within (and-right shaped-rows (every (rowCount rows) within) good) i l)
 
--- ---- a corner and sides are those of a block
-module _ {u : Universe} {rows : List ℤ} {first second : List ℕ} (r : Ready u rows first second) {left : ℕ} {corner side : List ℕ} (s : Standing u left corner side) where
+-- ---- low places and sides are those of a block
+module _ {u : Universe} {surfaces : Surfaces} {first second : List ℕ} (r : Ready u surfaces first second) {left : ℕ} {lows side : List ℕ}
+    (s : Standing u left lows side) where
   abbrev b : Block
-  b = blockAt u left corner
+  b = blockLeft u left lows
 
-  pub judge-ready : JudgeReady (u .axes) rows corner side
-  judge-ready =
+  pub judge-ready : {axes : ℕ} → axes ≡ u .axes → JudgeReady axes (surfaces .rows) lows side
+  judge-ready e =
       let a = accepted u (r .accepted-universe) in
-      record { some = a .some-axes; few = a .few-axes; small = small-rows u rows (r .accepted-rows); lows = low-small s; sides = side-small s }
+      let small = small-rows u (surfaces .rows) (r .accepted-rows) in
+      rw e (record { some = a .some-axes; few = a .few-axes; small = small; lows = low-small s; sides = side-small s })
 
   -- the code of a tree over a block
-  row-over : (i : ℕ) → codeOfLeaf (u .axes) rows corner side false (halfspace i) ≡ codeOf (leafMark rows false i b) (leafMark rows true i b)
-  unfolding codeOfLeaf leafMark
-  row-over i = let h = rowAt rows i in code-of-marks h b (spreadOf (u .axes) h corner side) (black-test h b side (s .along)) (white-test h b side (s .along))
+  surface-over : (x : Surface) → codeOfSurface (u .axes) surfaces lows side false x ≡ codeOf (surfaceMark surfaces false x b) (surfaceMark surfaces true x b)
+  unfolding codeOfSurface surfaceMark
+  surface-over (halfspace i) =
+      let h = rowAt (surfaces .rows) i in
+      code-of-marks h b (spreadOf (u .axes) h lows side) (black-test h b side (s .along)) (white-test h b side (s .along))
 
-  over-block : (t : Tree) → InRows (rowCount rows) t → codeOfTree (u .axes) rows corner side false t ≡ codeOf (plainMark rows (plain t) b) (plainMark rows (reversal t) b)
+  over-block : (t : Tree) → AllNamed (named surfaces) t →
+      codeOfTree (u .axes) surfaces lows side false t ≡ codeOf (plainMark surfaces (plain t) b) (plainMark surfaces (reversal t) b)
   unfolding codeOfTree codeOfLeaf
   over-block t h =
-      code-tree (codeOfLeaf (u .axes) rows corner side false) (λ turned i. leafMark rows turned i b) refl refl (rowCount rows) (λ i l. row-over i) t h
-      ∙ ap₂ codeOf (mark-over rows b (plain t)) (mark-over rows b (reversal t))
+      code-tree (codeOfLeaf (u .axes) surfaces lows side false) (λ turned x. surfaceMark surfaces turned x b) refl refl (named surfaces)
+      (λ x n. surface-over x) t h
+      ∙ ap₂ codeOf (mark-over surfaces b (plain t)) (mark-over surfaces b (reversal t))
 
--- ---- a voxel's block holds its own low corner, and is one unit long along each axis
-pub own-corner : (b : Block) → Within b (b .low)
-own-corner b = record { above = λ i l. le-refl _; below = λ i l. omega (arith, side-positive (b .universe) (b .level) i) }
+-- ---- a voxel's block holds its own low places, and is one unit long along each axis
+pub own-lows : (b : Block) → Within b (b .low)
+own-lows b = record { above = λ i l. le-refl _; below = λ i l. omega (arith, side-positive (b .universe) (b .level) i) }
 
-module _ {u : Universe} {rows : List ℤ} {first second : List ℕ} (r : Ready u rows first second) {corner side : List ℕ} (s : Standing u 0 corner side) where
+module _ {u : Universe} {surfaces : Surfaces} {first second : List ℕ} (r : Ready u surfaces first second) {lows side : List ℕ}
+    (s : Standing u 0 lows side) where
   abbrev v : Block
-  v = blockAt u 0 corner
+  v = blockLeft u 0 lows
 
   unit : (i : ℕ) → i < u .axes → blockSide u (levels u - 0) i ≡ 1
   unit i l = let z : levels u - 0 ≡ levels u = omega arith in rw z (side-last u i l)
 
-  row-at : (i : ℕ) → codeOfLeaf (u .axes) rows corner side true (halfspace i) ≡ codeOf (decided (leafColour rows u false i corner)) (decided (leafColour rows u true i corner))
-  unfolding codeOfLeaf leafColour
-  row-at i = let h = rowAt rows i in rw (centre-doubled h v side (s .along) unit) (code-of-colours h u corner)
+  surface-at : (x : Surface) →
+      codeOfSurface (u .axes) surfaces lows side true x
+      ≡ codeOf (decided (surfaceColour surfaces u false x lows)) (decided (surfaceColour surfaces u true x lows))
+  unfolding codeOfSurface surfaceColour
+  surface-at (halfspace i) = let h = rowAt (surfaces .rows) i in rw (centre-doubled h v side (s .along) unit) (code-of-colours h u lows)
 
-  over-voxel : (t : Tree) → InRows (rowCount rows) t → codeOfTree (u .axes) rows corner side true t ≡ codeOf (decided (plainColour rows u (plain t) corner)) (decided (plainColour rows u (reversal t) corner))
+  over-voxel : (t : Tree) → AllNamed (named surfaces) t → codeOfTree (u .axes) surfaces lows side true t
+      ≡ codeOf (decided (plainColour surfaces u (plain t) lows)) (decided (plainColour surfaces u (reversal t) lows))
   unfolding codeOfTree codeOfLeaf
   over-voxel t h =
-      code-tree (codeOfLeaf (u .axes) rows corner side true) (λ turned i. decided (leafColour rows u turned i corner)) refl refl (rowCount rows) (λ i l. row-at i) t h
-      ∙ ap₂ codeOf (mark-at rows u corner (plain t)) (mark-at rows u corner (reversal t))
+      code-tree (codeOfLeaf (u .axes) surfaces lows side true) (λ turned x. decided (surfaceColour surfaces u turned x lows)) refl refl (named surfaces)
+      (λ x n. surface-at x) t h
+      ∙ ap₂ codeOf (mark-at surfaces u lows (plain t)) (mark-at surfaces u lows (reversal t))
 
 -- ---- the code of a tree of the run says how it is judged
-judged-code : {u : Universe} {rows : List ℤ} {first second : List ℕ} → Ready u rows first second → (left : ℕ) {corner side : List ℕ} → Standing u left corner side → (t : Tree) → InRows (rowCount rows) t → codeOfTree (u .axes) rows corner side (eqb left 0) t % 4 ≡ bitsOf (judged rows t left (blockAt u left corner))
+judged-code : {u : Universe} {surfaces : Surfaces} {first second : List ℕ} → Ready u surfaces first second → (left : ℕ) {lows side : List ℕ} →
+    Standing u left lows side → (t : Tree) → AllNamed (named surfaces) t →
+    codeOfTree (u .axes) surfaces lows side (eqb left 0) t % reversalUnit ≡ bitsOf (judged surfaces t left (blockLeft u left lows))
 unfolding judged
-judged-code {u} {rows} r zero {corner} s t h =
-    rw (over-voxel r s t h) (own-bits (decided (plainColour rows u (plain t) corner)) (decided (plainColour rows u (reversal t) corner)))
-judged-code {u} {rows} r (suc n) {corner} s t h =
-    let b = blockAt u (suc n) corner in
-    rw (eqb·suc-zero n, over-block r s t h) (own-bits (plainMark rows (plain t) b) (plainMark rows (reversal t) b))
+judged-code {u} {surfaces} r zero {lows} s t h =
+    rw (over-voxel r s t h) (own-bits (decided (plainColour surfaces u (plain t) lows)) (decided (plainColour surfaces u (reversal t) lows)))
+judged-code {u} {surfaces} r (suc n) {lows} s t h =
+    let b = blockLeft u (suc n) lows in
+    rw (eqb·suc-zero n, over-block r s t h) (own-bits (plainMark surfaces (plain t) b) (plainMark surfaces (reversal t) b))
 
-module _ {u : Universe} {rows : List ℤ} {first second : List ℕ} (r : Ready u rows first second) (left : ℕ) {corner side : List ℕ} (s : Standing u left corner side) where
-  pub first-code : codeOfTree (u .axes) rows corner side (eqb left 0) (treeOf (rowCount rows) first) % 4 ≡ bitsOf (judged rows (treeOf (rowCount rows) first) left (blockAt u left corner))
-  first-code = judged-code r left s _ (tree-in-rows (rowCount rows) first (r .accepted-first))
-
-  pub second-code : codeOfTree (u .axes) rows corner side (eqb left 0) (treeOf (rowCount rows) second) % 4 ≡ bitsOf (judged rows (treeOf (rowCount rows) second) left (blockAt u left corner))
-  second-code = judged-code r left s _ (tree-in-rows (rowCount rows) second (r .accepted-second))
-
--- two trees intersected are judged as their marks are joined
-both-judged : (rows : List ℤ) (t w : Tree) (n : ℕ) (b : Block) → judged rows (both t w) n b ≡ intersectionMark (judged rows t n b) (judged rows w n b)
+-- two trees intersected are judged by both
+both-judged : (surfaces : Surfaces) (t w : Tree) (n : ℕ) (b : Block) →
+    judged surfaces (both t w) n b ≡ intersectionMark (judged surfaces t n b) (judged surfaces w n b)
 unfolding judged plain plainMark plainColour
-both-judged rows t w zero b = sym (intersection-colours _ _)
-both-judged rows t w (suc n) b = refl
+both-judged surfaces t w zero b = sym (intersection-colours _ _)
+both-judged surfaces t w (suc n) b = refl
 
 -- ---- joining two marks by their bits
-white-first : (m n : Mark) → bitsOf m ≡ 2 → bitsOf (intersectionMark m n) ≡ 2
+white-first : (m n : Mark) → bitsOf m ≡ whiteBit → bitsOf (intersectionMark m n) ≡ whiteBit
 unfolding intersectionMark
 white-first (decided White) n e = refl
 white-first (decided Black) n e = absurd (omega arith)
 white-first undecided n e = absurd (omega arith)
 
-white-second : (m n : Mark) → bitsOf n ≡ 2 → bitsOf (intersectionMark m n) ≡ 2
+white-second : (m n : Mark) → bitsOf n ≡ whiteBit → bitsOf (intersectionMark m n) ≡ whiteBit
 unfolding intersectionMark
 white-second (decided White) n e = refl
 white-second (decided Black) n e = e
@@ -156,13 +160,13 @@ white-second undecided (decided White) e = refl
 white-second undecided (decided Black) e = absurd (omega arith)
 white-second undecided undecided e = absurd (omega arith)
 
-black-first : (m n : Mark) → bitsOf m ≡ 1 → bitsOf (intersectionMark m n) ≡ bitsOf n
+black-first : (m n : Mark) → bitsOf m ≡ blackBit → bitsOf (intersectionMark m n) ≡ bitsOf n
 unfolding intersectionMark
 black-first (decided Black) n e = refl
 black-first (decided White) n e = absurd (omega arith)
 black-first undecided n e = absurd (omega arith)
 
-open-first : (m n : Mark) → (bitsOf m ≡ 2 → ⊥) → (bitsOf m ≡ 1 → ⊥) → (bitsOf n ≡ 2 → ⊥) → bitsOf (intersectionMark m n) ≡ 0
+open-first : (m n : Mark) → (bitsOf m ≡ whiteBit → ⊥) → (bitsOf m ≡ blackBit → ⊥) → (bitsOf n ≡ whiteBit → ⊥) → bitsOf (intersectionMark m n) ≡ 0
 unfolding intersectionMark
 open-first (decided White) n p q w = absurd (p refl)
 open-first (decided Black) n p q w = absurd (q refl)
@@ -171,60 +175,66 @@ open-first undecided (decided Black) p q w = refl
 open-first undecided undecided p q w = refl
 
 -- the two trees' codes x and y give how their intersection is judged
-module _ {u : Universe} {rows : List ℤ} {first second : List ℕ} (r : Ready u rows first second) (left : ℕ) {corner side : List ℕ} (s : Standing u left corner side) (x : ℕ) (p : x ≡ codeOfTree (u .axes) rows corner side (eqb left 0) (treeOf (rowCount rows) first)) where
+module _ {u : Universe} {surfaces : Surfaces} {first second : List ℕ} (r : Ready u surfaces first second) (left : ℕ) {lows side : List ℕ}
+    (s : Standing u left lows side) {axes : ℕ} (d : axes ≡ u .axes) where
+  abbrev codeBy : List ℕ → ℕ
+  codeBy words = codeOfTree axes surfaces lows side (eqb left 0) (treeOf (named surfaces) words)
+
+  abbrev judgedBy : List ℕ → Mark
+  judgedBy words = judged surfaces (treeOf (named surfaces) words) left (blockLeft u left lows)
+
   abbrev whole : Mark
-  whole = judged rows (treesOf rows first second) left (blockAt u left corner)
+  whole = judged surfaces (treesOf surfaces first second) left (blockLeft u left lows)
 
-  abbrev one : Mark
-  one = judged rows (treeOf (rowCount rows) first) left (blockAt u left corner)
+  whole-is : whole ≡ intersectionMark (judgedBy first) (judgedBy second)
+  whole-is = both-judged surfaces (treeOf (named surfaces) first) (treeOf (named surfaces) second) left (blockLeft u left lows)
 
-  abbrev other : Mark
-  other = judged rows (treeOf (rowCount rows) second) left (blockAt u left corner)
+  bits-by : (words : List ℕ) → treeRefusal (named surfaces) words ≡ 0 → {z : ℕ} → z ≡ codeBy words → z % reversalUnit ≡ bitsOf (judgedBy words)
+  bits-by words a e = ap (λ (z : ℕ). z % reversalUnit) e ∙ rw d (judged-code r left s _ (tree-named (named surfaces) words a))
 
-  bits-one : x % 4 ≡ bitsOf one
-  bits-one = ap (λ (z : ℕ). z % 4) p ∙ first-code r left s
+  module _ (x : ℕ) (p : x ≡ codeBy first) where
+    bits-one : x % reversalUnit ≡ bitsOf (judgedBy first)
+    bits-one = bits-by first (r .accepted-first) p
 
-  whole-is : whole ≡ intersectionMark one other
-  whole-is = both-judged rows (treeOf (rowCount rows) first) (treeOf (rowCount rows) second) left (blockAt u left corner)
+    pub first-white : x % reversalUnit ≡ whiteBit → whiteBit ≡ bitsOf whole
+    first-white e = rw whole-is (sym (white-first _ _ (sym bits-one ∙ e)))
 
-  pub first-white : x % 4 ≡ 2 → 2 ≡ bitsOf whole
-  first-white e = rw whole-is (sym (white-first one other (sym bits-one ∙ e)))
+    module _ (y : ℕ) (q : y ≡ codeBy second) where
+      bits-other : y % reversalUnit ≡ bitsOf (judgedBy second)
+      bits-other = bits-by second (r .accepted-second) q
 
-  module _ (y : ℕ) (q : y ≡ codeOfTree (u .axes) rows corner side (eqb left 0) (treeOf (rowCount rows) second)) where
-    bits-other : y % 4 ≡ bitsOf other
-    bits-other = ap (λ (z : ℕ). z % 4) q ∙ second-code r left s
+      pub second-white : y % reversalUnit ≡ whiteBit → whiteBit ≡ bitsOf whole
+      second-white e = rw whole-is (sym (white-second _ _ (sym bits-other ∙ e)))
 
-    pub second-white : y % 4 ≡ 2 → 2 ≡ bitsOf whole
-    second-white e = rw whole-is (sym (white-second one other (sym bits-other ∙ e)))
+      pub first-black : x % reversalUnit ≡ blackBit → y % reversalUnit ≡ bitsOf whole
+      first-black e = rw whole-is (bits-other ∙ sym (black-first _ _ (sym bits-one ∙ e)))
 
-    pub first-black : x % 4 ≡ 1 → y % 4 ≡ bitsOf whole
-    first-black e = rw whole-is (bits-other ∙ sym (black-first one other (sym bits-one ∙ e)))
-
-    pub first-open : (x % 4 ≡ 2 → ⊥) → (y % 4 ≡ 2 → ⊥) → (x % 4 ≡ 1 → ⊥) → 0 ≡ bitsOf whole
-    first-open f g h = rw whole-is (sym (open-first one other (λ e. f (bits-one ∙ e)) (λ e. h (bits-one ∙ e)) (λ e. g (bits-other ∙ e))))
+      pub first-open : (x % reversalUnit ≡ whiteBit → ⊥) → (y % reversalUnit ≡ whiteBit → ⊥) → (x % reversalUnit ≡ blackBit → ⊥) → 0 ≡ bitsOf whole
+      first-open f g h = rw whole-is (sym (open-first _ _ (λ e. f (bits-one ∙ e)) (λ e. h (bits-one ∙ e)) (λ e. g (bits-other ∙ e))))
 
 -- ---- what is written for a block, by how it is judged
-module _ (rows : List ℤ) (t : Tree) where
-  pub written-decided : (n : ℕ) (b : Block) (c : Colour) → judged rows t n b ≡ decided c → examine rows t n b ≡ leaf c
+module _ (surfaces : Surfaces) (t : Tree) where
+  pub written-decided : (n : ℕ) (b : Block) (c : Colour) → judged surfaces t n b ≡ decided c → examine surfaces t n b ≡ leaf c
   unfolding judged
-  written-decided (suc n) b c e = examine-decided rows t (suc n) b c e
-  written-decided zero b c e = by (treeMark rows t b) refl
+  written-decided (suc n) b c e = examine-decided surfaces t (suc n) b c e
+  written-decided zero b c e = by (treeMark surfaces t b) refl
     where
-      by : (m : Mark) → treeMark rows t b ≡ m → examine rows t 0 b ≡ leaf c
+      by : (m : Mark) → treeMark surfaces t b ≡ m → examine surfaces t 0 b ≡ leaf c
       by (decided d) f =
-          let g : decided (treeColour rows (b .universe) t (b .low)) ≡ decided c = e in
-          let k : treeColour rows (b .universe) t (b .low) ≡ d = tree-sound rows (plain t) b d (b .low) f (own-corner b) in
+          let g : decided (treeColour surfaces (b .universe) t (b .low)) ≡ decided c = e in
+          let k : treeColour surfaces (b .universe) t (b .low) ≡ d = tree-sound surfaces (plain t) b d (b .low) f (own-lows b) in
           let z : d ≡ c = cc in
-          rw (← z) (examine-decided rows t 0 b d f)
+          rw (← z) (examine-decided surfaces t 0 b d f)
       by undecided f =
-          let g : decided (treeColour rows (b .universe) t (b .low)) ≡ decided c = e in
-          let z : treeColour rows (b .universe) t (b .low) ≡ c = cc in
-          rw (← z) (examine-voxel rows t b f)
+          let g : decided (treeColour surfaces (b .universe) t (b .low)) ≡ decided c = e in
+          let z : treeColour surfaces (b .universe) t (b .low) ≡ c = cc in
+          rw (← z) (examine-voxel surfaces t b f)
 
-  pub never-last : (b : Block) → judged rows t 0 b ≡ undecided → ⊥
+  pub never-last : (b : Block) → judged surfaces t 0 b ≡ undecided → ⊥
   unfolding judged
   never-last b e = let z : _≡_ {A = ℕ} 0 1 = cc in omega arith
 
-  pub written-halved : (n : ℕ) (b : Block) → judged rows t (suc n) b ≡ undecided → examine rows t (suc n) b ≡ halved (examine rows t n (low b)) (examine rows t n (high b))
+  pub written-halved : (n : ℕ) (b : Block) → judged surfaces t (suc n) b ≡ undecided →
+      examine surfaces t (suc n) b ≡ halved (examine surfaces t n (low b)) (examine surfaces t n (high b))
   unfolding judged
-  written-halved n b e = examine-undecided rows t n b e
+  written-halved n b e = examine-undecided surfaces t n b e

@@ -6,6 +6,5 @@ pub mod Judging
 pub mod Shapes
 pub mod Pieces
 pub mod Answers
-pub mod MergedAnswers
 pub mod OneTree
 pub mod Clearances

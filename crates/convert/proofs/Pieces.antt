@@ -1,90 +1,148 @@
--- Laying the merged shape of a block: two halves that merge to one leaf are held back together, else `(` and what was held back of them is written.
-use Prim.Native.Nat.{ℕ, suc, _+_, _-_, _^_, _<_}
+-- Laying the shape of a block, merged or as it is: a leaf is held back; halves that are leaves of one colour are held back as one where shapes are merged, else
+-- `(` and what was held back of the halves is written.
+use Prim.Native.Nat.{ℕ, suc, _+_, _-_, _^_, _≤_, _<_}
 use mathlib.Core.Path.{_≡_, refl, sym, ap, _∙_}
 use mathlib.Core.Bool.{Bool, true, false, cond}
 use mathlib.Core.List.{List}
 use native.Mathlib.Omega.{arith}
-use lib.IntN.{ℤ}
+use borrow.Author.Needs.{needs}
+use lib.ListN.{getD, set}
+use Rattle.lemmas.proofs.Stores.{restored}
 use Rattle.universe.specs.declared.Universe.{Universe}
 use Rattle.bintree.specs.Shape.{Shape, leaf, halved, size}
-use Rattle.bintree.specs.Merging.{merged}
-use Rattle.bintree.specs.Walks.{heldOf, isAlike, opened, laid}
-use Rattle.bintree.proofs.Merging.{merged-size}
-use Rattle.bintree.proofs.Lays.{merged-same, merged-apart, leaf-laid, apart-laid}
-use Rattle.convert.specs.declared.merged.Piece.{Piece}
-use Rattle.convert.specs.Blocks.{highCorner}
-use Rattle.convert.specs.Shapes.{shapeOf, symbolOfBits, pieceOf, joinedPiece, joinedRoom}
-use Rattle.convert.proofs.Shapes.{Closed, Opened, halves-shape, halves-size}
+use Rattle.bintree.specs.Walks.{heldOf, isAlike, joinedHalves, laid}
+use Rattle.bintree.proofs.Lays.{leaf-laid, apart-laid}
+use Rattle.csg.specs.Surfaces.{Surfaces}
+use Rattle.convert.specs.declared.lay.Piece.{Piece}
+use Rattle.convert.specs.Codes.{bitsOf}
+use Rattle.convert.specs.Blocks.{Ready, treesOf, blockLeft, axisLeft, halfSide, halvedSides, highLows, judged}
+use Rattle.convert.specs.Shapes.{shapeOf, shaped, laidShape, symbolOfBits, pieceOf, isOne, joinedPiece, joinedRoom}
+use Rattle.convert.specs.Shapes.{Laying, Halving}
+use Rattle.convert.proofs.Shapes.{shaped-leaf, shaped-size, shaped-one, shaped-apart, closed}
 
 piece-eq : {a b e f : ℕ} → a ≡ b → e ≡ f → _≡_ {A = Piece} (record { held = a; end = e }) (record { held = b; end = f })
 piece-eq p q = λ i. record { held = p i; end = q i }
 
--- two pieces joined, by the test of what was held back of them
-module _ (out : List ℕ) (at : ℕ) (low high : Piece) {f : Bool} (e : f ≡ isAlike (low .held) (high .held)) where
-  pub joined-alike : f ≡ true → (_≡_ {A = Piece} (record { held = low .held; end = at + 1 }) (joinedPiece at low high)) × (out ≡ joinedRoom out at low high)
-  joined-alike t = rw (sym e ∙ t) (refl, refl)
+-- ---- two pieces joined, by the test of what was held back of them
+pub one-merging : (m : Bool) (x y : ℕ) {f : Bool} → m ≡ true → f ≡ isAlike x y → f ≡ isOne m x y
+unfolding isOne
+one-merging m x y t e = e ∙ rw t
 
-  pub joined-apart : {now : List ℕ} → f ≡ false → now ≡ opened out at (low .held) (low .end) (high .held) → (_≡_ {A = Piece} (record { held = 0; end = high .end }) (joinedPiece at low high)) × (now ≡ joinedRoom out at low high)
+pub one-raw : (m : Bool) (x y : ℕ) → m ≡ false → false ≡ isOne m x y
+unfolding isOne
+one-raw m x y t = rw t
+
+module _ (m : Bool) (out : List ℕ) (at : ℕ) (below above : Piece) {f : Bool} (e : f ≡ isOne m (below .held) (above .held)) where
+  pub joined-one : f ≡ true →
+      (_≡_ {A = Piece} (record { held = below .held; end = at + 1 }) (joinedPiece m at below above)) × (out ≡ joinedRoom m out at below above)
+  unfolding joinedPiece joinedRoom
+  joined-one t = rw (sym e ∙ t) (refl, refl)
+
+  pub joined-apart : {now : List ℕ} → f ≡ false → now ≡ joinedHalves out at (below .held) (below .end) (above .held) →
+      (_≡_ {A = Piece} (record { held = 0; end = above .end }) (joinedPiece m at below above)) × (now ≡ joinedRoom m out at below above)
+  unfolding joinedPiece joinedRoom
   joined-apart t g = rw (sym e ∙ t) (refl, g)
 
--- a block that is judged BLACK or WHITE is held back
-pub piece-closed : {u : Universe} {rows : List ℤ} {first second : List ℕ} {left : ℕ} {low : List ℕ} {x y : ℕ} → Closed u rows first second left low x → y ≡ symbolOfBits x → (out : List ℕ) (at : ℕ) →
-    (_≡_ {A = Piece} (record { held = y; end = at + 1 }) (pieceOf at (merged (shapeOf u rows first second left low)))) × (out ≡ laid out at (merged (shapeOf u rows first second left low)))
-unfolding merged heldOf size laid
-piece-closed d e out at = rw (d .shape) (piece-eq (e ∙ d .symbol) refl, refl)
+pub ruleset one-laws = (needs, one-merging, one-raw)
 
-module _ {u : Universe} {rows : List ℤ} {first second : List ℕ} {left : ℕ} {corner side high-corner : List ℕ} {axis : ℕ} (o : Opened u rows first second left corner side axis) (h : high-corner ≡ highCorner corner side axis) where
+-- ---- a block that is judged BLACK or WHITE is held back
+pub piece-closed : {u : Universe} {surfaces : Surfaces} {first second : List ℕ} → Ready u surfaces first second →
+    (m : Bool) (left : ℕ) (low : List ℕ) {x y : ℕ} →
+    x ≡ bitsOf (judged surfaces (treesOf surfaces first second) left (blockLeft u left low)) → (x ≡ 0 → ⊥) → y ≡ symbolOfBits x → (out : List ℕ) (at : ℕ) →
+    (_≡_ {A = Piece} (record { held = y; end = at + 1 }) (pieceOf at (laidShape m u surfaces first second left low)))
+    × (out ≡ laid out at (laidShape m u surfaces first second left low))
+unfolding heldOf size laid
+piece-closed r m left low {x} e n y out at =
+    let w = closed r left low x e n in
+    rw (w .1, shaped-leaf m (w .0)) (piece-eq (y ∙ w .2) refl, refl)
+
+-- ---- both halves of a block: what was changed of the low places and of the sides is put back
+module _ {u : Universe} {surfaces : Surfaces} {first second axes : List ℕ} {left : ℕ} {low side : List ℕ} {axis at : ℕ}
+    (o : Halving u surfaces first second axes left low side axis at) (m : Bool) where
   abbrev low-part : Shape
-  low-part = shapeOf u rows first second (left - 1) corner
+  low-part = shapeOf u surfaces first second (left - 1) low
 
   abbrev high-part : Shape
-  high-part = shapeOf u rows first second (left - 1) high-corner
+  high-part = shapeOf u surfaces first second (left - 1) (highLows low side axis)
 
   abbrev whole : Shape
-  whole = shapeOf u rows first second left corner
+  whole = shaped m (shapeOf u surfaces first second left low)
 
-  whole-merged : merged whole ≡ merged (halved low-part high-part)
-  whole-merged = ap merged (halves-shape o h)
+  whole-is : whole ≡ shaped m (halved low-part high-part)
+  whole-is = ap (shaped m) (o .shape)
 
-  -- the places go on: the second half begins no later than the first would end unmerged
-  pub piece-fits : (at : ℕ) (low : Piece) → low ≡ pieceOf (at + 1) (merged low-part) → at + size whole < 2 ^ 64 → low .end + size high-part < 2 ^ 64
-  piece-fits at low p f = omega (arith, halves-size o h, ap (λ (x : Piece). x .end) p, merged-size low-part)
+  -- the low half is laid: its piece, and the low places and the sides after it
+  module _ {below : Piece} {low₁ side₁ : List ℕ} (p : below ≡ pieceOf (at + 1) (shaped m low-part))
+      (k : (low₁ ≡ low) × (side₁ ≡ halvedSides side axis)) where
+    -- the low places that the high half is laid with
+    abbrev high-low : List ℕ
+    high-low = set low₁ axis (getD low axis 0 + halfSide side axis)
 
-  module _ (out one two : List ℕ) (at : ℕ) (low high : Piece) (p : low ≡ pieceOf (at + 1) (merged low-part)) (q : one ≡ laid out (at + 1) (merged low-part)) (r : high ≡ pieceOf (low .end) (merged high-part)) (s : two ≡ laid one (low .end) (merged high-part)) where
-    low-held : low .held ≡ heldOf (merged low-part)
-    low-held = ap (λ (x : Piece). x .held) p
+    high-lows : high-low ≡ highLows low side axis
+    high-lows = rw (k .0)
 
-    low-end : low .end ≡ at + 1 + size (merged low-part)
-    low-end = ap (λ (x : Piece). x .end) p
+    -- the places go on: the second half begins no later than the first would end unmerged
+    pub upper-asks : {next : ℕ} → next ≡ axisLeft axes (left - 1) → Laying u surfaces first second axes (left - 1) high-low side₁ next (below .end)
+    upper-asks e = rw (high-lows, k .1, e) (o .upper (below .end) (omega (arith, ap (λ (x : Piece). x .end) p, shaped-size m low-part)))
 
-    high-held : high .held ≡ heldOf (merged high-part)
-    high-held = ap (λ (x : Piece). x .held) r
+    pub put-back : {low₂ side₂ : List ℕ} → (low₂ ≡ high-low) × (side₂ ≡ side₁) →
+        (set low₂ axis (getD low axis 0) ≡ low) × (set side₂ axis (getD side axis 0) ≡ side)
+    put-back e = (
+      rw (e .0, high-lows) (restored low axis (getD low axis 0 + halfSide side axis)),
+      rw (e .1, k .1) (restored side axis (halfSide side axis)),
+    )
 
-    high-end : high .end ≡ low .end + size (merged high-part)
-    high-end = ap (λ (x : Piece). x .end) r
+    -- the high half is laid too: joined, the two are the whole
+    module _ (out one two : List ℕ) {above : Piece} (q : one ≡ laid out (at + 1) (shaped m low-part))
+        (r : above ≡ pieceOf (below .end) (laidShape m u surfaces first second (left - 1) high-low))
+        (s : two ≡ laid one (below .end) (laidShape m u surfaces first second (left - 1) high-low)) where
+      low-held : below .held ≡ heldOf (shaped m low-part)
+      low-held = ap (λ (x : Piece). x .held) p
 
-    alike-is : {f : Bool} → f ≡ isAlike (low .held) (high .held) → f ≡ isAlike (heldOf (merged low-part)) (heldOf (merged high-part))
-    alike-is e = rw (low-held, high-held) at e
+      low-end : below .end ≡ at + 1 + size (shaped m low-part)
+      low-end = ap (λ (x : Piece). x .end) p
 
-    piece-alike : {f : Bool} → f ≡ isAlike (low .held) (high .held) → f ≡ true → (_≡_ {A = Piece} (record { held = low .held; end = at + 1 }) (pieceOf at (merged whole))) × (two ≡ laid out at (merged whole))
-    unfolding heldOf size
-    piece-alike e f =
-        let w = merged-same low-part high-part (sym (alike-is e) ∙ f) in
-        let m : merged whole ≡ leaf (w .0) = whole-merged ∙ w .3 in (
-          piece-eq (low-held ∙ ap heldOf (w .1) ∙ sym (ap heldOf m)) (sym (ap (λ (x : Shape). at + size x) m)),
-          s ∙ leaf-laid one (low .end) (w .0) (w .2) ∙ q ∙ leaf-laid out (at + 1) (w .0) (w .1) ∙ sym (leaf-laid out at (w .0) m),
-        )
+      above-is : above ≡ pieceOf (below .end) (shaped m high-part)
+      above-is = rw high-lows at r
 
-    piece-apart : {f : Bool} {three : List ℕ} → f ≡ isAlike (low .held) (high .held) → f ≡ false → three ≡ opened two at (low .held) (low .end) (high .held) → (_≡_ {A = Piece} (record { held = 0; end = high .end }) (pieceOf at (merged whole))) × (three ≡ laid out at (merged whole))
-    unfolding heldOf size
-    piece-apart {f} {three} e g k =
-        let m : merged whole ≡ halved (merged low-part) (merged high-part) = whole-merged ∙ merged-apart low-part high-part (sym (alike-is e) ∙ g) in
-        let n : high .end ≡ at + suc (size (merged low-part) + size (merged high-part)) = omega (arith, low-end, high-end) in
-        rw m (piece-eq refl n, apart-laid out one two three at (low .end) (low .held) (high .held) (merged low-part) (merged high-part) q s low-end low-held high-held k)
+      two-is : two ≡ laid one (below .end) (shaped m high-part)
+      two-is = rw high-lows at s
 
-    pub piece-joined : {piece : Piece} {three : List ℕ} → piece ≡ joinedPiece at low high → three ≡ joinedRoom two at low high → (piece ≡ pieceOf at (merged whole)) × (three ≡ laid out at (merged whole))
-    piece-joined {piece} {three} e k = by (isAlike (low .held) (high .held)) refl e k
-      where
-        by : (f : Bool) → f ≡ isAlike (low .held) (high .held) → piece ≡ cond f (record { held = low .held; end = at + 1 }) (record { held = 0; end = high .end }) → three ≡ cond f two (opened two at (low .held) (low .end) (high .held)) → (piece ≡ pieceOf at (merged whole)) × (three ≡ laid out at (merged whole))
-        by true f g j = let w = piece-alike f refl in (g ∙ w .0, j ∙ w .1)
-        by false f g j = let w = piece-apart f refl j in (g ∙ w .0, w .1)
+      high-held : above .held ≡ heldOf (shaped m high-part)
+      high-held = ap (λ (x : Piece). x .held) above-is
+
+      high-end : above .end ≡ below .end + size (shaped m high-part)
+      high-end = ap (λ (x : Piece). x .end) above-is
+
+      one-is : {f : Bool} → f ≡ isOne m (below .held) (above .held) → f ≡ isOne m (heldOf (shaped m low-part)) (heldOf (shaped m high-part))
+      one-is e = rw (low-held, high-held) at e
+
+      alike : true ≡ isOne m (below .held) (above .held) →
+          (_≡_ {A = Piece} (record { held = below .held; end = at + 1 }) (pieceOf at whole)) × (two ≡ laid out at whole)
+      unfolding isOne heldOf size
+      alike e =
+          let w = shaped-one m low-part high-part (sym (one-is e)) in
+          let n : whole ≡ leaf (w .0) = whole-is ∙ w .3 in (
+            piece-eq (low-held ∙ ap heldOf (w .1) ∙ sym (ap heldOf n)) (sym (ap (λ (x : Shape). at + size x) n)),
+            two-is ∙ leaf-laid one (below .end) (w .0) (w .2) ∙ q ∙ leaf-laid out (at + 1) (w .0) (w .1) ∙ sym (leaf-laid out at (w .0) n),
+          )
+
+      apart : {three : List ℕ} → false ≡ isOne m (below .held) (above .held) → three ≡ joinedHalves two at (below .held) (below .end) (above .held) →
+          (_≡_ {A = Piece} (record { held = 0; end = above .end }) (pieceOf at whole)) × (three ≡ laid out at whole)
+      unfolding isOne heldOf size
+      apart {three} e j =
+          let n : whole ≡ halved (shaped m low-part) (shaped m high-part) = whole-is ∙ shaped-apart m low-part high-part (sym (one-is e)) in
+          let f : above .end ≡ at + suc (size (shaped m low-part) + size (shaped m high-part)) = omega (arith, low-end, high-end) in
+          let l = apart-laid out one two three at (below .end) (below .held) (above .held) (shaped m low-part) (shaped m high-part) in
+          rw n (piece-eq refl f, l q two-is low-end low-held high-held j)
+
+      pub piece-joined : {piece : Piece} {three : List ℕ} → (piece ≡ joinedPiece m at below above) × (three ≡ joinedRoom m two at below above) →
+          (piece ≡ pieceOf at whole) × (three ≡ laid out at whole)
+      unfolding joinedPiece joinedRoom
+      piece-joined {piece} {three} e = by (isOne m (below .held) (above .held)) refl (e .0) (e .1)
+        where
+          by : (f : Bool) → f ≡ isOne m (below .held) (above .held) →
+              piece ≡ cond f (record { held = below .held; end = at + 1 }) (record { held = 0; end = above .end }) →
+              three ≡ cond f two (joinedHalves two at (below .held) (below .end) (above .held)) → (piece ≡ pieceOf at whole) × (three ≡ laid out at whole)
+          by true f g j = let w = alike f in (g ∙ w .0, j ∙ w .1)
+          by false f g j = let w = apart f j in (g ∙ w .0, w .1)

@@ -1,6 +1,6 @@
--- Spreads of a row over a block. Each product is at most 3 · 2^34 in size, so that no sum of 2·a0 and four of them overflows. By the two parts of
--- its coefficients a spread is the least and the greatest value over the block together, and the greatest less the least; so its two tests are theirs
--- against 0, and over a voxel's block it is twice the value at the centre.
+-- Spreads of a row over a block. Each product is at most a coefficient's worth of three longest sides, so that no sum of 2·a0 and four of them overflows.
+-- By the two parts of its coefficients a spread is the least and the greatest value over the block together, and the greatest less the least; so its two
+-- tests are theirs against 0, and over a voxel's block it is twice the value at the centre.
 use Prim.Native.Nat.{ℕ, zero, suc, _+_, _*_, _≤_, _<_}
 use mathlib.Core.Path.{_≡_, refl, sym, ap, _∙_}
 use mathlib.Core.Bool.{Bool, true, false, cond}
@@ -15,16 +15,17 @@ use mir.Val.{SFits, toZ, ofZ}
 use mir.ValLaws.{toZ-ofZ}
 use Rattle.lemmas.specs.Sums.{sum}
 use Rattle.lemmas.proofs.Sums.{sum-cong}
-use Rattle.lemmas.proofs.Machine.{Near, near, near-lit, near-nat, near-cast, near-add, near-sub, near-mul, near-call, near-back, near-fits, near-as, natAbs-parts, size-add}
+use Rattle.lemmas.proofs.Machine.{Near, near, near-lit, near-nat, near-cast, near-add, near-sub, near-mul, near-call, near-back, near-fits, near-as}
+use Rattle.lemmas.proofs.Machine.{natAbs-parts, size-add}
 use Rattle.lemmas.proofs.Totals.{weighted-add}
 use Rattle.lemmas.proofs.Whole.{up, dn, Is, is-nat, is-self, is-add, is-mul, is-eq, negative-size, positive-size, doubled-test, ι, ν, _⊕_, _⊗_, eq-by}
 use Rattle.universe.specs.declared.Block.{Block}
-use Rattle.universe.specs.Universe.{offsetLimit, coefficientLimit, mostAxes}
+use Rattle.universe.specs.Universe.{offsetLimit, coefficientLimit, mostAxes, longestSide}
 use Rattle.universe.specs.Block.{lowAlong, lengthAlong}
 use Rattle.csg.specs.Halfspace.{Halfspace, rowAt, rowCount, least, greatest, centreValue}
 use Rattle.csg.proofs.Halfspace.{axesOf, endAlong, added, taken, rise, fall, least-is, greatest-is, voxel-sum}
 use Rattle.convert.specs.declared.spread.Spread.{Spread}
-use Rattle.convert.specs.Codes.{spreadWith, spreadOf, spreadCode, leafCode}
+use Rattle.convert.specs.Codes.{spreadWith, spreadOf, testedCode, spreadCode, leafCode}
 use Rattle.convert.specs.Small.{SmallCoefficient, SmallPlace, SmallSpread, SmallDoubled, SpreadReady, JudgeReady, spreadLimit}
 
 -- ---- a small spread, and its two tests, as the machine computes them
@@ -45,7 +46,7 @@ module _ {d r : ℤ} (spread : SmallSpread d r) where
   pub total-fits : SFits w64 (held d +ℤ held r)
   total-fits = near-fits {x = d +ℤ r} total-near tt
 
-  pub code-tested : {p q : Bool} → leZ (held r) (held d) ≡ p → leZ (held (held d +ℤ held r)) (pos 0) ≡ q → cond p (cond q 5 9) (cond q 6 0) ≡ spreadCode d r
+  pub code-tested : {p q : Bool} → leZ (held r) (held d) ≡ p → leZ (held (held d +ℤ held r)) (pos 0) ≡ q → testedCode p q ≡ spreadCode d r
   code-tested {p} {q} s t =
       let a : leZ r d ≡ p = rw (doubled-held .same, reach-held .same) at s in
       let b : leZ (d +ℤ r) (pos 0) ≡ q = rw (near-back {x = d +ℤ r} total-near tt .same) at t in
@@ -69,16 +70,18 @@ module _ {a : ℤ} (small : SmallCoefficient a) where
 
   -- ---- what one axis adds, and a small spread with it
   module _ {low side : ℕ} (places : SmallPlace low × SmallPlace side) where
-    centre-near : Near (held a *ℤ toZ w64 (2 * low + side)) (a *ℤ pos (2 * low + side)) (coefficientLimit * 3072)
+    centre-near : Near (held a *ℤ toZ w64 (2 * low + side)) (a *ℤ pos (2 * low + side)) (coefficientLimit * (3 * longestSide))
     centre-near =
-        near-mul {x = a} {y = pos (2 * low + side)} coefficient-near (near-cast (2 * low + side) 3072 (omega (arith, places .0 .most, places .1 .most)) tt)
+        let few : 2 * low + side ≤ 3 * longestSide = omega (arith, places .0 .most, places .1 .most) in
+        near-mul {x = a} {y = pos (2 * low + side)} coefficient-near (near-cast (2 * low + side) (3 * longestSide) few tt)
 
     -- t is what a call handed over of the coefficient's size
-    side-near : {t : ℤ} → t ≡ pos (natAbs (held a)) → Near (held t *ℤ toZ w64 side) (pos (natAbs a * side)) (coefficientLimit * 1024)
+    side-near : {t : ℤ} → t ≡ pos (natAbs (held a)) → Near (held t *ℤ toZ w64 side) (pos (natAbs a * side)) (coefficientLimit * longestSide)
     side-near {t} e =
+        let f = e ∙ ap (λ (z : ℤ). pos (natAbs z)) (coefficient-near .same) in
         near-mul {x = pos (natAbs a)} {y = pos side}
-        (near-call {x = pos (natAbs a)} (e ∙ ap (λ (z : ℤ). pos (natAbs z)) (coefficient-near .same)) (near-nat (natAbs a) coefficientLimit (small .most)) tt)
-        (near-cast side 1024 (places .1 .most) tt)
+        (near-call {x = pos (natAbs a)} f (near-nat (natAbs a) coefficientLimit (small .most)) tt)
+        (near-cast side longestSide (places .1 .most) tt)
 
     pub centre-fits : SFits w64 (held a *ℤ toZ w64 (2 * low + side))
     centre-fits = near-fits {x = a *ℤ pos (2 * low + side)} centre-near tt
@@ -87,15 +90,20 @@ module _ {a : ℤ} (small : SmallCoefficient a) where
     side-fits e = near-fits {x = pos (natAbs a * side)} (side-near e) tt
 
     module _ {d r : ℤ} (spread : SmallSpread d r) where
-      pub doubled-near : Near (held d +ℤ held (held a *ℤ toZ w64 (2 * low + side))) (d +ℤ a *ℤ pos (2 * low + side)) (spreadLimit + coefficientLimit * 3072)
+      pub doubled-near :
+          Near (held d +ℤ held (held a *ℤ toZ w64 (2 * low + side))) (d +ℤ a *ℤ pos (2 * low + side)) (spreadLimit + coefficientLimit * (3 * longestSide))
       doubled-near =
           near-add {x = d} {y = a *ℤ pos (2 * low + side)} (doubled-held spread) (near-back {x = a *ℤ pos (2 * low + side)} centre-near tt)
 
-      pub reach-near : {t : ℤ} → t ≡ pos (natAbs (held a)) → Near (held r +ℤ held (held t *ℤ toZ w64 side)) (r +ℤ pos (natAbs a * side)) (spreadLimit + coefficientLimit * 1024)
+      pub reach-near : {t : ℤ} → t ≡ pos (natAbs (held a)) →
+          Near (held r +ℤ held (held t *ℤ toZ w64 side)) (r +ℤ pos (natAbs a * side)) (spreadLimit + coefficientLimit * longestSide)
       reach-near e =
           near-add {x = r} {y = pos (natAbs a * side)} (reach-held spread) (near-back {x = pos (natAbs a * side)} (side-near e) tt)
 
-      pub adds : {t : ℤ} → t ≡ pos (natAbs (held a)) → _≡_ {A = Spread} (record { doubled = held (held d +ℤ held (held a *ℤ toZ w64 (2 * low + side))); reach = held (held r +ℤ held (held t *ℤ toZ w64 side)) }) (spreadWith (record { doubled = d; reach = r }) a low side)
+      pub adds : {t : ℤ} → t ≡ pos (natAbs (held a)) →
+          _≡_ {A = Spread}
+          (record { doubled = held (held d +ℤ held (held a *ℤ toZ w64 (2 * low + side))); reach = held (held r +ℤ held (held t *ℤ toZ w64 side)) })
+          (spreadWith (record { doubled = d; reach = r }) a low side)
       adds e =
           let p = near-back {x = d +ℤ a *ℤ pos (2 * low + side)} doubled-near tt .same in
           let q = near-back {x = r +ℤ pos (natAbs a * side)} (reach-near e) tt .same in
@@ -116,7 +124,8 @@ module _ {axes : ℕ} {rows : List ℤ} {i : ℕ} {low side : List ℕ} (ready :
   places n = (ready .lows .place n, ready .sides .place n)
 
   -- each axis adds at most three coefficients' worth to one, and one to the other
-  bounds : (n : ℕ) → n ≤ mostAxes → (natAbs (at n .doubled) ≤ 2 * offsetLimit + n * (coefficientLimit * 3072)) × (natAbs (at n .reach) ≤ n * (coefficientLimit * 1024))
+  bounds : (n : ℕ) → n ≤ mostAxes →
+      (natAbs (at n .doubled) ≤ 2 * offsetLimit + n * (coefficientLimit * (3 * longestSide))) × (natAbs (at n .reach) ≤ n * (coefficientLimit * longestSide))
   unfolding spreadOf
   bounds zero l = (omega (arith, size-add (h .offset) (h .offset), ready .small .offset), omega arith)
   bounds (suc n) l =
@@ -146,7 +155,8 @@ module _ {axes : ℕ} {rows : List ℤ} {i : ℕ} {low side : List ℕ} (ready :
       λ j. record { doubled = p j; reach = pos 0 }
 
   -- what adding axis n asks
-  pub asks : {s : Spread} (n : ℕ) → n < mostAxes → s ≡ at n → SmallSpread (s .doubled) (s .reach) × (SmallCoefficient (held (h .coefficient n)) × (SmallPlace (getD low n 0) × SmallPlace (getD side n 0)))
+  pub asks : {s : Spread} (n : ℕ) → n < mostAxes → s ≡ at n →
+      SmallSpread (s .doubled) (s .reach) × (SmallCoefficient (held (h .coefficient n)) × (SmallPlace (getD low n 0) × SmallPlace (getD side n 0)))
   asks n l e = rw (e, coefficient-near (coefficient n l) .same) (spread-small n (omega arith), (coefficient n l, places n))
 
   -- a spread with axis n, of the coefficient that the machine holds
@@ -178,7 +188,8 @@ row-ready {i = i} ready l =
     record { some = ready .some; few = ready .few; named = l; small = ready .small i l; lows = ready .lows; sides = ready .sides }
 
 -- what a call handed over of a row's spread
-module _ {axes : ℕ} {rows : List ℤ} {i : ℕ} {low side : List ℕ} (ready : SpreadReady axes rows i low side) {s : Spread} (e : s ≡ spreadOf axes (rowAt rows i) low side) where
+module _ {axes : ℕ} {rows : List ℤ} {i : ℕ} {low side : List ℕ} (ready : SpreadReady axes rows i low side)
+    {s : Spread} (e : s ≡ spreadOf axes (rowAt rows i) low side) where
   handed : SmallSpread (s .doubled) (s .reach)
   handed = rw e (spread-small ready axes (ready .few))
 
@@ -196,7 +207,9 @@ module _ {axes : ℕ} {rows : List ℤ} {i : ℕ} {low side : List ℕ} (ready :
 
 -- ---- a spread by the two parts of its coefficients
 module _ (h : Halfspace) (low side : List ℕ) where
-  doubled-is : (n : ℕ) → Is (spreadOf n h low side .doubled) (2 * up (h .offset) + 2 * rise h n (λ i. getD low i 0) + rise h n (λ i. getD side i 0)) (2 * dn (h .offset) + 2 * fall h n (λ i. getD low i 0) + fall h n (λ i. getD side i 0))
+  doubled-is : (n : ℕ) → Is (spreadOf n h low side .doubled)
+      (2 * up (h .offset) + 2 * rise h n (λ i. getD low i 0) + rise h n (λ i. getD side i 0))
+      (2 * dn (h .offset) + 2 * fall h n (λ i. getD low i 0) + fall h n (λ i. getD side i 0))
   unfolding spreadOf rise fall sum
   doubled-is zero = record { is = omega (arith, is-add (is-self (h .offset)) (is-self (h .offset)) .is) }
   doubled-is (suc n) = record { is = omega (arith, is-add (doubled-is n) (is-mul (is-self (h .coefficient n)) (2 * getD low n 0 + getD side n 0)) .is) }
@@ -204,24 +217,31 @@ module _ (h : Halfspace) (low side : List ℕ) where
   reach-is : (n : ℕ) → Is (spreadOf n h low side .reach) (rise h n (λ i. getD side i 0) + fall h n (λ i. getD side i 0)) 0
   unfolding spreadOf rise fall sum
   reach-is zero = is-nat 0
-  reach-is (suc n) = record { is = omega (arith, is-add (reach-is n) (is-nat (natAbs (h .coefficient n) * getD side n 0)) .is, ap (λ (t : ℕ). t * getD side n 0) (natAbs-parts (h .coefficient n))) }
+  reach-is (suc n) =
+      let e = ap (λ (t : ℕ). t * getD side n 0) (natAbs-parts (h .coefficient n)) in
+      record { is = omega (arith, is-add (reach-is n) (is-nat (natAbs (h .coefficient n) * getD side n 0)) .is, e) }
 
--- ---- over a block with this low corner and these sides
+-- ---- over a block with these low places and sides
 module _ (h : Halfspace) (b : Block) (side : List ℕ) (along : (i : ℕ) → i < axesOf b → getD side i 0 ≡ lengthAlong b i) where
   abbrev s : Spread
   s = spreadOf (axesOf b) h (b .low) side
 
-  ends-are : (u : ℕ → ℕ) → sum (axesOf b) (λ i. u i * endAlong b i) ≡ sum (axesOf b) (λ i. u i * lowAlong b i) + sum (axesOf b) (λ i. u i * getD side i 0)
-  ends-are u = sum-cong (axesOf b) _ _ (λ i l. ap (λ (t : ℕ). u i * (lowAlong b i + t)) (sym (along i l))) ∙ weighted-add (axesOf b) u (lowAlong b) (λ i. getD side i 0)
+  ends-are : (u : ℕ → ℕ) →
+      sum (axesOf b) (λ i. u i * endAlong b i) ≡ sum (axesOf b) (λ i. u i * lowAlong b i) + sum (axesOf b) (λ i. u i * getD side i 0)
+  ends-are u =
+      sum-cong (axesOf b) _ _ (λ i l. ap (λ (t : ℕ). u i * (lowAlong b i + t)) (sym (along i l)))
+      ∙ weighted-add (axesOf b) u (lowAlong b) (λ i. getD side i 0)
 
   pub black-test : leZ (s .reach) (s .doubled) ≡ leZ (pos 0) (least h b)
   unfolding rise fall
-  black-test = doubled-test (reach-is h (b .low) side (axesOf b)) (doubled-is h (b .low) side (axesOf b)) (is-nat 0) (least-is h b) (omega (arith, ends-are (taken h)))
+  black-test =
+      doubled-test (reach-is h (b .low) side (axesOf b)) (doubled-is h (b .low) side (axesOf b)) (is-nat 0) (least-is h b) (omega (arith, ends-are (taken h)))
 
   pub white-test : leZ (s .doubled +ℤ s .reach) (pos 0) ≡ leZ (greatest h b) (pos 0)
   unfolding rise fall
   white-test =
-      doubled-test (is-add (doubled-is h (b .low) side (axesOf b)) (reach-is h (b .low) side (axesOf b))) (is-nat 0) (greatest-is h b) (is-nat 0) (omega (arith, ends-are (added h)))
+      let total = is-add (doubled-is h (b .low) side (axesOf b)) (reach-is h (b .low) side (axesOf b)) in
+      doubled-test total (is-nat 0) (greatest-is h b) (is-nat 0) (omega (arith, ends-are (added h)))
 
   pub centre-doubled : ((i : ℕ) → i < axesOf b → lengthAlong b i ≡ 1) → s .doubled ≡ centreValue (b .universe) h (b .low)
   unfolding rise fall

@@ -1,55 +1,129 @@
--- What the conversions and the verdict of two trees answer. Order of refusals: 2, 3, the trees one after the other, for a verdict 9, and 6.
+-- What the conversions and the verdict of two trees answer. Order of refusals: 2, 3, the trees one after the other, for
+-- a verdict 9, and 6.
 use Prim.Native.Nat.{ℕ}
-use mathlib.Core.Bool.{cond}
+use mathlib.Core.Bool.{Bool, cond}
 use mathlib.Core.List.{List, [], _∷_}
-use lib.Dec.{leb, eqb}
-use lib.IntN.{ℤ}
-use lib.ListN.{length}
+use lib.Dec.{eqb}
 use Rattle.universe.specs.declared.Universe.{Universe}
 use Rattle.universe.specs.Refusals.{firstRefusal}
 use Rattle.universe.specs.Universe.{universeRefusal}
 use Rattle.universe.specs.Voxel.{windowRefusal}
+use Rattle.bintree.specs.declared.Verdict.{Verdict}
 use Rattle.bintree.specs.declared.Verdict.the-variants.{Clear}
+use Rattle.bintree.specs.declared.Written.{Written}
 use Rattle.bintree.specs.Shape.{symbols}
 use Rattle.bintree.specs.Merging.{merged}
 use Rattle.bintree.specs.Verdicts.{verdict}
-use Rattle.csg.specs.Halfspace.{rowCount, rowsRefusal}
+use Rattle.bintree.specs.Answers.{writtenAnswer, writtenBuffer}
+use Rattle.csg.specs.Halfspace.{rowsRefusal}
+use Rattle.csg.specs.Surfaces.{Surfaces, named}
 use Rattle.csg.specs.Words.{treeRefusal, treeOf}
 use Rattle.csg.specs.Raw.{raw}
 use Rattle.convert.specs.declared.verdict.Clearance.{Clearance}
 use Rattle.convert.specs.Blocks.{treesOf}
+use Rattle.convert.specs.Shapes.{shaped}
 
 -- the checks before 6, of one tree and of two
-unfoldable pub refusalOfOne : Universe → List ℤ → List ℕ → ℕ
-refusalOfOne u rows words = firstRefusal (universeRefusal u ∷ rowsRefusal u rows ∷ treeRefusal (rowCount rows) words ∷ [])
+unfoldable pub oneTreeChecks : Universe → Surfaces → List ℕ → List ℕ
+oneTreeChecks u surfaces words =
+    universeRefusal u ∷ rowsRefusal u (surfaces .rows) ∷ treeRefusal (named surfaces) words ∷ []
 
-unfoldable pub refusalOfTwo : Universe → List ℤ → List ℕ → List ℕ → ℕ
-refusalOfTwo u rows first second =
-    firstRefusal (universeRefusal u ∷ rowsRefusal u rows ∷ treeRefusal (rowCount rows) first ∷ treeRefusal (rowCount rows) second ∷ [])
+unfoldable pub twoTreesChecks : Universe → Surfaces → List ℕ → List ℕ → List ℕ
+twoTreesChecks u surfaces first second =
+    universeRefusal u
+    ∷ rowsRefusal u (surfaces .rows)
+    ∷ treeRefusal (named surfaces) first
+    ∷ treeRefusal (named surfaces) second
+    ∷ []
+
+abbrev pub oneTreeRefusal : Universe → Surfaces → List ℕ → ℕ
+oneTreeRefusal u surfaces words = firstRefusal (oneTreeChecks u surfaces words)
+
+abbrev pub twoTreesRefusal : Universe → Surfaces → List ℕ → List ℕ → ℕ
+twoTreesRefusal u surfaces first second = firstRefusal (twoTreesChecks u surfaces first second)
 
 -- the raw expression of one tree, and of two intersected
-unfoldable pub rawOfOne : Universe → List ℤ → List ℕ → List ℕ
-rawOfOne u rows words = symbols (raw u rows (treeOf (rowCount rows) words))
+unfoldable pub rawOfOne : Universe → Surfaces → List ℕ → List ℕ
+rawOfOne u surfaces words = symbols (raw u surfaces (treeOf (named surfaces) words))
 
-unfoldable pub rawOfTwo : Universe → List ℤ → List ℕ → List ℕ → List ℕ
-rawOfTwo u rows first second = symbols (raw u rows (treesOf rows first second))
+unfoldable pub rawOfTwo : Universe → Surfaces → List ℕ → List ℕ → List ℕ
+rawOfTwo u surfaces first second = symbols (raw u surfaces (treesOf surfaces first second))
 
 -- the merged ones
-unfoldable pub mergedOfOne : Universe → List ℤ → List ℕ → List ℕ
-mergedOfOne u rows words = symbols (merged (raw u rows (treeOf (rowCount rows) words)))
+unfoldable pub mergedOfOne : Universe → Surfaces → List ℕ → List ℕ
+mergedOfOne u surfaces words = symbols (merged (raw u surfaces (treeOf (named surfaces) words)))
 
-unfoldable pub mergedOfTwo : Universe → List ℤ → List ℕ → List ℕ → List ℕ
-mergedOfTwo u rows first second = symbols (merged (raw u rows (treesOf rows first second)))
+unfoldable pub mergedOfTwo : Universe → Surfaces → List ℕ → List ℕ → List ℕ
+mergedOfTwo u surfaces first second = symbols (merged (raw u surfaces (treesOf surfaces first second)))
 
--- the verdict of two trees: the checks of their conversion, then 9, then 6
-unfoldable pub clearanceRefusal : Universe → List ℤ → List ℕ → List ℕ → ℕ → ℕ → ℕ
-clearanceRefusal u rows first second from to = firstRefusal (refusalOfTwo u rows first second ∷ windowRefusal u from to ∷ [])
+-- either of them, of two trees
+unfoldable pub writtenOfTwo : Bool → Universe → Surfaces → List ℕ → List ℕ → List ℕ
+writtenOfTwo merging u surfaces first second = symbols (shaped merging (raw u surfaces (treesOf surfaces first second)))
 
--- "a verdict among them is Clear"; the length is the raw expression's, needed on 6
-unfoldable pub clearanceAnswer : Universe → List ℤ → List ℕ → List ℕ → ℕ → ℕ → List ℕ → Clearance
-clearanceAnswer u rows first second from to out =
-    cond (eqb (clearanceRefusal u rows first second from to) 0)
-    (cond (leb (length (rawOfTwo u rows first second)) (length out))
-    (record { refusal = 0; verdict = verdict u (raw u rows (treesOf rows first second)) from to; length = length (rawOfTwo u rows first second) })
-    (record { refusal = 6; verdict = Clear; length = length (rawOfTwo u rows first second) }))
-    (record { refusal = clearanceRefusal u rows first second from to; verdict = Clear; length = 0 })
+-- what a conversion answers, and what it leaves of the room lent, where its checks before 6 give this number
+abbrev pub conversionAnswer : ℕ → List ℕ → List ℕ → Written
+conversionAnswer refusal written out = writtenAnswer refusal out written
+
+abbrev pub conversionBuffer : ℕ → List ℕ → List ℕ → List ℕ
+conversionBuffer refusal written out = writtenBuffer refusal out written
+
+unfoldable pub rawOfOneAnswer : Universe → Surfaces → List ℕ → List ℕ → Written
+rawOfOneAnswer u surfaces words out = conversionAnswer (oneTreeRefusal u surfaces words) (rawOfOne u surfaces words) out
+
+unfoldable pub rawOfOneBuffer : Universe → Surfaces → List ℕ → List ℕ → List ℕ
+rawOfOneBuffer u surfaces words out = conversionBuffer (oneTreeRefusal u surfaces words) (rawOfOne u surfaces words) out
+
+unfoldable pub mergedOfOneAnswer : Universe → Surfaces → List ℕ → List ℕ → Written
+mergedOfOneAnswer u surfaces words out =
+    conversionAnswer (oneTreeRefusal u surfaces words) (mergedOfOne u surfaces words) out
+
+unfoldable pub mergedOfOneBuffer : Universe → Surfaces → List ℕ → List ℕ → List ℕ
+mergedOfOneBuffer u surfaces words out =
+    conversionBuffer (oneTreeRefusal u surfaces words) (mergedOfOne u surfaces words) out
+
+unfoldable pub rawOfTwoAnswer : Universe → Surfaces → List ℕ → List ℕ → List ℕ → Written
+rawOfTwoAnswer u surfaces first second out =
+    conversionAnswer (twoTreesRefusal u surfaces first second) (rawOfTwo u surfaces first second) out
+
+unfoldable pub rawOfTwoBuffer : Universe → Surfaces → List ℕ → List ℕ → List ℕ → List ℕ
+rawOfTwoBuffer u surfaces first second out =
+    conversionBuffer (twoTreesRefusal u surfaces first second) (rawOfTwo u surfaces first second) out
+
+unfoldable pub mergedOfTwoAnswer : Universe → Surfaces → List ℕ → List ℕ → List ℕ → Written
+mergedOfTwoAnswer u surfaces first second out =
+    conversionAnswer (twoTreesRefusal u surfaces first second) (mergedOfTwo u surfaces first second) out
+
+unfoldable pub mergedOfTwoBuffer : Universe → Surfaces → List ℕ → List ℕ → List ℕ → List ℕ
+mergedOfTwoBuffer u surfaces first second out =
+    conversionBuffer (twoTreesRefusal u surfaces first second) (mergedOfTwo u surfaces first second) out
+
+-- the checks before 6 of a verdict of two trees: those of their conversion, then 9
+unfoldable pub clearanceChecks : Universe → Surfaces → List ℕ → List ℕ → ℕ → ℕ → List ℕ
+clearanceChecks u surfaces first second from to = twoTreesRefusal u surfaces first second ∷ windowRefusal u from to ∷ []
+
+abbrev pub clearanceRefusal : Universe → Surfaces → List ℕ → List ℕ → ℕ → ℕ → ℕ
+clearanceRefusal u surfaces first second from to = firstRefusal (clearanceChecks u surfaces first second from to)
+
+-- a verdict is refused, "a verdict among them is Clear", or done; the length is the raw expression's, needed on 6
+abbrev pub refusedClearance : ℕ → ℕ → Clearance
+refusedClearance number length = record { refusal = number; verdict = Clear; length = length }
+
+abbrev pub doneClearance : Verdict → ℕ → Clearance
+doneClearance v length = record { refusal = 0; verdict = v; length = length }
+
+-- the verdict on what was written, where it was
+abbrev pub clearanceOf : Written → Verdict → Clearance
+clearanceOf written v =
+    cond (eqb (written .refusal) 0)
+    (doneClearance v (written .length))
+    (refusedClearance (written .refusal) (written .length))
+
+unfoldable pub clearanceAnswer : Universe → Surfaces → List ℕ → List ℕ → ℕ → ℕ → List ℕ → Clearance
+clearanceAnswer u surfaces first second from to out =
+    clearanceOf
+    (conversionAnswer (clearanceRefusal u surfaces first second from to) (rawOfTwo u surfaces first second) out)
+    (verdict u (raw u surfaces (treesOf surfaces first second)) from to)
+
+unfoldable pub clearanceBuffer : Universe → Surfaces → List ℕ → List ℕ → ℕ → ℕ → List ℕ → List ℕ
+clearanceBuffer u surfaces first second from to out =
+    conversionBuffer (clearanceRefusal u surfaces first second from to) (rawOfTwo u surfaces first second) out

@@ -1,44 +1,83 @@
--- What the recursion writes for a block, and what it lays of it and joins.
-use Prim.Native.Nat.{ℕ, _+_}
-use mathlib.Core.Bool.{cond}
+-- What the recursion lays of a block and joins: a shape as it is, or merged. A leaf is held back, for its parent to
+-- write.
+use Prim.Native.Nat.{ℕ, _+_, _-_, _^_, _≤_, _<_}
+use mathlib.Core.Path.{_≡_}
+use mathlib.Core.Bool.{Bool, true, false, cond, _&&_}
 use mathlib.Core.List.{List}
 use lib.Dec.{eqb}
-use lib.IntN.{ℤ}
-use lib.ListN.{set}
+use lib.ListN.{getD}
 use Rattle.universe.specs.declared.Universe.{Universe}
+use Rattle.universe.specs.Universe.{mostAxes, mostLevels}
+use Rattle.universe.specs.Questions.{axesLeft}
 use Rattle.bintree.specs.declared.Colour.the-variants.{White, Black}
-use Rattle.bintree.specs.Shape.{Shape, symbolOf, size}
-use Rattle.bintree.specs.Walks.{heldOf, isAlike, opened}
-use Rattle.csg.specs.Halfspace.{Mark, decided, undecided}
+use Rattle.bintree.specs.Shape.{Shape, halved, symbolOf, size}
+use Rattle.bintree.specs.Merging.{merged}
+use Rattle.bintree.specs.Walks.{heldOf, isAlike, joinedHalves}
+use Rattle.csg.specs.Surfaces.{Surfaces}
 use Rattle.csg.specs.Raw.{examine}
-use Rattle.convert.specs.declared.merged.Piece.{Piece}
-use Rattle.convert.specs.Blocks.{treesOf, blockAt}
+use Rattle.convert.specs.declared.lay.Piece.{Piece}
+use Rattle.convert.specs.Codes.{blackBit}
+use Rattle.convert.specs.Blocks.{Ready, Standing, treesOf, blockLeft, axisLeft, halfSide, halvedSides, highLows}
 
--- the raw shape of the block with this low corner, so many levels above L
-unfoldable pub shapeOf : Universe → List ℤ → List ℕ → List ℕ → ℕ → List ℕ → Shape
-shapeOf u rows first second left low = examine rows (treesOf rows first second) left (blockAt u left low)
+-- the raw shape of the block with so many levels left and these low places
+unfoldable pub shapeOf : Universe → Surfaces → List ℕ → List ℕ → ℕ → List ℕ → Shape
+shapeOf u surfaces first second left low = examine surfaces (treesOf surfaces first second) left (blockLeft u left low)
+
+-- a raw shape merged, or as it is
+unfoldable pub shaped : Bool → Shape → Shape
+shaped true s = merged s
+shaped false s = s
+
+-- what a conversion lays of that block
+abbrev pub laidShape : Bool → Universe → Surfaces → List ℕ → List ℕ → ℕ → List ℕ → Shape
+laidShape merging u surfaces first second left low = shaped merging (shapeOf u surfaces first second left low)
 
 -- the symbol of a mark's bits
 abbrev pub symbolOfBits : ℕ → ℕ
-symbolOfBits bits = cond (eqb bits 1) (symbolOf Black) (symbolOf White)
+symbolOfBits bits = cond (eqb bits blackBit) (symbolOf Black) (symbolOf White)
 
--- the place after the leaf of a block that is so judged, and room with its symbol; 0 and the room as it was where it is undecided
-unfoldable pub leafEnd : ℕ → Mark → ℕ
-leafEnd at (decided c) = at + 1
-leafEnd at undecided = 0
-
-unfoldable pub leafWritten : List ℕ → ℕ → Mark → List ℕ
-leafWritten out at (decided c) = set out at (symbolOf c)
-leafWritten out at undecided = out
-
--- what laying a merged shape from a place on comes to
+-- what laying a shape from a place on comes to
 abbrev pub pieceOf : ℕ → Shape → Piece
 pieceOf at s = record { held = heldOf s; end = at + size s }
 
--- two halves that are laid, joined: leaves of one colour are held back as one, else `(` and what was held back of them is written
-abbrev pub joinedPiece : ℕ → Piece → Piece → Piece
-joinedPiece at low high =
-    cond (isAlike (low .held) (high .held)) (record { held = low .held; end = at + 1 }) (record { held = 0; end = high .end })
+-- two halves that are laid, joined: where shapes are merged, leaves of one colour are held back as one; else `(` and
+-- what was held back of the halves is written
+unfoldable pub isOne : Bool → ℕ → ℕ → Bool
+isOne merging below above = merging && isAlike below above
 
-abbrev pub joinedRoom : List ℕ → ℕ → Piece → Piece → List ℕ
-joinedRoom out at low high = cond (isAlike (low .held) (high .held)) out (opened out at (low .held) (low .end) (high .held))
+unfoldable pub joinedPiece : Bool → ℕ → Piece → Piece → Piece
+joinedPiece merging at below above =
+    cond (isOne merging (below .held) (above .held))
+    (record { held = below .held; end = at + 1 })
+    (record { held = 0; end = above .end })
+
+unfoldable pub joinedRoom : Bool → List ℕ → ℕ → Piece → Piece → List ℕ
+joinedRoom merging out at below above =
+    cond (isOne merging (below .held) (above .held)) out (joinedHalves out at (below .held) (below .end) (above .held))
+
+-- what laying a block from a place on asks: the axis is that of the levels left
+pub record Laying (u : Universe) (surfaces : Surfaces) (first second axes : List ℕ)
+    (left : ℕ) (low side : List ℕ) (axis at : ℕ) : Type 0 where
+  pub ready : Ready u surfaces first second
+  pub order : axes ≡ axesLeft u
+  pub standing : Standing u left low side
+  pub turn : axis ≡ axisLeft axes left
+  pub fits : at + size (shapeOf u surfaces first second left low) < 2 ^ 64
+
+-- what laying both halves of a block asks: one that is undecided is halved
+pub record Halving (u : Universe) (surfaces : Surfaces) (first second axes : List ℕ)
+    (left : ℕ) (low side : List ℕ) (axis at : ℕ) : Type 0 where
+  pub some : 1 ≤ left
+  pub place : left - 1 ≤ mostLevels
+  pub within : axis < mostAxes
+  pub room : at + 1 < 2 ^ 64
+  pub ends : getD low axis 0 + halfSide side axis < 2 ^ 64
+  pub shape : shapeOf u surfaces first second left low
+      ≡ halved
+      (shapeOf u surfaces first second (left - 1) low)
+      (shapeOf u surfaces first second (left - 1) (highLows low side axis))
+  pub lower : Laying u surfaces first second axes
+      (left - 1) low (halvedSides side axis) (axisLeft axes (left - 1)) (at + 1)
+  pub upper : (middle : ℕ) → middle ≤ at + 1 + size (shapeOf u surfaces first second (left - 1) low)
+      → Laying u surfaces first second axes
+      (left - 1) (highLows low side axis) (halvedSides side axis) (axisLeft axes (left - 1)) middle

@@ -1,9 +1,9 @@
 -- Numbers so small that no product and no sum of the conversion overflows: document 01's limits.
-use Prim.Native.Nat.{ℕ, _+_, _*_, _^_, _≤_, _<_}
+use Prim.Native.Nat.{ℕ, _+_, _*_, _≤_, _<_}
 use mathlib.Core.List.{List}
 use lib.IntN.{ℤ, natAbs}
 use lib.ListN.{getD}
-use Rattle.universe.specs.Universe.{leastAxes, mostAxes, mostBits, offsetLimit, coefficientLimit}
+use Rattle.universe.specs.Universe.{leastAxes, mostAxes, longestSide, offsetLimit, coefficientLimit}
 use Rattle.csg.specs.Halfspace.{Halfspace, rowAt, rowCount}
 
 pub record SmallCoefficient (a : ℤ) : Type 0 where
@@ -11,7 +11,7 @@ pub record SmallCoefficient (a : ℤ) : Type 0 where
 
 -- a place of a universe, or a side
 pub record SmallPlace (x : ℕ) : Type 0 where
-  pub most : x ≤ 2 ^ mostBits
+  pub most : x ≤ longestSide
 
 pub record SmallHalfspace (h : Halfspace) : Type 0 where
   pub offset : natAbs (h .offset) ≤ offsetLimit
@@ -19,7 +19,7 @@ pub record SmallHalfspace (h : Halfspace) : Type 0 where
 
 -- what twice the value at a centre, or a reach, comes to at the most
 abbrev pub spreadLimit : ℕ
-spreadLimit = 2 * offsetLimit + 3 * mostAxes * (coefficientLimit * 2 ^ mostBits)
+spreadLimit = 2 * offsetLimit + 3 * mostAxes * (coefficientLimit * longestSide)
 
 pub record SmallDoubled (doubled : ℤ) : Type 0 where
   pub most : natAbs doubled ≤ spreadLimit
@@ -28,8 +28,8 @@ pub record SmallSpread (doubled reach : ℤ) : Type 0 where
   pub doubled-most : natAbs doubled ≤ spreadLimit
   pub reach-most : natAbs reach ≤ spreadLimit
 
-pub record SmallCorner (corner : List ℕ) : Type 0 where
-  pub place : (i : ℕ) → SmallPlace (getD corner i 0)
+pub record SmallPlaces (places : List ℕ) : Type 0 where
+  pub place : (i : ℕ) → SmallPlace (getD places i 0)
 
 -- what the spread of row i over a block asks
 pub record SpreadReady (axes : ℕ) (rows : List ℤ) (i : ℕ) (low side : List ℕ) : Type 0 where
@@ -37,13 +37,13 @@ pub record SpreadReady (axes : ℕ) (rows : List ℤ) (i : ℕ) (low side : List
   pub few : axes ≤ mostAxes
   pub named : i < rowCount rows
   pub small : SmallHalfspace (rowAt rows i)
-  pub lows : SmallCorner low
-  pub sides : SmallCorner side
+  pub lows : SmallPlaces low
+  pub sides : SmallPlaces side
 
 -- what judging a tree over these rows over a block asks
 pub record JudgeReady (axes : ℕ) (rows : List ℤ) (low side : List ℕ) : Type 0 where
   pub some : leastAxes ≤ axes
   pub few : axes ≤ mostAxes
   pub small : (i : ℕ) → i < rowCount rows → SmallHalfspace (rowAt rows i)
-  pub lows : SmallCorner low
-  pub sides : SmallCorner side
+  pub lows : SmallPlaces low
+  pub sides : SmallPlaces side

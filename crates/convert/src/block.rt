@@ -1,26 +1,29 @@
-// The state of the recursion over blocks: the low corner of a block and its sides, in arrays that are halved in place.
+// The state of the recursion over blocks: the low places of a block and its sides, in arrays that are halved in place.
 use universe::Universe;
 ghost use mathlib.Core.Path.{_≡_};
-ghost use Prim.Native.Nat.{_<_};
-ghost use Rattle.universe.specs.Universe.{universeRefusal};
-ghost use Rattle.convert.specs.Blocks.{nextAxis, wholeSides};
+ghost use Prim.Native.Nat.{_≤_};
+ghost use Rattle.universe.specs.Universe.{mostLevels};
+ghost use Rattle.convert.specs.Blocks.{wholeSides, axisLeft};
 
-// The sides of the whole universe.
-pub(crate) fn whole_sides(universe: Universe) -> [u64; 4]
-    requires { ⌜ universeRefusal universe ≡ 0 ⌝ }
+// The sides of the whole universe; 0 along an axis that it lacks.
+pub(crate) fn whole_sides(universe: Universe) -> [u64; Universe::MOST_AXES as usize]
     ensures { λ r. ⌜ r ≡ wholeSides universe ⌝ }
 {
-    let bits = universe.bits;
-    [1u64 << bits; 4]
+    [
+        universe.side(0),
+        universe.side(1),
+        universe.side(2),
+        universe.side(3),
+    ]
 }
 
-// The axis after this one, in turn.
-pub(crate) fn next_axis(axes: usize, axis: usize) -> usize
-    requires { ⌜ axis < 4 ⌝ }
-    ensures { λ r. ⌜ r ≡ nextAxis axes axis ⌝ }
+// The axis across which a block with so many levels left is halved; at the last level, where none is, the last of them.
+pub(crate) fn axis_left(axes: &[usize; Universe::MOST_LEVELS as usize], left: u64) -> usize
+    requires { ⌜ left ≤ mostLevels ⌝ }
+    ensures { λ r. ⌜ r ≡ axisLeft (now (axes .entry)) left ⌝ }
 {
-    if axis + 1 == axes {
-        return 0;
+    if left == 0 {
+        return axes[0];
     }
-    axis + 1
+    axes[(left - 1) as usize]
 }

@@ -1,28 +1,34 @@
 // Judging a tree over a block, or at the centre of a voxel, in one pass over its words.
+use crate::marks::BLACK_BIT;
+use crate::marks::BLACK_CODE;
+use crate::marks::REVERSAL_UNIT;
+use crate::marks::WHITE_BIT;
+use crate::marks::WHITE_CODE;
+use crate::marks::join_code;
 use crate::spread::code_at_centre;
 use crate::spread::code_of_spread;
 use crate::spread::spread_of_row;
 use universe::Universe;
 ghost use mathlib.Core.Path.{_≡_};
 ghost use mathlib.Core.Bool.{true};
-ghost use Rattle.csg.specs.Halfspace.{rowCount};
-ghost use Rattle.csg.specs.Tree.{halfspace};
-ghost use Rattle.csg.specs.Words.{isLeaf, leafOf, operatorOf, treeOf, treeRefusal};
-ghost use Rattle.convert.specs.Codes.{codeOfLeaf, codeOfTree, joinCode, bitsOf};
+ghost use Rattle.csg.specs.Surfaces.{surfacesOf, named, halfspace};
+ghost use Rattle.csg.specs.Words.{isLeaf, leafOf, treeOf, treeRefusal};
+ghost use Rattle.convert.specs.Codes.{codeOfSurface, codeOfLeaf, codeOfTree, bitsOf};
 ghost use Rattle.convert.specs.Small.{SpreadReady, JudgeReady};
-ghost use Rattle.convert.specs.Blocks.{Ready, Standing, treesOf, blockAt, judged};
+ghost use Rattle.convert.specs.Blocks.{Ready, Standing, treesOf, blockLeft, judged};
 
 // The code of row i over a block, or at the centre of the voxel that it is.
 fn code_of_row(
     axes: usize,
     rows: &[i64],
     i: usize,
-    low: &[u64; 4],
-    side: &[u64; 4],
+    low: &[u64; Universe::MOST_AXES as usize],
+    side: &[u64; Universe::MOST_AXES as usize],
     centre: bool,
 ) -> u8
     requires { ⌜ SpreadReady axes (now rows) i (now low) (now side) ⌝ }
-    ensures { λ r. ⌜ r ≡ codeOfLeaf axes (now (rows .entry)) (now (low .entry)) (now (side .entry)) centre (halfspace i) ⌝ }
+    ensures { λ r. let surfaces = surfacesOf (now (rows .entry)) in
+        ⌜ r ≡ codeOfSurface axes surfaces (now (low .entry)) (now (side .entry)) centre (halfspace i) ⌝ }
 {
     let spread = spread_of_row(axes, rows, i, low, side);
     if centre {
@@ -31,32 +37,19 @@ fn code_of_row(
     code_of_spread(spread.doubled, spread.reach)
 }
 
-// The code of two shapes joined by an operator's word.
-fn join_code(word: u16, a: u8, b: u8) -> u8
-    ensures { λ r. ⌜ r ≡ joinCode (operatorOf word) a b ⌝ }
-{
-    if word == csg::UNION {
-        return ((a | b) & 9) | ((a & b) & 6);
-    }
-    if word == csg::INTERSECTION {
-        return ((a | b) & 6) | ((a & b) & 9);
-    }
-    let other = b % 4 * 4 + b / 4;
-    ((a | other) & 6) | ((a & other) & 9)
-}
-
 // The code of a leaf's word.
 fn code_of_word(
     axes: usize,
     rows: &[i64],
     word: u16,
-    low: &[u64; 4],
-    side: &[u64; 4],
+    low: &[u64; Universe::MOST_AXES as usize],
+    side: &[u64; Universe::MOST_AXES as usize],
     centre: bool,
 ) -> u8
     requires { ⌜ JudgeReady axes (now rows) (now low) (now side) ⌝ }
-    requires { ⌜ isLeaf (rowCount (now rows)) word ≡ true ⌝ }
-    ensures { λ r. ⌜ r ≡ codeOfLeaf axes (now (rows .entry)) (now (low .entry)) (now (side .entry)) centre (leafOf word) ⌝ }
+    requires { ⌜ isLeaf (named (surfacesOf (now rows))) word ≡ true ⌝ }
+    ensures { λ r. let surfaces = surfacesOf (now (rows .entry)) in
+        ⌜ r ≡ codeOfLeaf axes surfaces (now (low .entry)) (now (side .entry)) centre (leafOf word) ⌝ }
 {
     if csg::FIRST_HALFSPACE <= word {
         return code_of_row(
@@ -68,7 +61,11 @@ fn code_of_word(
             centre,
         );
     }
-    if word == csg::WHITE { 6 } else { 9 }
+    if word == csg::WHITE {
+        WHITE_CODE
+    } else {
+        BLACK_CODE
+    }
 }
 
 // The code of a tree, in one pass over its words; the shape that is pending last is `top`.
@@ -76,13 +73,15 @@ pub(crate) fn code_of_tree(
     axes: usize,
     rows: &[i64],
     words: &[u16],
-    low: &[u64; 4],
-    side: &[u64; 4],
+    low: &[u64; Universe::MOST_AXES as usize],
+    side: &[u64; Universe::MOST_AXES as usize],
     centre: bool,
 ) -> u8
     requires { ⌜ JudgeReady axes (now rows) (now low) (now side) ⌝ }
-    requires { ⌜ treeRefusal (rowCount (now rows)) (now words) ≡ 0 ⌝ }
-    ensures { λ r. ⌜ r ≡ codeOfTree axes (now (rows .entry)) (now (low .entry)) (now (side .entry)) centre (treeOf (rowCount (now (rows .entry))) (now (words .entry))) ⌝ }
+    requires { ⌜ treeRefusal (named (surfacesOf (now rows))) (now words) ≡ 0 ⌝ }
+    ensures { λ r. let surfaces = surfacesOf (now (rows .entry)) in
+        let tree = treeOf (named surfaces) (now (words .entry)) in
+        ⌜ r ≡ codeOfTree axes surfaces (now (low .entry)) (now (side .entry)) centre tree ⌝ }
 {
     let mut pending = [0u8; csg::MOST_PENDING];
     let mut top: u8 = 0;
@@ -103,30 +102,33 @@ pub(crate) fn code_of_tree(
     top
 }
 
-// How two trees intersected are judged over the block with this low corner and these sides: 1 BLACK, 2 WHITE, 0 undecided, at level L by the colour at
-// the centre.
+// How two trees intersected are judged over the block with these low places and sides: the bits of their mark, at
+// level L by the colour at the centre.
 pub(crate) fn judge(
     universe: Universe,
+    axes: usize,
     rows: &[i64],
     first: &[u16],
     second: &[u16],
-    low: &[u64; 4],
-    side: &[u64; 4],
+    low: &[u64; Universe::MOST_AXES as usize],
+    side: &[u64; Universe::MOST_AXES as usize],
     left: u64,
 ) -> u8
-    requires { ⌜ Ready universe (now rows) (now first) (now second) ⌝ }
+    requires { ⌜ Ready universe (surfacesOf (now rows)) (now first) (now second) ⌝ }
     requires { ⌜ Standing universe left (now low) (now side) ⌝ }
-    ensures { λ r. ⌜ r ≡ bitsOf (judged (now (rows .entry)) (treesOf (now (rows .entry)) (now (first .entry)) (now (second .entry))) left (blockAt universe left (now (low .entry)))) ⌝ }
+    requires { ⌜ axes ≡ universe .axes ⌝ }
+    ensures { λ r. let surfaces = surfacesOf (now (rows .entry)) in
+        let trees = treesOf surfaces (now (first .entry)) (now (second .entry)) in
+        ⌜ r ≡ bitsOf (judged surfaces trees left (blockLeft universe left (now (low .entry)))) ⌝ }
 {
-    let axes = universe.axes as usize;
     let centre = left == 0;
-    let a = code_of_tree(axes, rows, first, low, side, centre) % 4;
-    if a == 2 {
-        return 2;
+    let a = code_of_tree(axes, rows, first, low, side, centre) % REVERSAL_UNIT;
+    if a == WHITE_BIT {
+        return WHITE_BIT;
     }
-    let b = code_of_tree(axes, rows, second, low, side, centre) % 4;
-    if b == 2 {
-        return 2;
+    let b = code_of_tree(axes, rows, second, low, side, centre) % REVERSAL_UNIT;
+    if b == WHITE_BIT {
+        return WHITE_BIT;
     }
-    if a == 1 { b } else { 0 }
+    if a == BLACK_BIT { b } else { 0 }
 }

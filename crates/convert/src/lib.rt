@@ -1,17 +1,19 @@
-// Conversion of one tree, or of two trees intersected, to the raw and to the merged expression in lent room. Read the refusal first: the length is what
-// was written where it is 0, what is needed where it is 6, and else 0.
+// Conversion of one tree, or of two trees intersected, to the raw and to the merged expression in lent room. Read the
+// refusal first: the length is what was written where it is 0, what is needed where it is 6, and else 0.
 mod block;
-mod check;
+mod conversion;
 mod judge;
-mod merged;
-mod raw;
+mod lay;
+mod marks;
+mod scene;
 mod scratch;
 mod spread;
 mod verdict;
 
-pub use merged::merged_of_one;
-pub use merged::merged_of_two;
-pub use raw::raw_of_one;
-pub use raw::raw_of_two;
+pub use conversion::merged_of_one;
+pub use conversion::merged_of_two;
+pub use conversion::raw_of_one;
+pub use conversion::raw_of_two;
+pub use scene::scene_refusal;
 pub use verdict::Clearance;
 pub use verdict::verdict_of_two;

@@ -1,24 +1,87 @@
-// Scratch room, into which a conversion writes where the room lent may not suffice: what is lent is left alone until it is known to.
+// Conversion by way of scratch room, where the room lent may not suffice: what is lent is left alone until it is known
+// to.
+use crate::lay::write_whole;
+use bintree::Written;
+use universe::Universe;
 ghost use mathlib.Core.Path.{_≡_};
-ghost use Prim.Native.Nat.{_≤_};
-ghost use lib.ListN.{length};
-ghost use lib.Seq.{paste};
+ghost use Rattle.csg.specs.Surfaces.{surfacesOf};
+ghost use Rattle.convert.specs.Answers.{writtenOfTwo, conversionAnswer, conversionBuffer};
+ghost use Rattle.convert.specs.Blocks.{Ready};
 
 // Scratch room for where no more than this is lent.
 pub(crate) const SHORT: usize = 4096;
 
 // Scratch room for where more is lent.
-pub(crate) const LONG: usize = 65536;
+const LONG: usize = 65536;
 
-// Copies the first `count` symbols.
-pub(crate) fn copy_front(from: &[u8], out: &mut [u8], count: usize)
-    requires { ⌜ count ≤ length (now from) ⌝ }
-    requires { ⌜ count ≤ length (now out) ⌝ }
-    ensures { λ _. ⌜ now (out .exit) ≡ paste (now (out .entry)) 0 (now (from .entry)) count ⌝ }
+// The expression is written into scratch room first, and again only where it is longer.
+fn through(
+    universe: Universe,
+    rows: &[i64],
+    first: &[u16],
+    second: &[u16],
+    merging: bool,
+    scratch: &mut [u8],
+    out: &mut [u8],
+) -> Written
+    requires { ⌜ Ready universe (surfacesOf (now rows)) (now first) (now second) ⌝ }
+    ensures { λ r. let surfaces = surfacesOf (now (rows .entry)) in
+        let written = writtenOfTwo merging universe surfaces (now (first .entry)) (now (second .entry)) in
+        ⌜ r ≡ conversionAnswer 0 written (now (out .entry)) ⌝ }
+    ensures { λ _. let surfaces = surfacesOf (now (rows .entry)) in
+        let written = writtenOfTwo merging universe surfaces (now (first .entry)) (now (second .entry)) in
+        ⌜ now (out .exit) ≡ conversionBuffer 0 written (now (out .entry)) ⌝ }
 {
-    let mut i: usize = 0;
-    while i < count {
-        out[i] = from[i];
-        i += 1;
+    let length = write_whole(universe, rows, first, second, merging, scratch);
+    if out.len() < length {
+        return Written::short(length as u64);
     }
+    if length <= scratch.len() {
+        bintree::copy(&scratch[..length], out, 0);
+        return Written::done(length as u64);
+    }
+    write_whole(universe, rows, first, second, merging, out);
+    Written::done(length as u64)
+}
+
+// The same with little scratch room, which suffices where little is lent.
+pub(crate) fn short(
+    universe: Universe,
+    rows: &[i64],
+    first: &[u16],
+    second: &[u16],
+    merging: bool,
+    out: &mut [u8],
+) -> Written
+    requires { ⌜ Ready universe (surfacesOf (now rows)) (now first) (now second) ⌝ }
+    ensures { λ r. let surfaces = surfacesOf (now (rows .entry)) in
+        let written = writtenOfTwo merging universe surfaces (now (first .entry)) (now (second .entry)) in
+        ⌜ r ≡ conversionAnswer 0 written (now (out .entry)) ⌝ }
+    ensures { λ _. let surfaces = surfacesOf (now (rows .entry)) in
+        let written = writtenOfTwo merging universe surfaces (now (first .entry)) (now (second .entry)) in
+        ⌜ now (out .exit) ≡ conversionBuffer 0 written (now (out .entry)) ⌝ }
+{
+    let mut scratch = [0u8; SHORT];
+    through(universe, rows, first, second, merging, &mut scratch, out)
+}
+
+// The same with much scratch room.
+pub(crate) fn long(
+    universe: Universe,
+    rows: &[i64],
+    first: &[u16],
+    second: &[u16],
+    merging: bool,
+    out: &mut [u8],
+) -> Written
+    requires { ⌜ Ready universe (surfacesOf (now rows)) (now first) (now second) ⌝ }
+    ensures { λ r. let surfaces = surfacesOf (now (rows .entry)) in
+        let written = writtenOfTwo merging universe surfaces (now (first .entry)) (now (second .entry)) in
+        ⌜ r ≡ conversionAnswer 0 written (now (out .entry)) ⌝ }
+    ensures { λ _. let surfaces = surfacesOf (now (rows .entry)) in
+        let written = writtenOfTwo merging universe surfaces (now (first .entry)) (now (second .entry)) in
+        ⌜ now (out .exit) ≡ conversionBuffer 0 written (now (out .entry)) ⌝ }
+{
+    let mut scratch = [0u8; LONG];
+    through(universe, rows, first, second, merging, &mut scratch, out)
 }

@@ -1,5 +1,10 @@
-// The values of a row over a block: twice that at its centre, which is the least and the greatest together, and how far the doubled values at its
-// corners reach to either side of it.
+// The values of a row over a block: twice that at its centre, which is the least and the greatest together, and how far
+// the doubled values at the block's ends reach to either side of it.
+use crate::marks::BLACK_CODE;
+use crate::marks::EVEN_CODE;
+use crate::marks::UNDECIDED_CODE;
+use crate::marks::WHITE_CODE;
+use universe::Universe;
 ghost use mathlib.Core.Path.{_≡_};
 ghost use lib.IntN.{pos, natAbs};
 ghost use Rattle.csg.specs.Halfspace.{rowAt};
@@ -37,13 +42,13 @@ fn with_axis(spread: Spread, coefficient: i64, low: u64, side: u64) -> Spread
     }
 }
 
-// The spread of row i over the block with this low corner and these sides.
+// The spread of row i over the block with these low places and sides.
 pub(crate) fn spread_of_row(
     axes: usize,
     rows: &[i64],
     i: usize,
-    low: &[u64; 4],
-    side: &[u64; 4],
+    low: &[u64; Universe::MOST_AXES as usize],
+    side: &[u64; Universe::MOST_AXES as usize],
 ) -> Spread
     requires { ⌜ SpreadReady axes (now rows) i (now low) (now side) ⌝ }
     ensures { λ r. ⌜ r ≡ spreadOf axes (rowAt (now (rows .entry)) i) (now (low .entry)) (now (side .entry)) ⌝ }
@@ -74,9 +79,17 @@ pub(crate) fn code_of_spread(doubled: i64, reach: i64) -> u8
     ensures { λ r. ⌜ r ≡ spreadCode doubled reach ⌝ }
 {
     if reach <= doubled {
-        if doubled + reach <= 0 { 5 } else { 9 }
+        if doubled + reach <= 0 {
+            EVEN_CODE
+        } else {
+            BLACK_CODE
+        }
     } else {
-        if doubled + reach <= 0 { 6 } else { 0 }
+        if doubled + reach <= 0 {
+            WHITE_CODE
+        } else {
+            UNDECIDED_CODE
+        }
     }
 }
 

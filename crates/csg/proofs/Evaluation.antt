@@ -9,42 +9,45 @@ use mathlib.Core.Bool.{true, false}
 use mathlib.Core.List.{List, [], _∷_}
 use lib.ListN.{length, getD, drop, set, length-set, drop-of-length-le}
 use lib.Seq.{getD-set-same, getD-set-other}
+use Rattle.csg.specs.Surfaces.{Named}
 use Rattle.csg.specs.Tree.{Leaf, Operator}
 use Rattle.csg.specs.Words.{mostPending, isOperator, operatorOf, isLeaf, leafOf, fold, treeRefusal, treeOf}
 use Rattle.csg.proofs.Words.{next, accepted-run, Reads, reads, left-one, leaf-next, two-pending, join-next}
 
 -- an evaluation, over the shapes pending: what is left of accepted words comes to what all of them come to
-pub record Midway {A : Type 0} (ofLeaf : Leaf → A) (ofNode : Operator → A → A → A) (rows : ℕ) (ws : List ℕ) (pending : List A) (i : ℕ) : Type 0 where
+pub record Midway {A : Type 0} (ofLeaf : Leaf → A) (ofNode : Operator → A → A → A) (names : Named) (ws : List ℕ) (pending : List A) (i : ℕ) : Type 0 where
   pub read : i ≤ length ws
   pub few : length pending ≤ mostPending
-  pub onward : Reads ofLeaf ofNode rows (drop i ws) pending (fold ofLeaf ofNode (treeOf rows ws))
+  pub onward : Reads ofLeaf ofNode names (drop i ws) pending (fold ofLeaf ofNode (treeOf names ws))
 
-module _ {A : Type 0} {ofLeaf : Leaf → A} {ofNode : Operator → A → A → A} {rows : ℕ} {ws : List ℕ} where
-  pub midway-start : treeRefusal rows ws ≡ 0 → Midway ofLeaf ofNode rows ws [] 0
-  midway-start accepted = record { read = omega arith; few = omega arith; onward = reads ws [] _ (accepted-run rows ws accepted ofLeaf ofNode) }
+module _ {A : Type 0} {ofLeaf : Leaf → A} {ofNode : Operator → A → A → A} {names : Named} {ws : List ℕ} where
+  pub midway-start : treeRefusal names ws ≡ 0 → Midway ofLeaf ofNode names ws [] 0
+  midway-start accepted = record { read = omega arith; few = omega arith; onward = reads ws [] _ (accepted-run names ws accepted ofLeaf ofNode) }
 
-  pub midway-end : {pending : List A} {i : ℕ} → Midway ofLeaf ofNode rows ws pending i → length ws ≤ i → pending ≡ fold ofLeaf ofNode (treeOf rows ws) ∷ []
+  pub midway-end : {pending : List A} {i : ℕ} → Midway ofLeaf ofNode names ws pending i → length ws ≤ i → pending ≡ fold ofLeaf ofNode (treeOf names ws) ∷ []
   midway-end {i = i} m h = left-one (m .onward) (drop-of-length-le ws {i = i} h)
 
-  here : {pending : List A} {i : ℕ} → Midway ofLeaf ofNode rows ws pending i → i < length ws → Reads ofLeaf ofNode rows (getD ws i 0 ∷ drop (i + 1) ws) pending (fold ofLeaf ofNode (treeOf rows ws))
+  here : {pending : List A} {i : ℕ} → Midway ofLeaf ofNode names ws pending i → i < length ws →
+      Reads ofLeaf ofNode names (getD ws i 0 ∷ drop (i + 1) ws) pending (fold ofLeaf ofNode (treeOf names ws))
   here {i = i} m h = rw (next ws i h) at (m .onward)
 
-  module _ {pending : List A} {i : ℕ} (m : Midway ofLeaf ofNode rows ws pending i) (h : i < length ws) where
+  module _ {pending : List A} {i : ℕ} (m : Midway ofLeaf ofNode names ws pending i) (h : i < length ws) where
     -- a word that is no operator is a leaf, for which there is room
-    pub midway-leaf : isOperator (getD ws i 0) ≡ false → isLeaf rows (getD ws i 0) ≡ true
+    pub midway-leaf : isOperator (getD ws i 0) ≡ false → isLeaf names (getD ws i 0) ≡ true
     midway-leaf o = leaf-next (here m h) o .0
 
     pub midway-room : isOperator (getD ws i 0) ≡ false → length pending < mostPending
     midway-room o = leaf-next (here m h) o .1
 
-    pub midway-push : isOperator (getD ws i 0) ≡ false → Midway ofLeaf ofNode rows ws (ofLeaf (leafOf (getD ws i 0)) ∷ pending) (i + 1)
+    pub midway-push : isOperator (getD ws i 0) ≡ false → Midway ofLeaf ofNode names ws (ofLeaf (leafOf (getD ws i 0)) ∷ pending) (i + 1)
     midway-push o = let g = midway-room o in record { read = omega arith; few = omega arith; onward = leaf-next (here m h) o .2 }
 
     -- an operator has two shapes to join
     pub midway-two : isOperator (getD ws i 0) ≡ true → 2 ≤ length pending
     midway-two o = two-pending (here m h) o
 
-  pub midway-join : {pending : List A} {x y : A} {i : ℕ} → Midway ofLeaf ofNode rows ws (y ∷ x ∷ pending) i → i < length ws → isOperator (getD ws i 0) ≡ true → Midway ofLeaf ofNode rows ws (ofNode (operatorOf (getD ws i 0)) x y ∷ pending) (i + 1)
+  pub midway-join : {pending : List A} {x y : A} {i : ℕ} → Midway ofLeaf ofNode names ws (y ∷ x ∷ pending) i → i < length ws →
+      isOperator (getD ws i 0) ≡ true → Midway ofLeaf ofNode names ws (ofNode (operatorOf (getD ws i 0)) x y ∷ pending) (i + 1)
   midway-join m h o = record { read = omega arith; few = omega (arith, m .few); onward = join-next (here m h) o }
 
 -- n shapes pending, the last one apart as `top`, the others in an array, from its place n − 1 down to 1; `d` stands past its end
@@ -86,32 +89,34 @@ module _ {A : Type 0} (d : A) where
   pending-join array n x h = let e : n - 1 ≡ suc (n - 2) = omega arith in rw e
 
 -- an evaluation over an array of 32, which has read i words and holds n shapes pending
-pub record Evaluating {A : Type 0} (ofLeaf : Leaf → A) (ofNode : Operator → A → A → A) (rows : ℕ) (ws : List ℕ) (d : A) (array : List A) (top : A) (n i : ℕ) : Type 0 where
+pub record Evaluating {A : Type 0} (ofLeaf : Leaf → A) (ofNode : Operator → A → A → A) (names : Named) (ws : List ℕ)
+    (d : A) (array : List A) (top : A) (n i : ℕ) : Type 0 where
   pub few : n ≤ mostPending
   pub long : length array ≡ mostPending
-  pub midway : Midway ofLeaf ofNode rows ws (pendingIn d array top n) i
+  pub midway : Midway ofLeaf ofNode names ws (pendingIn d array top n) i
 
-module _ {A : Type 0} {ofLeaf : Leaf → A} {ofNode : Operator → A → A → A} {rows : ℕ} {ws : List ℕ} {d : A} where
-  pub evaluating-start : (array : List A) (top : A) → length array ≡ mostPending → treeRefusal rows ws ≡ 0 → Evaluating ofLeaf ofNode rows ws d array top 0 0
+module _ {A : Type 0} {ofLeaf : Leaf → A} {ofNode : Operator → A → A → A} {names : Named} {ws : List ℕ} {d : A} where
+  pub evaluating-start : (array : List A) (top : A) → length array ≡ mostPending → treeRefusal names ws ≡ 0 → Evaluating ofLeaf ofNode names ws d array top 0 0
   evaluating-start array top e accepted = record { few = omega arith; long = e; midway = midway-start accepted }
 
-  module _ {array : List A} {top : A} {n i : ℕ} (v : Evaluating ofLeaf ofNode rows ws d array top n i) where
+  module _ {array : List A} {top : A} {n i : ℕ} (v : Evaluating ofLeaf ofNode names ws d array top n i) where
     -- at the end exactly one is pending, and it is the meaning of the tree
-    pub evaluating-end : length ws ≤ i → top ≡ fold ofLeaf ofNode (treeOf rows ws)
+    pub evaluating-end : length ws ≤ i → top ≡ fold ofLeaf ofNode (treeOf names ws)
     evaluating-end h =
         let e = midway-end (v .midway) h in
         let one : n ≡ 1 = omega (arith, length-pending d array top n, ap length e) in
-        let f : pendingIn d array top 1 ≡ fold ofLeaf ofNode (treeOf rows ws) ∷ [] = rw one at e in
+        let f : pendingIn d array top 1 ≡ fold ofLeaf ofNode (treeOf names ws) ∷ [] = rw one at e in
         cc
 
     module _ (h : i < length ws) where
-      pub evaluating-leaf : isOperator (getD ws i 0) ≡ false → isLeaf rows (getD ws i 0) ≡ true
+      pub evaluating-leaf : isOperator (getD ws i 0) ≡ false → isLeaf names (getD ws i 0) ≡ true
       evaluating-leaf o = midway-leaf (v .midway) h o
 
       pub evaluating-room : isOperator (getD ws i 0) ≡ false → n < mostPending
       evaluating-room o = rw (length-pending d array top n) at (midway-room (v .midway) h o)
 
-      pub evaluating-push : isOperator (getD ws i 0) ≡ false → (x : A) → x ≡ ofLeaf (leafOf (getD ws i 0)) → Evaluating ofLeaf ofNode rows ws d (set array n top) x (n + 1) (i + 1)
+      pub evaluating-push : isOperator (getD ws i 0) ≡ false → (x : A) → x ≡ ofLeaf (leafOf (getD ws i 0)) →
+          Evaluating ofLeaf ofNode names ws d (set array n top) x (n + 1) (i + 1)
       evaluating-push o x e =
           let r = evaluating-room o in
           record {
@@ -123,7 +128,8 @@ module _ {A : Type 0} {ofLeaf : Leaf → A} {ofNode : Operator → A → A → A
       pub evaluating-two : isOperator (getD ws i 0) ≡ true → 2 ≤ n
       evaluating-two o = rw (length-pending d array top n) at (midway-two (v .midway) h o)
 
-      pub evaluating-join : isOperator (getD ws i 0) ≡ true → (x : A) → x ≡ ofNode (operatorOf (getD ws i 0)) (getD array (n - 1) d) top → Evaluating ofLeaf ofNode rows ws d array x (n - 1) (i + 1)
+      pub evaluating-join : isOperator (getD ws i 0) ≡ true → (x : A) → x ≡ ofNode (operatorOf (getD ws i 0)) (getD array (n - 1) d) top →
+          Evaluating ofLeaf ofNode names ws d array x (n - 1) (i + 1)
       evaluating-join o x e =
           let r = evaluating-two o in
           record {

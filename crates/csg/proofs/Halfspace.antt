@@ -1,29 +1,27 @@
 -- Halfspaces over blocks. Least, greatest and centre are differences of natural sums (`least-is`, `greatest-is`, `centre-is`), with the ends of
 -- the block exchanged between the two sums; all that marks tell follows by comparing these sums axis by axis.
 use Prim.Native.Nat.{ℕ, zero, suc, _+_, _*_, _≤_, _<_}
-use mathlib.Core.Path.{_≡_, refl, sym, ap, subst}
+use mathlib.Core.Path.{_≡_, refl, ap}
 use mathlib.Core.Bool.{Bool, true, false, not, cond}
 use mathlib.Core.List.{List}
 use native.Mathlib.Omega.{arith}
 use native.Mathlib.Nat.{mul-le-mul-left}
-use native.Mathlib.Decide.{ℕ-discrete, decLe}
 use lib.IntN.{ℤ, pos, negℤ, _+ℤ_, _*ℤ_}
-use lib.Signed.{_≤ℤ_, _<ℤ_, leZ, <ℤ-≤ℤ-trans}
-use lib.ListN.{length, getD, set}
-use lib.Seq.{getD-set-same, getD-set-other, set-out}
+use lib.Signed.{_≤ℤ_, _<ℤ_, leZ}
 use Rattle.lemmas.specs.Sums.{sum}
-use Rattle.lemmas.proofs.Whole.{up, dn, up-neg, dn-neg, one-part, Is, is-le, is-lt, is-eq, le-is, lt-is, is-nat, is-self, is-add, is-neg, is-mul, is-scale, leZ-true, leZ-false, le-leZ, lt-leZ}
+use Rattle.lemmas.proofs.Whole.{up, dn, up-neg, dn-neg, one-part, leZ-true, leZ-false, le-leZ, lt-leZ}
+use Rattle.lemmas.proofs.Whole.{Is, is-le, is-lt, is-eq, le-is, lt-is, is-nat, is-self, is-add, is-neg, is-mul, is-scale}
 use Rattle.lemmas.proofs.Sums.{sum-cong, sum-zero, total-cong}
-use Rattle.lemmas.proofs.Totals.{le-then-le, below-negated, negated-below, total-is, weighted-le, weighted-lt, weightless, centre-above, centre-below, centre-between}
+use Rattle.lemmas.proofs.Totals.{below-negated, negated-below, total-is, weighted-le, weighted-lt, weightless}
+use Rattle.lemmas.proofs.Totals.{centre-above, centre-below, centre-between}
 use Rattle.universe.specs.declared.Universe.{Universe}
 use Rattle.universe.specs.declared.Block.{Block}
-use Rattle.universe.specs.Universe.{levels, blockSide}
-use Rattle.universe.proofs.Universes.{side-positive, side-halved, side-kept}
-use Rattle.universe.specs.Block.{lowAlong, lengthAlong, axisOf, low, high}
+use Rattle.universe.specs.Block.{lowAlong, lengthAlong}
 use Rattle.universe.specs.Voxel.{placeAlong, Within}
 use Rattle.bintree.specs.declared.Colour.{Colour}
 use Rattle.bintree.specs.declared.Colour.the-variants.{White, Black}
-use Rattle.csg.specs.Halfspace.{Halfspace, Mark, decided, undecided, lesser, greater, corner, valueAt, centreValue, colourAtCentre, least, greatest, markOver, negated}
+use Rattle.csg.specs.Halfspace.{Halfspace, Mark, decided, undecided, corner, valueAt, centreValue, colourAtCentre}
+use Rattle.csg.specs.Halfspace.{lesser, greater, atLow, atHigh, least, greatest, markOver, negated}
 
 -- ---- values as differences of natural sums
 -- how many axes a block has, and its high end along axis i
@@ -47,7 +45,8 @@ unfoldable pub fall : Halfspace → ℕ → (ℕ → ℕ) → ℕ
 fall h d x = sum d (λ i. taken h i * x i)
 
 -- of a coefficient at two ends the lesser value has the low end where it adds, and the high end where it takes off; the greater the other way
-pub ends-are : (a : ℤ) (l e : ℕ) → l ≤ e → Is (lesser (a *ℤ pos l) (a *ℤ pos e)) (up a * l) (dn a * e) × Is (greater (a *ℤ pos l) (a *ℤ pos e)) (up a * e) (dn a * l)
+pub ends-are : (a : ℤ) (l e : ℕ) → l ≤ e →
+    Is (lesser (a *ℤ pos l) (a *ℤ pos e)) (up a * l) (dn a * e) × Is (greater (a *ℤ pos l) (a *ℤ pos e)) (up a * e) (dn a * l)
 ends-are a l e below = by (leZ (a *ℤ pos l) (a *ℤ pos e)) refl
   where
     at-low : Is (a *ℤ pos l) (up a * l) (dn a * l)
@@ -67,18 +66,34 @@ ends-are a l e below = by (leZ (a *ℤ pos l) (a *ℤ pos e)) refl
         (λ z. omega (arith, ap (λ (x : ℕ). x * l) z, ap (λ (x : ℕ). x * e) z, mul-le-mul-left (up a) below, lt-is at-end at-low t))
         (λ z. rw z (omega arith))
 
-    by : (t : Bool) → leZ (a *ℤ pos l) (a *ℤ pos e) ≡ t → Is (cond t (a *ℤ pos l) (a *ℤ pos e)) (up a * l) (dn a * e) × Is (cond t (a *ℤ pos e) (a *ℤ pos l)) (up a * e) (dn a * l)
-    by true t = (record { is = omega (arith, at-low .is, taken-alike (leZ-true _ _ t)) }, record { is = omega (arith, at-end .is, taken-alike (leZ-true _ _ t)) })
-    by false t = (record { is = omega (arith, at-end .is, added-alike (leZ-false _ _ t)) }, record { is = omega (arith, at-low .is, added-alike (leZ-false _ _ t)) })
+    by : (t : Bool) → leZ (a *ℤ pos l) (a *ℤ pos e) ≡ t →
+        Is (cond t (a *ℤ pos l) (a *ℤ pos e)) (up a * l) (dn a * e) × Is (cond t (a *ℤ pos e) (a *ℤ pos l)) (up a * e) (dn a * l)
+    by true t =
+        let same = taken-alike (leZ-true _ _ t) in
+        (record { is = omega (arith, at-low .is, same) }, record { is = omega (arith, at-end .is, same) })
+    by false t =
+        let same = added-alike (leZ-false _ _ t) in
+        (record { is = omega (arith, at-end .is, same) }, record { is = omega (arith, at-low .is, same) })
 
 pub value-is : (u : Universe) (h : Halfspace) (x : ℕ → ℕ) → Is (valueAt u h x) (up (h .offset) + rise h (u .axes) x) (dn (h .offset) + fall h (u .axes) x)
 unfolding valueAt rise fall
 value-is u h x = is-add (is-self (h .offset)) (total-is (u .axes) _ _ _ (λ i m. is-mul (is-self (h .coefficient i)) (x i)))
 
+-- twice the place of a voxel's centre along axis i
+abbrev middle : List ℕ → ℕ → ℕ
+middle v i = 2 * placeAlong v i + 1
+
 pub centre-is : (u : Universe) (h : Halfspace) (v : List ℕ) →
-    Is (centreValue u h v) (2 * up (h .offset) + rise h (u .axes) (λ i. 2 * placeAlong v i + 1)) (2 * dn (h .offset) + fall h (u .axes) (λ i. 2 * placeAlong v i + 1))
+    Is (centreValue u h v) (2 * up (h .offset) + rise h (u .axes) (middle v)) (2 * dn (h .offset) + fall h (u .axes) (middle v))
 unfolding centreValue rise fall
-centre-is u h v = is-add (is-scale 2 (is-self (h .offset))) (total-is (u .axes) _ _ _ (λ i m. is-mul (is-self (h .coefficient i)) (2 * placeAlong v i + 1)))
+centre-is u h v = is-add (is-scale 2 (is-self (h .offset))) (total-is (u .axes) _ _ _ (λ i m. is-mul (is-self (h .coefficient i)) (middle v i)))
+
+-- it depends on the voxel's places along the universe's axes
+pub centre-places : (u : Universe) (h : Halfspace) (v w : List ℕ) → ((i : ℕ) → i < u .axes → placeAlong v i ≡ placeAlong w i) →
+    centreValue u h v ≡ centreValue u h w
+unfolding centreValue
+centre-places u h v w same =
+    ap (λ z. pos 2 *ℤ h .offset +ℤ z) (total-cong (u .axes) _ _ (λ i l. ap (λ x. h .coefficient i *ℤ pos (2 * x + 1)) (same i l)))
 
 pub least-is : (h : Halfspace) (b : Block) →
     Is (least h b) (up (h .offset) + rise h (axesOf b) (lowAlong b)) (dn (h .offset) + fall h (axesOf b) (endAlong b))
@@ -103,12 +118,14 @@ module _ (h : Halfspace) (b : Block) where
   module _ (x : ℕ → ℕ) (above : (i : ℕ) → i < axesOf b → lowAlong b i ≤ x i) (below : (i : ℕ) → i < axesOf b → x i ≤ endAlong b i) where
     pub least-below : least h b ≤ℤ valueAt (b .universe) h x
     unfolding rise fall
-    least-below = is-le (least-is h b) (value-is (b .universe) h x)
+    least-below =
+        is-le (least-is h b) (value-is (b .universe) h x)
         (omega (arith, weighted-le (axesOf b) (added h) (lowAlong b) x above, weighted-le (axesOf b) (taken h) x (endAlong b) below))
 
     pub greatest-above : valueAt (b .universe) h x ≤ℤ greatest h b
     unfolding rise fall
-    greatest-above = is-le (value-is (b .universe) h x) (greatest-is h b)
+    greatest-above =
+        is-le (value-is (b .universe) h x) (greatest-is h b)
         (omega (arith, weighted-le (axesOf b) (added h) x (endAlong b) below, weighted-le (axesOf b) (taken h) (lowAlong b) x above))
 
   pub least-below-corners : (choice : ℕ → Bool) → least h b ≤ℤ valueAt (b .universe) h (corner b choice)
@@ -119,26 +136,27 @@ module _ (h : Halfspace) (b : Block) where
 
   -- whether along axis i the high end gives less than the low one
   falls : ℕ → Bool
-  falls i = not (leZ (h .coefficient i *ℤ pos (lowAlong b i)) (h .coefficient i *ℤ pos (endAlong b i)))
+  falls i = not (leZ (atLow h b i) (atHigh h b i))
 
   pub least-at-corner : (choice : ℕ → Bool) × (valueAt (b .universe) h (corner b choice) ≡ least h b)
   unfolding valueAt least falls
-  least-at-corner = (falls, ap (λ (t : ℤ). h .offset +ℤ t) (total-cong (axesOf b) _ _ (λ i m. by i (leZ (h .coefficient i *ℤ pos (lowAlong b i)) (h .coefficient i *ℤ pos (endAlong b i))))))
+  least-at-corner = (falls, ap (λ (t : ℤ). h .offset +ℤ t) (total-cong (axesOf b) _ _ (λ i m. by i (leZ (atLow h b i) (atHigh h b i)))))
     where
-      by : (i : ℕ) (t : Bool) → h .coefficient i *ℤ pos (cond (not t) (endAlong b i) (lowAlong b i)) ≡ cond t (h .coefficient i *ℤ pos (lowAlong b i)) (h .coefficient i *ℤ pos (endAlong b i))
+      by : (i : ℕ) (t : Bool) → h .coefficient i *ℤ pos (cond (not t) (endAlong b i) (lowAlong b i)) ≡ cond t (atLow h b i) (atHigh h b i)
       by i true = refl
       by i false = refl
 
   pub greatest-at-corner : (choice : ℕ → Bool) × (valueAt (b .universe) h (corner b choice) ≡ greatest h b)
   unfolding valueAt greatest falls
-  greatest-at-corner = ((λ i. not (falls i)), ap (λ (t : ℤ). h .offset +ℤ t) (total-cong (axesOf b) _ _ (λ i m. by i (leZ (h .coefficient i *ℤ pos (lowAlong b i)) (h .coefficient i *ℤ pos (endAlong b i))))))
+  greatest-at-corner =
+      ((λ i. not (falls i)), ap (λ (t : ℤ). h .offset +ℤ t) (total-cong (axesOf b) _ _ (λ i m. by i (leZ (atLow h b i) (atHigh h b i)))))
     where
-      by : (i : ℕ) (t : Bool) → h .coefficient i *ℤ pos (cond (not (not t)) (endAlong b i) (lowAlong b i)) ≡ cond t (h .coefficient i *ℤ pos (endAlong b i)) (h .coefficient i *ℤ pos (lowAlong b i))
+      by : (i : ℕ) (t : Bool) → h .coefficient i *ℤ pos (cond (not (not t)) (endAlong b i) (lowAlong b i)) ≡ cond t (atHigh h b i) (atLow h b i)
       by i true = refl
       by i false = refl
 
 -- ---- the slope: all coefficients' sizes together. Where it is 0 the value is the same everywhere, else it differs between ends
-unfoldable slope : Halfspace → ℕ → ℕ
+unfoldable pub slope : Halfspace → ℕ → ℕ
 slope h d = sum d (added h) + sum d (taken h)
 
 flat : (h : Halfspace) (d : ℕ) → slope h d ≡ 0 → (x : ℕ → ℕ) → (rise h d x ≡ 0) × (fall h d x ≡ 0)
@@ -146,7 +164,7 @@ unfolding slope rise fall
 flat h d e x = (weightless d (added h) x (omega arith), weightless d (taken h) x (omega arith))
 
 -- which of the two it is
-by-slope : (h : Halfspace) (d : ℕ) (G : Type 0) → (((x : ℕ → ℕ) → (rise h d x ≡ 0) × (fall h d x ≡ 0)) → G) → (0 < slope h d → G) → G
+pub by-slope : (h : Halfspace) (d : ℕ) (G : Type 0) → (((x : ℕ → ℕ) → (rise h d x ≡ 0) × (fall h d x ≡ 0)) → G) → (0 < slope h d → G) → G
 by-slope h d G f g = by (slope h d) refl
   where
     by : (n : ℕ) → slope h d ≡ n → G
@@ -154,7 +172,7 @@ by-slope h d G f g = by (slope h d) refl
     by (suc n) e = g (omega arith)
 
 -- a slope other than 0 parts the least value from the greatest
-parted : (h : Halfspace) (b : Block) → ((i : ℕ) → i < axesOf b → lowAlong b i < endAlong b i) → 0 < slope h (axesOf b) → least h b <ℤ greatest h b
+pub parted : (h : Halfspace) (b : Block) → ((i : ℕ) → i < axesOf b → lowAlong b i < endAlong b i) → 0 < slope h (axesOf b) → least h b <ℤ greatest h b
 unfolding slope rise fall
 parted h b long s = is-lt (least-is h b) (greatest-is h b)
     (omega (arith, weighted-lt (axesOf b) (added h) (lowAlong b) (endAlong b) long, weighted-lt (axesOf b) (taken h) (lowAlong b) (endAlong b) long))
@@ -162,17 +180,25 @@ parted h b long s = is-lt (least-is h b) (greatest-is h b)
 -- ---- the centres of the voxels in a block
 module _ (h : Halfspace) (b : Block) (v : List ℕ) (in-block : Within b v) where
   -- twice the value at a centre is by the slope above twice the least value, and as far below twice the greatest
-  centre-least : 2 * rise h (axesOf b) (lowAlong b) + slope h (axesOf b) + fall h (axesOf b) (λ i. 2 * placeAlong v i + 1)
-      ≤ rise h (axesOf b) (λ i. 2 * placeAlong v i + 1) + 2 * fall h (axesOf b) (endAlong b)
+  centre-least : 2 * rise h (axesOf b) (lowAlong b) + slope h (axesOf b) + fall h (axesOf b) (middle v)
+      ≤ rise h (axesOf b) (middle v) + 2 * fall h (axesOf b) (endAlong b)
   unfolding slope rise fall
   centre-least =
-      omega (arith, centre-above (axesOf b) (added h) (lowAlong b) (placeAlong v) (in-block .above), centre-below (axesOf b) (taken h) (placeAlong v) (endAlong b) (in-block .below))
+      omega (
+        arith,
+        centre-above (axesOf b) (added h) (lowAlong b) (placeAlong v) (in-block .above),
+        centre-below (axesOf b) (taken h) (placeAlong v) (endAlong b) (in-block .below),
+      )
 
-  centre-greatest : rise h (axesOf b) (λ i. 2 * placeAlong v i + 1) + slope h (axesOf b) + 2 * fall h (axesOf b) (lowAlong b)
-      ≤ 2 * rise h (axesOf b) (endAlong b) + fall h (axesOf b) (λ i. 2 * placeAlong v i + 1)
+  centre-greatest : rise h (axesOf b) (middle v) + slope h (axesOf b) + 2 * fall h (axesOf b) (lowAlong b)
+      ≤ 2 * rise h (axesOf b) (endAlong b) + fall h (axesOf b) (middle v)
   unfolding slope rise fall
   centre-greatest =
-      omega (arith, centre-below (axesOf b) (added h) (placeAlong v) (endAlong b) (in-block .below), centre-above (axesOf b) (taken h) (lowAlong b) (placeAlong v) (in-block .above))
+      omega (
+        arith,
+        centre-below (axesOf b) (added h) (placeAlong v) (endAlong b) (in-block .below),
+        centre-above (axesOf b) (taken h) (lowAlong b) (placeAlong v) (in-block .above),
+      )
 
   pub inside-sound : pos 0 ≤ℤ least h b → pos 0 ≤ℤ centreValue (b .universe) h v
   inside-sound m = is-le (is-nat 0) (centre-is (b .universe) h v) (omega (arith, le-is (is-nat 0) (least-is h b) m, centre-least))
@@ -181,14 +207,14 @@ module _ (h : Halfspace) (b : Block) (v : List ℕ) (in-block : Within b v) wher
   outside-sound m k =
       by-slope h (axesOf b) (centreValue (b .universe) h v <ℤ pos 0)
       (λ level. is-lt (centre-is (b .universe) h v) (is-nat 0)
-      (omega (arith, lt-is (least-is h b) (is-nat 0) k, level (lowAlong b), level (endAlong b), level (λ i. 2 * placeAlong v i + 1))))
+      (omega (arith, lt-is (least-is h b) (is-nat 0) k, level (lowAlong b), level (endAlong b), level (middle v))))
       (λ s. is-lt (centre-is (b .universe) h v) (is-nat 0) (omega (arith, le-is (greatest-is h b) (is-nat 0) m, centre-greatest)))
 
 -- ---- what a mark says of least and greatest, and the other way round
-data Judged (h : Halfspace) (b : Block) : Mark → Type 0 where
-  inside : pos 0 ≤ℤ least h b → Judged h b (decided Black)
-  outside : least h b <ℤ pos 0 → greatest h b ≤ℤ pos 0 → Judged h b (decided White)
-  across : least h b <ℤ pos 0 → pos 0 <ℤ greatest h b → Judged h b undecided
+data Marked (h : Halfspace) (b : Block) : Mark → Type 0 where
+  inside : pos 0 ≤ℤ least h b → Marked h b (decided Black)
+  outside : least h b <ℤ pos 0 → greatest h b ≤ℤ pos 0 → Marked h b (decided White)
+  across : least h b <ℤ pos 0 → pos 0 <ℤ greatest h b → Marked h b undecided
 
 module _ (h : Halfspace) (b : Block) where
   pub mark-black : pos 0 ≤ℤ least h b → markOver h b ≡ decided Black
@@ -203,32 +229,33 @@ module _ (h : Halfspace) (b : Block) where
   unfolding markOver
   mark-active k m = rw (lt-leZ k, lt-leZ m)
 
-  judged : Judged h b (markOver h b)
+  marked : Marked h b (markOver h b)
   unfolding markOver
-  judged = by (leZ (pos 0) (least h b)) refl (leZ (greatest h b) (pos 0)) refl
+  marked = by (leZ (pos 0) (least h b)) refl (leZ (greatest h b) (pos 0)) refl
     where
-      by : (s : Bool) → leZ (pos 0) (least h b) ≡ s → (t : Bool) → leZ (greatest h b) (pos 0) ≡ t → Judged h b (cond s (decided Black) (cond t (decided White) undecided))
+      by : (s : Bool) → leZ (pos 0) (least h b) ≡ s → (t : Bool) → leZ (greatest h b) (pos 0) ≡ t →
+          Marked h b (cond s (decided Black) (cond t (decided White) undecided))
       by true s t u = inside (leZ-true _ _ s)
       by false s true u = outside (leZ-false _ _ s) (leZ-true _ _ u)
       by false s false u = across (leZ-false _ _ s) (leZ-false _ _ u)
 
   pub black-means : markOver h b ≡ decided Black → pos 0 ≤ℤ least h b
-  black-means e = by (rw e at judged)
+  black-means e = by (rw e at marked)
     where
-      by : Judged h b (decided Black) → pos 0 ≤ℤ least h b
+      by : Marked h b (decided Black) → pos 0 ≤ℤ least h b
       by (inside m) = m
 
   pub white-means : markOver h b ≡ decided White → (least h b <ℤ pos 0) × (greatest h b ≤ℤ pos 0)
-  white-means e = by (rw e at judged)
+  white-means e = by (rw e at marked)
     where
-      by : Judged h b (decided White) → (least h b <ℤ pos 0) × (greatest h b ≤ℤ pos 0)
+      by : Marked h b (decided White) → (least h b <ℤ pos 0) × (greatest h b ≤ℤ pos 0)
       by (outside k m) = (k, m)
 
   -- an active leaf crosses
   pub active-crosses : markOver h b ≡ undecided → (least h b <ℤ pos 0) × (pos 0 <ℤ greatest h b)
-  active-crosses e = by (rw e at judged)
+  active-crosses e = by (rw e at marked)
     where
-      by : Judged h b undecided → (least h b <ℤ pos 0) × (pos 0 <ℤ greatest h b)
+      by : Marked h b undecided → (least h b <ℤ pos 0) × (pos 0 <ℤ greatest h b)
       by (across k m) = (k, m)
 
   -- a decided leaf has its colour at every centre in the block
@@ -237,98 +264,20 @@ module _ (h : Halfspace) (b : Block) where
   mark-sound Black v e w = rw (le-leZ (inside-sound h b v w (black-means e)))
   mark-sound White v e w = rw (lt-leZ (outside-sound h b v w (white-means e .1) (white-means e .0)))
 
--- ---- in a part of a block least only grows and greatest only falls
--- the block c is a part of the block b
-pub record Nested (c b : Block) : Type 0 where
-  pub axes : axesOf c ≡ axesOf b
-  pub above : (i : ℕ) → i < axesOf b → lowAlong b i ≤ lowAlong c i
-  pub below : (i : ℕ) → i < axesOf b → endAlong c i ≤ endAlong b i
-
-module _ (h : Halfspace) (c b : Block) (nested : Nested c b) where
-  least-is-in : Is (least h c) (up (h .offset) + rise h (axesOf b) (lowAlong c)) (dn (h .offset) + fall h (axesOf b) (endAlong c))
-  least-is-in = subst (λ (d : ℕ). Is (least h c) (up (h .offset) + rise h d (lowAlong c)) (dn (h .offset) + fall h d (endAlong c))) (nested .axes) (least-is h c)
-
-  greatest-is-in : Is (greatest h c) (up (h .offset) + rise h (axesOf b) (endAlong c)) (dn (h .offset) + fall h (axesOf b) (lowAlong c))
-  greatest-is-in = subst (λ (d : ℕ). Is (greatest h c) (up (h .offset) + rise h d (endAlong c)) (dn (h .offset) + fall h d (lowAlong c))) (nested .axes) (greatest-is h c)
-
-  pub least-grows : least h b ≤ℤ least h c
-  unfolding rise fall
-  least-grows = is-le (least-is h b) least-is-in
-      (omega (arith, weighted-le (axesOf b) (added h) (lowAlong b) (lowAlong c) (nested .above), weighted-le (axesOf b) (taken h) (endAlong c) (endAlong b) (nested .below)))
-
-  pub greatest-falls : greatest h c ≤ℤ greatest h b
-  unfolding rise fall
-  greatest-falls = is-le greatest-is-in (greatest-is h b)
-      (omega (arith, weighted-le (axesOf b) (added h) (endAlong c) (endAlong b) (nested .below), weighted-le (axesOf b) (taken h) (lowAlong b) (lowAlong c) (nested .above)))
-
-  -- outside stays outside: with no slope the value is one everywhere, and with a slope least is below greatest
-  outside-stays : greatest h b ≤ℤ pos 0 → least h b <ℤ pos 0 → least h c <ℤ pos 0
-  outside-stays m k =
-      by-slope h (axesOf b) (least h c <ℤ pos 0)
-      (λ level. is-lt least-is-in (is-nat 0) (omega (arith, lt-is (least-is h b) (is-nat 0) k, level (lowAlong b), level (endAlong b), level (lowAlong c), level (endAlong c))))
-      (λ s. <ℤ-≤ℤ-trans
-      (parted h c (λ i l. omega (arith, side-positive (c .universe) (c .level) i)) (subst (λ (d : ℕ). 0 < slope h d) (sym (nested .axes)) s))
-      (le-then-le greatest-falls m))
-
-  pub mark-nested : (colour : Colour) → markOver h b ≡ decided colour → markOver h c ≡ decided colour
-  mark-nested Black e = mark-black h c (le-then-le (black-means h b e) least-grows)
-  mark-nested White e =
-      let m = white-means h b e in
-      mark-white h c (outside-stays (m .1) (m .0)) (le-then-le greatest-falls (m .1))
-
--- ---- the halves of a block are parts of it
-some-axes : (axes bits l : ℕ) → l < axes * bits → 0 < axes
-some-axes zero bits l h = absurd (omega arith)
-some-axes (suc axes) bits l h = omega arith
-
--- a place of a list made greater by x, or left where the list has no such place
-raised : (s : List ℕ) (a x : ℕ) → (getD s a 0 ≤ getD (set s a (getD s a 0 + x)) a 0) × (getD (set s a (getD s a 0 + x)) a 0 ≤ getD s a 0 + x)
-raised s a x = by (decLe (suc a) (length s))
-  where
-    by : Dec (a < length s) → (getD s a 0 ≤ getD (set s a (getD s a 0 + x)) a 0) × (getD (set s a (getD s a 0 + x)) a 0 ≤ getD s a 0 + x)
-    by (yes l) = rw (getD-set-same s a (getD s a 0 + x) 0 l) (omega arith, omega arith)
-    by (no l) = rw (set-out s a (getD s a 0 + x) (omega arith)) (omega arith, omega arith)
-
-module _ (b : Block) (l : b .level < levels (b .universe)) where
-  halved : blockSide (b .universe) (b .level) (axisOf b) ≡ 2 * blockSide (b .universe) (suc (b .level)) (axisOf b)
-  halved = side-halved (b .universe) (some-axes (axesOf b) (b .universe .bits) (b .level) l) (b .level) l
-
-  pub low-nested : Nested (low b) b
-  low-nested = record { axes = refl; above = λ i m. omega arith; below = λ i m. by i (ℕ-discrete (axisOf b) i) }
-    where
-      by : (i : ℕ) → Dec (axisOf b ≡ i) → endAlong (low b) i ≤ endAlong b i
-      by i (yes e) = subst (λ (j : ℕ). endAlong (low b) j ≤ endAlong b j) e (omega (arith, halved))
-      by i (no n) = omega (arith, side-kept (b .universe) (b .level) i n)
-
-  pub high-nested : Nested (high b) b
-  high-nested = record { axes = refl; above = λ i m. by i (ℕ-discrete (axisOf b) i) .0; below = λ i m. by i (ℕ-discrete (axisOf b) i) .1 }
-    where
-      half : ℕ
-      half = blockSide (b .universe) (suc (b .level)) (axisOf b)
-
-      by : (i : ℕ) → Dec (axisOf b ≡ i) → (lowAlong b i ≤ lowAlong (high b) i) × (endAlong (high b) i ≤ endAlong b i)
-      by i (yes e) =
-          subst (λ (j : ℕ). (lowAlong b j ≤ lowAlong (high b) j) × (endAlong (high b) j ≤ endAlong b j)) e
-          (let r = raised (b .low) (axisOf b) half in (r .0, omega (arith, halved, r .1)))
-      by i (no n) =
-          let same : lowAlong (high b) i ≡ lowAlong b i = getD-set-other (b .low) (axisOf b) i (lowAlong b (axisOf b) + half) 0 (λ e. n (sym e)) in
-          (omega arith, omega (arith, side-kept (b .universe) (b .level) i n))
-
-module _ (h : Halfspace) (b : Block) (l : b .level < levels (b .universe)) where
-  pub least-persistent : (least h b ≤ℤ least h (low b)) × (least h b ≤ℤ least h (high b))
-  least-persistent = (least-grows h (low b) b (low-nested b l), least-grows h (high b) b (high-nested b l))
-
-  pub greatest-persistent : (greatest h (low b) ≤ℤ greatest h b) × (greatest h (high b) ≤ℤ greatest h b)
-  greatest-persistent = (greatest-falls h (low b) b (low-nested b l), greatest-falls h (high b) b (high-nested b l))
-
-  pub mark-persistent : (c : Colour) → markOver h b ≡ decided c → (markOver h (low b) ≡ decided c) × (markOver h (high b) ≡ decided c)
-  mark-persistent c e = (mark-nested h (low b) b (low-nested b l) c e, mark-nested h (high b) b (high-nested b l) c e)
-
 -- ---- over a voxel's block least and greatest together are twice the value at its centre
-pub voxel-sum : (h : Halfspace) (b : Block) → ((i : ℕ) → i < axesOf b → lengthAlong b i ≡ 1) → least h b +ℤ greatest h b ≡ centreValue (b .universe) h (b .low)
+pub voxel-sum : (h : Halfspace) (b : Block) → ((i : ℕ) → i < axesOf b → lengthAlong b i ≡ 1) →
+    least h b +ℤ greatest h b ≡ centreValue (b .universe) h (b .low)
 unfolding rise fall
-voxel-sum h b one = is-eq (is-add (least-is h b) (greatest-is h b)) (centre-is (b .universe) h (b .low))
-    (omega (arith, centre-between (axesOf b) (added h) (lowAlong b) (endAlong b) (λ i m. ap (λ (t : ℕ). lowAlong b i + t) (one i m)), centre-between (axesOf b) (taken h) (lowAlong b) (endAlong b) (λ i m. ap (λ (t : ℕ). lowAlong b i + t) (one i m))))
+voxel-sum h b one =
+    is-eq (is-add (least-is h b) (greatest-is h b)) (centre-is (b .universe) h (b .low))
+    (omega (
+      arith,
+      centre-between (axesOf b) (added h) (lowAlong b) (endAlong b) next,
+      centre-between (axesOf b) (taken h) (lowAlong b) (endAlong b) next,
+    ))
+  where
+    next : (i : ℕ) → i < axesOf b → endAlong b i ≡ lowAlong b i + 1
+    next i m = ap (λ (t : ℕ). lowAlong b i + t) (one i m)
 
 -- ---- a reversed halfspace: what adds takes off, and the other way round
 module _ (h : Halfspace) where
@@ -341,19 +290,23 @@ module _ (h : Halfspace) where
   fall-negated d x = sum-cong d _ _ (λ i m. ap (λ (t : ℕ). t * x i) (dn-neg (h .coefficient i)))
 
   pub least-negated : (b : Block) → least (negated h) b ≡ negℤ (greatest h b)
-  least-negated b = is-eq (least-is (negated h) b) (is-neg (greatest-is h b))
+  least-negated b =
+      is-eq (least-is (negated h) b) (is-neg (greatest-is h b))
       (omega (arith, up-neg (h .offset), dn-neg (h .offset), rise-negated (axesOf b) (lowAlong b), fall-negated (axesOf b) (endAlong b)))
 
   pub greatest-negated : (b : Block) → greatest (negated h) b ≡ negℤ (least h b)
-  greatest-negated b = is-eq (greatest-is (negated h) b) (is-neg (least-is h b))
+  greatest-negated b =
+      is-eq (greatest-is (negated h) b) (is-neg (least-is h b))
       (omega (arith, up-neg (h .offset), dn-neg (h .offset), rise-negated (axesOf b) (endAlong b), fall-negated (axesOf b) (lowAlong b)))
 
   pub centre-negated : (u : Universe) (v : List ℕ) → centreValue u (negated h) v ≡ negℤ (centreValue u h v)
-  centre-negated u v = is-eq (centre-is u (negated h) v) (is-neg (centre-is u h v))
-      (omega (arith, up-neg (h .offset), dn-neg (h .offset), rise-negated (u .axes) (λ i. 2 * placeAlong v i + 1), fall-negated (u .axes) (λ i. 2 * placeAlong v i + 1)))
+  centre-negated u v =
+      is-eq (centre-is u (negated h) v) (is-neg (centre-is u h v))
+      (omega (arith, up-neg (h .offset), dn-neg (h .offset), rise-negated (u .axes) (middle v), fall-negated (u .axes) (middle v)))
 
   -- reversed, a leaf is BLACK where max ≤ 0, otherwise WHITE where min ≥ 0, otherwise active
-  pub negated-marks : (b : Block) → markOver (negated h) b ≡ cond (leZ (greatest h b) (pos 0)) (decided Black) (cond (leZ (pos 0) (least h b)) (decided White) undecided)
+  pub negated-marks : (b : Block) →
+      markOver (negated h) b ≡ cond (leZ (greatest h b) (pos 0)) (decided Black) (cond (leZ (pos 0) (least h b)) (decided White) undecided)
   unfolding markOver
   negated-marks b = rw (least-negated b, greatest-negated b, below-negated (greatest h b), negated-below (least h b))
 
@@ -369,5 +322,7 @@ module _ (h : Halfspace) (b : Block) (no-offset : h .offset ≡ pos 0) (no-slope
       let level = flat h (axesOf b) zero-slope in
       is-le (is-nat 0) (least-is h b) (omega (arith, ap dn no-offset, level (lowAlong b), level (endAlong b)))
 
-pub zero-black : (h : Halfspace) (b : Block) → h .offset ≡ pos 0 → ((i : ℕ) → i < axesOf b → h .coefficient i ≡ pos 0) → (markOver h b ≡ decided Black) × (markOver (negated h) b ≡ decided Black)
-zero-black h b e z = (mark-black h b (zero-least h b e z), mark-black (negated h) b (zero-least (negated h) b (ap negℤ e) (λ i m. ap negℤ (z i m))))
+pub zero-black : (h : Halfspace) (b : Block) → h .offset ≡ pos 0 → ((i : ℕ) → i < axesOf b → h .coefficient i ≡ pos 0) →
+    (markOver h b ≡ decided Black) × (markOver (negated h) b ≡ decided Black)
+zero-black h b e z =
+    (mark-black h b (zero-least h b e z), mark-black (negated h) b (zero-least (negated h) b (ap negℤ e) (λ i m. ap negℤ (z i m))))

@@ -1,8 +1,10 @@
 -- Laws of the definitions.
 pub mod Halfspace
+pub mod Nested
 pub mod Rows
 pub mod Tree
 pub mod Words
+pub mod Checking
 pub mod Evaluation
 pub mod Marks
 pub mod Raw

@@ -1,34 +1,44 @@
 -- Marks of trees over blocks. A mark follows another where it is decided with the same colour as soon as the other is. UNION and INTERSECTION
 -- keep that, so it holds of a tree because it holds of its leaves: of the marks over a part of the block, and of the colours at its centres.
--- Of halfspaces only `leaf-sound`, `leaf-persistent` and, where a tree is undecided, the mark of a leaf are used.
+-- Of surfaces only `surface-sound`, `surface-persistent` and `surface-places` are used.
 use Prim.Native.Nat.{ℕ, _<_}
-use mathlib.Core.Path.{_≡_, refl, ap, _∙_}
+use mathlib.Core.Path.{_≡_, refl, ap, ap₂, _∙_}
 use mathlib.Core.Bool.{Bool}
 use mathlib.Core.Logic.{_⊎_, inl, inr, ⊎-elim}
 use mathlib.Core.List.{List}
 use native.Mathlib.Omega.{arith}
-use lib.IntN.{ℤ}
+use Rattle.universe.specs.declared.Universe.{Universe}
 use Rattle.universe.specs.declared.Block.{Block}
 use Rattle.universe.specs.Universe.{levels}
 use Rattle.universe.specs.Block.{low, high}
-use Rattle.universe.specs.Voxel.{Within}
+use Rattle.universe.specs.Voxel.{placeAlong, Within}
 use Rattle.bintree.specs.declared.Colour.{Colour}
 use Rattle.bintree.specs.declared.Colour.the-variants.{White, Black}
-use Rattle.csg.specs.Halfspace.{Mark, decided, undecided}
+use Rattle.csg.specs.Halfspace.{Mark, decided, undecided, colourAtCentre}
+use Rattle.csg.specs.Surfaces.{Surfaces, Surface, halfspace}
 use Rattle.csg.specs.Tree.{Plain, colour, side, unionOf, intersectionOf}
-use Rattle.csg.specs.Marks.{unionMark, intersectionMark, unionColour, intersectionColour, standing, leafMark, leafColour, plainMark, plainColour}
-use Rattle.csg.proofs.Halfspace.{Nested, low-nested, high-nested, mark-sound, mark-nested}
+use Rattle.csg.specs.Marks.{unionMark, intersectionMark, unionColour, intersectionColour}
+use Rattle.csg.specs.Marks.{turnedRow, surfaceMark, surfaceColour, plainMark, plainColour}
+use Rattle.csg.proofs.Halfspace.{mark-sound, centre-places}
+use Rattle.csg.proofs.Nested.{Nested, low-nested, high-nested, mark-nested}
 use Rattle.csg.proofs.Tree.{HasSide, itself, union-first, union-second, intersection-first, intersection-second}
 
--- ---- leaves
-module _ (rows : List ℤ) (turned : Bool) (i : ℕ) where
-  pub leaf-sound : (b : Block) (c : Colour) (v : List ℕ) → leafMark rows turned i b ≡ decided c → Within b v → leafColour rows (b .universe) turned i v ≡ c
-  unfolding leafMark leafColour
-  leaf-sound b = mark-sound (standing rows turned i) b
+-- ---- surfaces: a decided one has its colour at every centre in the block, and stays decided in every part of the block; at a centre its colour
+-- depends on the voxel's places along the universe's axes
+pub surface-sound : (surfaces : Surfaces) (turned : Bool) (s : Surface) (b : Block) (c : Colour) (v : List ℕ) →
+    surfaceMark surfaces turned s b ≡ decided c → Within b v → surfaceColour surfaces (b .universe) turned s v ≡ c
+unfolding surfaceMark surfaceColour
+surface-sound surfaces turned (halfspace i) b = mark-sound (turnedRow (surfaces .rows) turned i) b
 
-  pub leaf-persistent : (b part : Block) → Nested part b → (c : Colour) → leafMark rows turned i b ≡ decided c → leafMark rows turned i part ≡ decided c
-  unfolding leafMark
-  leaf-persistent b part = mark-nested (standing rows turned i) part b
+pub surface-persistent : (surfaces : Surfaces) (turned : Bool) (s : Surface) (b part : Block) → Nested part b → (c : Colour) →
+    surfaceMark surfaces turned s b ≡ decided c → surfaceMark surfaces turned s part ≡ decided c
+unfolding surfaceMark
+surface-persistent surfaces turned (halfspace i) b part = mark-nested (turnedRow (surfaces .rows) turned i) part b
+
+pub surface-places : (surfaces : Surfaces) (u : Universe) (turned : Bool) (s : Surface) (v w : List ℕ) →
+    ((i : ℕ) → i < u .axes → placeAlong v i ≡ placeAlong w i) → surfaceColour surfaces u turned s v ≡ surfaceColour surfaces u turned s w
+unfolding surfaceColour colourAtCentre
+surface-places surfaces u turned (halfspace i) v w same = rw (centre-places u (turnedRow (surfaces .rows) turned i) v w same)
 
 -- ---- one mark, n, follows another, m
 pub record Follows (m n : Mark) : Type 0 where
@@ -95,44 +105,67 @@ intersection-undecided (decided Black) n e = inr e
 intersection-undecided undecided n e = inl refl
 
 -- a leaf of a plain tree that is active over a block
-pub record ActiveLeaf (rows : List ℤ) (p : Plain) (b : Block) : Type 0 where
+pub record ActiveLeaf (surfaces : Surfaces) (p : Plain) (b : Block) : Type 0 where
   pub turned : Bool
-  pub index : ℕ
-  pub stands : HasSide p turned index
-  pub active : leafMark rows turned index b ≡ undecided
+  pub leaf : Surface
+  pub stands : HasSide p turned leaf
+  pub active : surfaceMark surfaces turned leaf b ≡ undecided
 
-moved : {rows : List ℤ} {p q : Plain} {b : Block} → ((turned : Bool) (i : ℕ) → HasSide p turned i → HasSide q turned i) → ActiveLeaf rows p b → ActiveLeaf rows q b
-moved f o = record { turned = o .turned; index = o .index; stands = f (o .turned) (o .index) (o .stands); active = o .active }
+of-son : {surfaces : Surfaces} {p q : Plain} {b : Block} → ((turned : Bool) (s : Surface) → HasSide p turned s → HasSide q turned s) →
+    ActiveLeaf surfaces p b → ActiveLeaf surfaces q b
+of-son f o = record { turned = o .turned; leaf = o .leaf; stands = f (o .turned) (o .leaf) (o .stands); active = o .active }
 
 -- ---- trees
-module _ (rows : List ℤ) where
+module _ (surfaces : Surfaces) where
   -- the colours at the centres in a block follow a tree's mark over it
-  sound : (p : Plain) (b : Block) (v : List ℕ) → Within b v → Follows (plainMark rows p b) (decided (plainColour rows (b .universe) p v))
+  sound : (p : Plain) (b : Block) (v : List ℕ) → Within b v → Follows (plainMark surfaces p b) (decided (plainColour surfaces (b .universe) p v))
   unfolding plainMark plainColour
   sound (colour c) b v w = record { same = λ d e. e }
-  sound (side turned i) b v w = record { same = λ d e. ap decided (leaf-sound rows turned i b d v e w) }
-  sound (unionOf s t) b v w = rw (← union-colours (plainColour rows (b .universe) s v) (plainColour rows (b .universe) t v)) (union-follows _ _ _ _ (sound s b v w) (sound t b v w))
-  sound (intersectionOf s t) b v w = rw (← intersection-colours (plainColour rows (b .universe) s v) (plainColour rows (b .universe) t v)) (intersection-follows _ _ _ _ (sound s b v w) (sound t b v w))
+  sound (side turned s) b v w = record { same = λ d e. ap decided (surface-sound surfaces turned s b d v e w) }
+  sound (unionOf p q) b v w =
+      rw (← union-colours (plainColour surfaces (b .universe) p v) (plainColour surfaces (b .universe) q v))
+      (union-follows _ _ _ _ (sound p b v w) (sound q b v w))
+  sound (intersectionOf p q) b v w =
+      rw (← intersection-colours (plainColour surfaces (b .universe) p v) (plainColour surfaces (b .universe) q v))
+      (intersection-follows _ _ _ _ (sound p b v w) (sound q b v w))
 
-  pub tree-sound : (p : Plain) (b : Block) (c : Colour) (v : List ℕ) → plainMark rows p b ≡ decided c → Within b v → plainColour rows (b .universe) p v ≡ c
-  tree-sound p b c v e w = let f : decided (plainColour rows (b .universe) p v) ≡ decided c = sound p b v w .same c e in cc
+  pub tree-sound : (p : Plain) (b : Block) (c : Colour) (v : List ℕ) →
+      plainMark surfaces p b ≡ decided c → Within b v → plainColour surfaces (b .universe) p v ≡ c
+  tree-sound p b c v e w = let f : decided (plainColour surfaces (b .universe) p v) ≡ decided c = sound p b v w .same c e in cc
 
   -- a tree's mark over a part of a block follows that over the block
-  pub tree-nested : (p : Plain) (b part : Block) → Nested part b → Follows (plainMark rows p b) (plainMark rows p part)
+  pub tree-nested : (p : Plain) (b part : Block) → Nested part b → Follows (plainMark surfaces p b) (plainMark surfaces p part)
   unfolding plainMark
   tree-nested (colour c) b part n = record { same = λ d e. e }
-  tree-nested (side turned i) b part n = record { same = leaf-persistent rows turned i b part n }
-  tree-nested (unionOf s t) b part n = union-follows _ _ _ _ (tree-nested s b part n) (tree-nested t b part n)
-  tree-nested (intersectionOf s t) b part n = intersection-follows _ _ _ _ (tree-nested s b part n) (tree-nested t b part n)
+  tree-nested (side turned s) b part n = record { same = surface-persistent surfaces turned s b part n }
+  tree-nested (unionOf p q) b part n = union-follows _ _ _ _ (tree-nested p b part n) (tree-nested q b part n)
+  tree-nested (intersectionOf p q) b part n = intersection-follows _ _ _ _ (tree-nested p b part n) (tree-nested q b part n)
 
-  pub tree-persistent : (p : Plain) (b : Block) → b .level < levels (b .universe) → (c : Colour) → plainMark rows p b ≡ decided c → (plainMark rows p (low b) ≡ decided c) × (plainMark rows p (high b) ≡ decided c)
+  pub tree-persistent : (p : Plain) (b : Block) → b .level < levels (b .universe) → (c : Colour) → plainMark surfaces p b ≡ decided c →
+      (plainMark surfaces p (low b) ≡ decided c) × (plainMark surfaces p (high b) ≡ decided c)
   tree-persistent p b l c e = (tree-nested p b (low b) (low-nested b l) .same c e, tree-nested p b (high b) (high-nested b l) .same c e)
 
+  -- at a centre a tree's colour depends on the voxel's places along the universe's axes
+  pub tree-places : (u : Universe) (p : Plain) (v w : List ℕ) → ((i : ℕ) → i < u .axes → placeAlong v i ≡ placeAlong w i) →
+      plainColour surfaces u p v ≡ plainColour surfaces u p w
+  unfolding plainColour
+  tree-places u (colour c) v w same = refl
+  tree-places u (side turned s) v w same = surface-places surfaces u turned s v w same
+  tree-places u (unionOf p q) v w same = ap₂ unionColour (tree-places u p v w same) (tree-places u q v w same)
+  tree-places u (intersectionOf p q) v w same = ap₂ intersectionColour (tree-places u p v w same) (tree-places u q v w same)
+
   -- an undecided tree has an active leaf
-  pub open-leaf : (p : Plain) (b : Block) → plainMark rows p b ≡ undecided → ActiveLeaf rows p b
+  pub open-leaf : (p : Plain) (b : Block) → plainMark surfaces p b ≡ undecided → ActiveLeaf surfaces p b
   unfolding plainMark
   open-leaf (colour c) b e = let z : _≡_ {A = ℕ} 0 1 = cc in absurd (omega arith)
-  open-leaf (side turned i) b e = record { turned = turned; index = i; stands = itself; active = e }
-  open-leaf (unionOf s t) b e = ⊎-elim (λ f. moved (λ o i. union-first) (open-leaf s b f)) (λ f. moved (λ o i. union-second) (open-leaf t b f)) (union-undecided (plainMark rows s b) (plainMark rows t b) e)
-  open-leaf (intersectionOf s t) b e =
-      ⊎-elim (λ f. moved (λ o i. intersection-first) (open-leaf s b f)) (λ f. moved (λ o i. intersection-second) (open-leaf t b f)) (intersection-undecided (plainMark rows s b) (plainMark rows t b) e)
+  open-leaf (side turned s) b e = record { turned = turned; leaf = s; stands = itself; active = e }
+  open-leaf (unionOf p q) b e =
+      ⊎-elim
+      (λ f. of-son (λ turned s. union-first) (open-leaf p b f))
+      (λ f. of-son (λ turned s. union-second) (open-leaf q b f))
+      (union-undecided (plainMark surfaces p b) (plainMark surfaces q b) e)
+  open-leaf (intersectionOf p q) b e =
+      ⊎-elim
+      (λ f. of-son (λ turned s. intersection-first) (open-leaf p b f))
+      (λ f. of-son (λ turned s. intersection-second) (open-leaf q b f))
+      (intersection-undecided (plainMark surfaces p b) (plainMark surfaces q b) e)

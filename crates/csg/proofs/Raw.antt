@@ -2,60 +2,63 @@
 -- Both by induction on the levels left, the block's mark decided or not.
 use Prim.Native.Nat.{ℕ, zero, suc, _+_, _≤_}
 use mathlib.Core.Path.{_≡_, refl}
-use mathlib.Core.List.{List}
 use native.Mathlib.Omega.{arith}
-use lib.IntN.{ℤ}
 use lib.ListN.{length, length-append}
 use Rattle.universe.specs.declared.Block.{Block}
 use Rattle.universe.specs.Block.{low, high}
 use Rattle.bintree.specs.declared.Colour.{Colour}
 use Rattle.bintree.specs.Shape.{leaf, halved, symbols, depth}
 use Rattle.csg.specs.Halfspace.{Mark, decided, undecided}
+use Rattle.csg.specs.Surfaces.{Surfaces}
 use Rattle.csg.specs.Tree.{Tree}
 use Rattle.csg.specs.Marks.{treeMark, treeColour}
 use Rattle.csg.specs.Raw.{examine, examined}
 
-module _ (rows : List ℤ) (t : Tree) where
+module _ (surfaces : Surfaces) (t : Tree) where
   -- a decided block is one symbol
-  pub examine-decided : (n : ℕ) (b : Block) (c : Colour) → treeMark rows t b ≡ decided c → examine rows t n b ≡ leaf c
+  pub examine-decided : (n : ℕ) (b : Block) (c : Colour) → treeMark surfaces t b ≡ decided c → examine surfaces t n b ≡ leaf c
   unfolding examine
   examine-decided zero b c e = rw (examine, e)
   examine-decided (suc n) b c e = rw (examine, e)
 
   -- an undecided one is halved, but at the last level, where it has the colour at its centre
-  pub examine-undecided : (n : ℕ) (b : Block) → treeMark rows t b ≡ undecided → examine rows t (suc n) b ≡ halved (examine rows t n (low b)) (examine rows t n (high b))
+  pub examine-undecided : (n : ℕ) (b : Block) → treeMark surfaces t b ≡ undecided →
+      examine surfaces t (suc n) b ≡ halved (examine surfaces t n (low b)) (examine surfaces t n (high b))
   unfolding examine
   examine-undecided n b e = rw (examine, e)
 
-  pub examine-voxel : (b : Block) → treeMark rows t b ≡ undecided → examine rows t 0 b ≡ leaf (treeColour rows (b .universe) t (b .low))
+  pub examine-voxel : (b : Block) → treeMark surfaces t b ≡ undecided → examine surfaces t 0 b ≡ leaf (treeColour surfaces (b .universe) t (b .low))
   unfolding examine
   examine-voxel b e = rw (examine, e)
 
   -- with no levels left there is one symbol
-  pub one-symbol : (b : Block) → (c : Colour) × (examine rows t 0 b ≡ leaf c)
+  pub one-symbol : (b : Block) → (c : Colour) × (examine surfaces t 0 b ≡ leaf c)
   unfolding examine
-  one-symbol b = by (treeMark rows t b)
+  one-symbol b = by (treeMark surfaces t b)
     where
-      by : (m : Mark) → (c : Colour) × (elim m [ decided c ↦ leaf c | undecided ↦ leaf (treeColour rows (b .universe) t (b .low)) ] ≡ leaf c)
+      by : (m : Mark) → (c : Colour) × (elim m [ decided c ↦ leaf c | undecided ↦ leaf (treeColour surfaces (b .universe) t (b .low)) ] ≡ leaf c)
       by (decided c) = (c, refl)
-      by undecided = (treeColour rows (b .universe) t (b .low), refl)
+      by undecided = (treeColour surfaces (b .universe) t (b .low), refl)
 
-  pub examine-depth : (n : ℕ) (b : Block) → depth (examine rows t n b) ≤ n
+  pub examine-depth : (n : ℕ) (b : Block) → depth (examine surfaces t n b) ≤ n
   unfolding examine depth
   examine-depth zero b = rw (one-symbol b .1) (omega arith)
-  examine-depth (suc n) b = by (treeMark rows t b) (examine-depth n (low b)) (examine-depth n (high b))
+  examine-depth (suc n) b = by (treeMark surfaces t b) (examine-depth n (low b)) (examine-depth n (high b))
     where
-      by : (m : Mark) → depth (examine rows t n (low b)) ≤ n → depth (examine rows t n (high b)) ≤ n →
-          depth (elim m [ decided c ↦ leaf c | undecided ↦ halved (examine rows t n (low b)) (examine rows t n (high b)) ]) ≤ suc n
+      by : (m : Mark) → depth (examine surfaces t n (low b)) ≤ n → depth (examine surfaces t n (high b)) ≤ n →
+          depth (elim m [ decided c ↦ leaf c | undecided ↦ halved (examine surfaces t n (low b)) (examine surfaces t n (high b)) ]) ≤ suc n
       by (decided c) f g = omega arith
       by undecided f g = omega arith
 
-  pub raw-length : (n : ℕ) (b : Block) → length (symbols (examine rows t n b)) ≡ examined rows t n b
+  pub raw-length : (n : ℕ) (b : Block) → length (symbols (examine surfaces t n b)) ≡ examined surfaces t n b
   unfolding examine examined symbols
   raw-length zero b = rw (one-symbol b .1)
-  raw-length (suc n) b = by (treeMark rows t b) (raw-length n (low b)) (raw-length n (high b))
+  raw-length (suc n) b = by (treeMark surfaces t b) (raw-length n (low b)) (raw-length n (high b))
     where
-      by : (m : Mark) → length (symbols (examine rows t n (low b))) ≡ examined rows t n (low b) → length (symbols (examine rows t n (high b))) ≡ examined rows t n (high b) →
-          length (symbols (elim m [ decided c ↦ leaf c | undecided ↦ halved (examine rows t n (low b)) (examine rows t n (high b)) ])) ≡ elim m [ decided c ↦ 1 | undecided ↦ suc (examined rows t n (low b) + examined rows t n (high b)) ]
+      by : (m : Mark) →
+          length (symbols (examine surfaces t n (low b))) ≡ examined surfaces t n (low b) →
+          length (symbols (examine surfaces t n (high b))) ≡ examined surfaces t n (high b) →
+          length (symbols (elim m [ decided c ↦ leaf c | undecided ↦ halved (examine surfaces t n (low b)) (examine surfaces t n (high b)) ]))
+          ≡ elim m [ decided c ↦ 1 | undecided ↦ suc (examined surfaces t n (low b) + examined surfaces t n (high b)) ]
       by (decided c) f g = refl
-      by undecided f g = omega (arith, length-append (symbols (examine rows t n (low b))) (symbols (examine rows t n (high b))))
+      by undecided f g = omega (arith, length-append (symbols (examine surfaces t n (low b))) (symbols (examine surfaces t n (high b))))

@@ -19,6 +19,7 @@ use Rattle.lemmas.specs.Sums.{every}
 use Rattle.lemmas.proofs.Whole.{le-by, ι, ν, ⊝, le-leZ, leZ-true}
 use Rattle.lemmas.proofs.Machine.{natAbs-parts, range, read-call}
 use Rattle.universe.specs.declared.Universe.{Universe}
+use Rattle.universe.specs.Refusals.{badRows}
 use Rattle.universe.specs.Universe.{mostAxes, offsetLimit, coefficientLimit}
 use Rattle.csg.specs.Halfspace.{Halfspace, mostRows, rowLength, rowCount, rowAt, withinLimits, rowsRefusal}
 
@@ -63,9 +64,13 @@ every-not (suc n) k p h f = go (λ l. every-not n k p l f) (decLe (suc k) n)
     go before (yes l) = rw (before l)
     go before (no l) = let e : n ≡ k = omega arith in rw (e, f) (and-false (every k p))
 
+-- the limit of an axis's coefficient
+abbrev limitAlong : Universe → ℕ → ℕ
+limitAlong u i = cond (ltb i (u .axes)) coefficientLimit 0
+
 -- one row: its offset is within its limit, and so are the coefficients of the first axes
 abbrev coefficientWithin : Universe → Halfspace → ℕ → Bool
-coefficientWithin u h i = leb (natAbs (h .coefficient i)) (cond (ltb i (u .axes)) coefficientLimit 0)
+coefficientWithin u h i = leb (natAbs (h .coefficient i)) (limitAlong u i)
 
 pub record RowSofar (u : Universe) (rows : List ℤ) (row axis : ℕ) : Type 0 where
   pub few : axis ≤ mostAxes
@@ -86,7 +91,8 @@ offsetAt rows row = getD rows (rowLength * row) (pos 0)
 abbrev coefficientAt : List ℤ → ℕ → ℕ → ℤ
 coefficientAt rows row axis = getD rows (rowLength * row + 1 + axis) (pos 0)
 
-module _ (u : Universe) (rows : List ℤ) (row : ℕ) {f : Bool} (l : mag (offsetAt rows row) < 2 ^ 63) (e : f ≡ leb (natAbs (held (offsetAt rows row))) offsetLimit) where
+module _ (u : Universe) (rows : List ℤ) (row : ℕ) {f : Bool} (l : mag (offsetAt rows row) < 2 ^ 63)
+    (e : f ≡ leb (natAbs (held (offsetAt rows row))) offsetLimit) where
   pub row-offset-off : f ≡ false → withinLimits u (rowAt rows row) ≡ false
   unfolding withinLimits
   row-offset-off t = rw (flag-is (offsetAt rows row) offsetLimit l e, t)
@@ -100,19 +106,24 @@ module _ {u : Universe} {rows : List ℤ} {row axis : ℕ} (s : RowSofar u rows 
   unfolding withinLimits
   row-end h = let e : mostAxes ≡ axis = omega (arith, s .few) in rw (s .offset, e) (s .coefficients)
 
-  module _ {f : Bool} (h : axis < mostAxes) (l : mag (coefficientAt rows row axis) < 2 ^ 63) (e : f ≡ leb (natAbs (held (coefficientAt rows row axis))) (cond (ltb axis (u .axes)) coefficientLimit 0)) where
-    judged : coefficientWithin u (rowAt rows row) axis ≡ f
-    judged =
+  module _ {f : Bool} (h : axis < mostAxes) (l : mag (coefficientAt rows row axis) < 2 ^ 63)
+      (e : f ≡ leb (natAbs (held (coefficientAt rows row axis))) (limitAlong u axis)) where
+    flag-within : coefficientWithin u (rowAt rows row) axis ≡ f
+    flag-within =
         let p : rowLength * row + suc axis ≡ rowLength * row + 1 + axis = omega arith in
-        rw p (flag-is (coefficientAt rows row axis) (cond (ltb axis (u .axes)) coefficientLimit 0) l e)
+        rw p (flag-is (coefficientAt rows row axis) (limitAlong u axis) l e)
 
     pub row-off : f ≡ false → withinLimits u (rowAt rows row) ≡ false
     unfolding withinLimits
-    row-off t = rw (s .offset) (every-not mostAxes axis (coefficientWithin u (rowAt rows row)) h (judged ∙ t))
+    row-off t = rw (s .offset) (every-not mostAxes axis (coefficientWithin u (rowAt rows row)) h (flag-within ∙ t))
 
     pub row-next : f ≡ true → RowSofar u rows row (axis + 1)
     row-next t =
-        record { few = omega arith; offset = s .offset; coefficients = every-next axis (coefficientWithin u (rowAt rows row)) (s .coefficients) (judged ∙ t) }
+        record {
+          few = omega arith;
+          offset = s .offset;
+          coefficients = every-next axis (coefficientWithin u (rowAt rows row)) (s .coefficients) (flag-within ∙ t);
+        }
 
 -- all rows: they are in fives, not too many, and the first ones are within the limits
 pub record RowsSofar (u : Universe) (rows : List ℤ) (row : ℕ) : Type 0 where
@@ -122,11 +133,11 @@ pub record RowsSofar (u : Universe) (rows : List ℤ) (row : ℕ) : Type 0 where
   pub within : every row (λ i. withinLimits u (rowAt rows i)) ≡ true
 
 module _ (u : Universe) (rows : List ℤ) where
-  pub rows-not-fives : (length rows % rowLength ≡ 0 → ⊥) → rowsRefusal u rows ≡ 3
+  pub rows-not-fives : (length rows % rowLength ≡ 0 → ⊥) → rowsRefusal u rows ≡ badRows
   unfolding rowsRefusal
   rows-not-fives h = rw (ne-eqb (length rows % rowLength) 0 h)
 
-  pub rows-too-many : length rows % rowLength ≡ 0 → mostRows < rowCount rows → rowsRefusal u rows ≡ 3
+  pub rows-too-many : length rows % rowLength ≡ 0 → mostRows < rowCount rows → rowsRefusal u rows ≡ badRows
   unfolding rowsRefusal
   rows-too-many e h = rw (eq-eqb (length rows % rowLength) 0 e, lt-leb (rowCount rows) mostRows h)
 
@@ -135,10 +146,14 @@ module _ (u : Universe) (rows : List ℤ) where
   rows-start e h = record { fives = e; most = h; few = omega arith; within = refl }
 
 module _ {u : Universe} {rows : List ℤ} {row : ℕ} (s : RowsSofar u rows row) where
-  pub rows-off : {f : Bool} → row < rowCount rows → f ≡ withinLimits u (rowAt rows row) → f ≡ false → rowsRefusal u rows ≡ 3
+  pub rows-off : {f : Bool} → row < rowCount rows → f ≡ withinLimits u (rowAt rows row) → f ≡ false → rowsRefusal u rows ≡ badRows
   unfolding rowsRefusal
   rows-off h e t =
-      rw (eq-eqb (length rows % rowLength) 0 (s .fives), le-leb (rowCount rows) mostRows (s .most), every-not (rowCount rows) row (λ i. withinLimits u (rowAt rows i)) h (sym e ∙ t))
+      rw (
+        eq-eqb (length rows % rowLength) 0 (s .fives),
+        le-leb (rowCount rows) mostRows (s .most),
+        every-not (rowCount rows) row (λ i. withinLimits u (rowAt rows i)) h (sym e ∙ t),
+      )
 
   pub rows-next : {f : Bool} → row < rowCount rows → f ≡ withinLimits u (rowAt rows row) → f ≡ true → RowsSofar u rows (row + 1)
   rows-next h e t =
@@ -148,4 +163,9 @@ module _ {u : Universe} {rows : List ℤ} {row : ℕ} (s : RowsSofar u rows row)
   unfolding rowsRefusal
   rows-end h =
       let e : rowCount rows ≡ row = omega (arith, s .few) in
-      rw (eq-eqb (length rows % rowLength) 0 (s .fives), le-leb (rowCount rows) mostRows (s .most), ap (λ (n : ℕ). every n (λ i. withinLimits u (rowAt rows i))) e, s .within)
+      rw (
+        eq-eqb (length rows % rowLength) 0 (s .fives),
+        le-leb (rowCount rows) mostRows (s .most),
+        ap (λ (n : ℕ). every n (λ i. withinLimits u (rowAt rows i))) e,
+        s .within,
+      )

@@ -1,11 +1,13 @@
 -- Trees and plain trees. Reversal is turning a plain tree over: each side the other way, each colour the other one, UNION and INTERSECTION
 -- exchanged. Turning twice gives the tree back, and neither MINUS nor reversal adds or drops a halfspace.
-use Prim.Native.Nat.{ℕ, _+_}
+use Prim.Native.Nat.{_+_}
 use mathlib.Core.Path.{_≡_, refl, sym, ap, ap₂, _∙_}
 use mathlib.Core.Bool.{Bool, true, false, not}
 use Rattle.bintree.specs.declared.Colour.{Colour}
 use Rattle.bintree.specs.declared.Colour.the-variants.{White, Black}
-use Rattle.csg.specs.Tree.{white, black, halfspace, union, intersection, minus, Tree, leaf, node, Plain, colour, side, unionOf, intersectionOf, plain, reversal, leaves, sides}
+use Rattle.csg.specs.Surfaces.{Surface}
+use Rattle.csg.specs.Tree.{white, black, surface, union, intersection, minus, Tree, leaf, node}
+use Rattle.csg.specs.Tree.{Plain, colour, side, unionOf, intersectionOf, plain, reversal, leaves, sides}
 
 abbrev pub exchanged : Colour → Colour
 exchanged Black = White
@@ -14,7 +16,7 @@ exchanged White = Black
 -- a plain tree turned over
 unfoldable pub turned : Plain → Plain
 turned (colour c) = colour (exchanged c)
-turned (side flag i) = side (not flag) i
+turned (side flag s) = side (not flag) s
 turned (unionOf a b) = intersectionOf (turned a) (turned b)
 turned (intersectionOf a b) = unionOf (turned a) (turned b)
 
@@ -29,7 +31,7 @@ not-twice false = refl
 pub turned-twice : (p : Plain) → turned (turned p) ≡ p
 unfolding turned
 turned-twice (colour c) = ap colour (exchanged-twice c)
-turned-twice (side flag i) = ap (λ (b : Bool). side b i) (not-twice flag)
+turned-twice (side flag s) = ap (λ (b : Bool). side b s) (not-twice flag)
 turned-twice (unionOf a b) = ap₂ unionOf (turned-twice a) (turned-twice b)
 turned-twice (intersectionOf a b) = ap₂ intersectionOf (turned-twice a) (turned-twice b)
 
@@ -37,7 +39,7 @@ pub reversal-turned : (t : Tree) → reversal t ≡ turned (plain t)
 unfolding turned plain reversal
 reversal-turned (leaf white) = refl
 reversal-turned (leaf black) = refl
-reversal-turned (leaf (halfspace i)) = refl
+reversal-turned (leaf (surface s)) = refl
 reversal-turned (node union a b) = ap₂ intersectionOf (reversal-turned a) (reversal-turned b)
 reversal-turned (node intersection a b) = ap₂ unionOf (reversal-turned a) (reversal-turned b)
 reversal-turned (node minus a b) = ap₂ unionOf (reversal-turned a) (sym (turned-twice (plain b)) ∙ ap turned (sym (reversal-turned b)))
@@ -77,7 +79,7 @@ module _ (a b : Tree) where
 pub sides-turned : (p : Plain) → sides (turned p) ≡ sides p
 unfolding turned sides
 sides-turned (colour c) = refl
-sides-turned (side flag i) = refl
+sides-turned (side flag s) = refl
 sides-turned (unionOf a b) = ap₂ _+_ (sides-turned a) (sides-turned b)
 sides-turned (intersectionOf a b) = ap₂ _+_ (sides-turned a) (sides-turned b)
 
@@ -85,15 +87,15 @@ pub sides-plain : (t : Tree) → sides (plain t) ≡ leaves t
 unfolding plain sides leaves
 sides-plain (leaf white) = refl
 sides-plain (leaf black) = refl
-sides-plain (leaf (halfspace i)) = refl
+sides-plain (leaf (surface s)) = refl
 sides-plain (node union a b) = ap₂ _+_ (sides-plain a) (sides-plain b)
 sides-plain (node intersection a b) = ap₂ _+_ (sides-plain a) (sides-plain b)
 sides-plain (node minus a b) = ap₂ _+_ (sides-plain a) (ap sides (reversal-turned b) ∙ sides-turned (plain b) ∙ sides-plain b)
 
--- the side `flag i` stands in a plain tree
-pub data HasSide : Plain → Bool → ℕ → Type 0 where
-  itself : {flag : Bool} {i : ℕ} → HasSide (side flag i) flag i
-  union-first : {a b : Plain} {flag : Bool} {i : ℕ} → HasSide a flag i → HasSide (unionOf a b) flag i
-  union-second : {a b : Plain} {flag : Bool} {i : ℕ} → HasSide b flag i → HasSide (unionOf a b) flag i
-  intersection-first : {a b : Plain} {flag : Bool} {i : ℕ} → HasSide a flag i → HasSide (intersectionOf a b) flag i
-  intersection-second : {a b : Plain} {flag : Bool} {i : ℕ} → HasSide b flag i → HasSide (intersectionOf a b) flag i
+-- the side `flag s` stands in a plain tree
+pub data HasSide : Plain → Bool → Surface → Type 0 where
+  itself : {flag : Bool} {s : Surface} → HasSide (side flag s) flag s
+  union-first : {a b : Plain} {flag : Bool} {s : Surface} → HasSide a flag s → HasSide (unionOf a b) flag s
+  union-second : {a b : Plain} {flag : Bool} {s : Surface} → HasSide b flag s → HasSide (unionOf a b) flag s
+  intersection-first : {a b : Plain} {flag : Bool} {s : Surface} → HasSide a flag s → HasSide (intersectionOf a b) flag s
+  intersection-second : {a b : Plain} {flag : Bool} {s : Surface} → HasSide b flag s → HasSide (intersectionOf a b) flag s

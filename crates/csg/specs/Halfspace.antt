@@ -9,7 +9,7 @@ use lib.ListN.{length, getD}
 use Rattle.lemmas.specs.Sums.{total, every}
 use Rattle.universe.specs.declared.Universe.{Universe}
 use Rattle.universe.specs.declared.Block.{Block}
-use Rattle.universe.specs.Refusals.{unless}
+use Rattle.universe.specs.Refusals.{unless, badRows}
 use Rattle.universe.specs.Universe.{mostAxes, offsetLimit, coefficientLimit}
 use Rattle.universe.specs.Block.{lowAlong, lengthAlong}
 use Rattle.universe.specs.Voxel.{placeAlong}
@@ -33,7 +33,8 @@ abbrev pub rowCount : List ℤ → ℕ
 rowCount rows = length rows / rowLength
 
 abbrev pub rowAt : List ℤ → ℕ → Halfspace
-rowAt rows i = record { offset = getD rows (rowLength * i) (pos 0); coefficient = λ j. getD rows (rowLength * i + suc j) (pos 0) }
+rowAt rows i =
+    record { offset = getD rows (rowLength * i) (pos 0); coefficient = λ j. getD rows (rowLength * i + suc j) (pos 0) }
 
 -- "Limits: |a0| ≤ 1,099,511,627,776; the others ≤ 16,777,216. Coefficients of axes above d are 0."
 unfoldable pub withinLimits : Universe → Halfspace → Bool
@@ -44,7 +45,11 @@ withinLimits u h =
 -- number 3: "rows not in fives, over 256 of them, a coefficient outside its limit, or nonzero above d"
 unfoldable pub rowsRefusal : Universe → List ℤ → ℕ
 rowsRefusal u rows =
-    unless (eqb (length rows % rowLength) 0 && leb (rowCount rows) mostRows && every (rowCount rows) (λ i. withinLimits u (rowAt rows i))) 3
+    unless
+    (eqb (length rows % rowLength) 0
+    && leb (rowCount rows) mostRows
+    && every (rowCount rows) (λ i. withinLimits u (rowAt rows i)))
+    badRows
 
 -- "It holds at a point where a0 + Σ ai·xi ≥ 0": the value there
 unfoldable pub valueAt : Universe → Halfspace → (ℕ → ℕ) → ℤ
@@ -52,7 +57,8 @@ valueAt u h x = h .offset +ℤ total (u .axes) (λ i. h .coefficient i *ℤ pos 
 
 -- "At a centre the test is 2·a0 + Σ ai·(2ci + 1) ≥ 0": twice the value at the centre of voxel c
 unfoldable pub centreValue : Universe → Halfspace → List ℕ → ℤ
-centreValue u h v = pos 2 *ℤ h .offset +ℤ total (u .axes) (λ i. h .coefficient i *ℤ pos (2 * placeAlong v i + 1))
+centreValue u h v =
+    pos 2 *ℤ h .offset +ℤ total (u .axes) (λ i. h .coefficient i *ℤ pos (2 * placeAlong v i + 1))
 
 -- "equality is BLACK"
 unfoldable pub colourAtCentre : Universe → Halfspace → List ℕ → Colour
@@ -69,14 +75,20 @@ lesser a b = cond (leZ a b) a b
 abbrev pub greater : ℤ → ℤ → ℤ
 greater a b = cond (leZ a b) b a
 
--- "Over a block, min and max are the least and greatest values at its corners": on each axis the lesser (greater) of what its two ends give
+-- what axis i gives at the low end of a block, and at its high end
+abbrev pub atLow : Halfspace → Block → ℕ → ℤ
+atLow h b i = h .coefficient i *ℤ pos (lowAlong b i)
+
+abbrev pub atHigh : Halfspace → Block → ℕ → ℤ
+atHigh h b i = h .coefficient i *ℤ pos (lowAlong b i + lengthAlong b i)
+
+-- "Over a block, min and max are the least and greatest values at its corners": on each axis the lesser (greater) of
+-- what its two ends give
 unfoldable pub least : Halfspace → Block → ℤ
-least h b =
-    h .offset +ℤ total (b .universe .axes) (λ i. lesser (h .coefficient i *ℤ pos (lowAlong b i)) (h .coefficient i *ℤ pos (lowAlong b i + lengthAlong b i)))
+least h b = h .offset +ℤ total (b .universe .axes) (λ i. lesser (atLow h b i) (atHigh h b i))
 
 unfoldable pub greatest : Halfspace → Block → ℤ
-greatest h b =
-    h .offset +ℤ total (b .universe .axes) (λ i. greater (h .coefficient i *ℤ pos (lowAlong b i)) (h .coefficient i *ℤ pos (lowAlong b i + lengthAlong b i)))
+greatest h b = h .offset +ℤ total (b .universe .axes) (λ i. greater (atLow h b i) (atHigh h b i))
 
 -- decided, with its colour, or not: a leaf is then active, a tree undecided
 pub data Mark : Type 0 where
@@ -85,7 +97,9 @@ pub data Mark : Type 0 where
 
 -- "If min ≥ 0 the leaf is BLACK there. Otherwise, if max ≤ 0, it is WHITE. Otherwise it is active."
 unfoldable pub markOver : Halfspace → Block → Mark
-markOver h b = cond (leZ (pos 0) (least h b)) (decided Black) (cond (leZ (greatest h b) (pos 0)) (decided White) undecided)
+markOver h b =
+    cond (leZ (pos 0) (least h b)) (decided Black)
+    (cond (leZ (greatest h b) (pos 0)) (decided White) undecided)
 
 -- "Reversal negates all five numbers of a halfspace"
 abbrev pub negated : Halfspace → Halfspace

@@ -8,6 +8,7 @@ use Rattle.universe.specs.declared.Block.{Block}
 use Rattle.bintree.specs.declared.Colour.{Colour}
 use Rattle.bintree.specs.declared.Colour.the-variants.{White, Black}
 use Rattle.csg.specs.Halfspace.{Halfspace, Mark, decided, undecided, rowAt, negated, markOver, colourAtCentre}
+use Rattle.csg.specs.Surfaces.{Surfaces, Surface, halfspace}
 use Rattle.csg.specs.Tree.{Tree, Plain, colour, side, unionOf, intersectionOf, plain}
 
 -- a UNION is BLACK if either son is, WHITE if both are, else undecided; INTERSECTION is the mirror of that
@@ -35,31 +36,32 @@ intersectionColour White b = White
 intersectionColour Black b = b
 
 -- a halfspace of the rows, as it is or reversed
-abbrev pub standing : List ℤ → Bool → ℕ → Halfspace
-standing rows turned i = cond turned (negated (rowAt rows i)) (rowAt rows i)
+abbrev pub turnedRow : List ℤ → Bool → ℕ → Halfspace
+turnedRow rows turned i = cond turned (negated (rowAt rows i)) (rowAt rows i)
 
--- the mark of such a leaf over a block, and its colour at a centre
-unfoldable pub leafMark : List ℤ → Bool → ℕ → Block → Mark
-leafMark rows turned i b = markOver (standing rows turned i) b
+-- the mark over a block, and the colour at a centre, of a surface as it is or reversed
+unfoldable pub surfaceMark : Surfaces → Bool → Surface → Block → Mark
+surfaceMark surfaces turned (halfspace i) b = markOver (turnedRow (surfaces .rows) turned i) b
 
-unfoldable pub leafColour : List ℤ → Universe → Bool → ℕ → List ℕ → Colour
-leafColour rows u turned i v = colourAtCentre u (standing rows turned i) v
+unfoldable pub surfaceColour : Surfaces → Universe → Bool → Surface → List ℕ → Colour
+surfaceColour surfaces u turned (halfspace i) v = colourAtCentre u (turnedRow (surfaces .rows) turned i) v
 
-unfoldable pub plainMark : List ℤ → Plain → Block → Mark
-plainMark rows (colour c) b = decided c
-plainMark rows (side turned i) b = leafMark rows turned i b
-plainMark rows (unionOf s t) b = unionMark (plainMark rows s b) (plainMark rows t b)
-plainMark rows (intersectionOf s t) b = intersectionMark (plainMark rows s b) (plainMark rows t b)
+unfoldable pub plainMark : Surfaces → Plain → Block → Mark
+plainMark surfaces (colour c) b = decided c
+plainMark surfaces (side turned s) b = surfaceMark surfaces turned s b
+plainMark surfaces (unionOf p q) b = unionMark (plainMark surfaces p b) (plainMark surfaces q b)
+plainMark surfaces (intersectionOf p q) b = intersectionMark (plainMark surfaces p b) (plainMark surfaces q b)
 
-unfoldable pub plainColour : List ℤ → Universe → Plain → List ℕ → Colour
-plainColour rows u (colour c) v = c
-plainColour rows u (side turned i) v = leafColour rows u turned i v
-plainColour rows u (unionOf s t) v = unionColour (plainColour rows u s v) (plainColour rows u t v)
-plainColour rows u (intersectionOf s t) v = intersectionColour (plainColour rows u s v) (plainColour rows u t v)
+unfoldable pub plainColour : Surfaces → Universe → Plain → List ℕ → Colour
+plainColour surfaces u (colour c) v = c
+plainColour surfaces u (side turned s) v = surfaceColour surfaces u turned s v
+plainColour surfaces u (unionOf p q) v = unionColour (plainColour surfaces u p v) (plainColour surfaces u q v)
+plainColour surfaces u (intersectionOf p q) v =
+    intersectionColour (plainColour surfaces u p v) (plainColour surfaces u q v)
 
 -- the mark and the colour of a tree
-abbrev pub treeMark : List ℤ → Tree → Block → Mark
-treeMark rows t b = plainMark rows (plain t) b
+abbrev pub treeMark : Surfaces → Tree → Block → Mark
+treeMark surfaces t b = plainMark surfaces (plain t) b
 
-abbrev pub treeColour : List ℤ → Universe → Tree → List ℕ → Colour
-treeColour rows u t v = plainColour rows u (plain t) v
+abbrev pub treeColour : Surfaces → Universe → Tree → List ℕ → Colour
+treeColour surfaces u t v = plainColour surfaces u (plain t) v

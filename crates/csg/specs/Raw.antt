@@ -1,34 +1,39 @@
 -- Document 01, "Expressions": the raw expression examines the universe; and how many blocks that is.
 use Prim.Native.Nat.{ℕ, zero, suc, _+_}
-use mathlib.Core.List.{List}
-use lib.IntN.{ℤ}
 use Rattle.universe.specs.declared.Universe.{Universe}
 use Rattle.universe.specs.declared.Block.{Block}
 use Rattle.universe.specs.Universe.{levels}
 use Rattle.universe.specs.Block.{wholeBlock, low, high}
 use Rattle.bintree.specs.Shape.{Shape, leaf, halved}
 use Rattle.csg.specs.Halfspace.{decided, undecided}
+use Rattle.csg.specs.Surfaces.{Surfaces}
 use Rattle.csg.specs.Tree.{Tree, node, intersection}
 use Rattle.csg.specs.Marks.{treeMark, treeColour}
 
--- "A decided block writes its colour. An undecided block above level L writes `(` and both halves are examined. An undecided block at level L
--- writes the tree's colour at its centre." The block is n levels above L
-unfoldable pub examine : List ℤ → Tree → ℕ → Block → Shape
-examine rows t zero b = elim (treeMark rows t b) [ decided c ↦ leaf c | undecided ↦ leaf (treeColour rows (b .universe) t (b .low)) ]
-examine rows t (suc n) b = elim (treeMark rows t b) [ decided c ↦ leaf c | undecided ↦ halved (examine rows t n (low b)) (examine rows t n (high b)) ]
+-- "A decided block writes its colour. An undecided block above level L writes `(` and both halves are examined. An
+-- undecided block at level L writes the tree's colour at its centre." The block is n levels above L
+unfoldable pub examine : Surfaces → Tree → ℕ → Block → Shape
+examine surfaces t zero b =
+    elim (treeMark surfaces t b)
+    [ decided c ↦ leaf c | undecided ↦ leaf (treeColour surfaces (b .universe) t (b .low)) ]
+examine surfaces t (suc n) b =
+    elim (treeMark surfaces t b)
+    [ decided c ↦ leaf c | undecided ↦ halved (examine surfaces t n (low b)) (examine surfaces t n (high b)) ]
 
 -- the shape whose symbols are the raw expression
-abbrev pub raw : Universe → List ℤ → Tree → Shape
-raw u rows t = examine rows t (levels u) (wholeBlock u)
+abbrev pub raw : Universe → Surfaces → Tree → Shape
+raw u surfaces t = examine surfaces t (levels u) (wholeBlock u)
 
 -- two trees intersected
 abbrev pub both : Tree → Tree → Tree
 both s t = node intersection s t
 
 -- the blocks that the rule examines: the block itself and, where it is undecided above level L, those of both halves
-unfoldable pub examined : List ℤ → Tree → ℕ → Block → ℕ
-examined rows t zero b = 1
-examined rows t (suc n) b = elim (treeMark rows t b) [ decided c ↦ 1 | undecided ↦ suc (examined rows t n (low b) + examined rows t n (high b)) ]
+unfoldable pub examined : Surfaces → Tree → ℕ → Block → ℕ
+examined surfaces t zero b = 1
+examined surfaces t (suc n) b =
+    elim (treeMark surfaces t b)
+    [ decided c ↦ 1 | undecided ↦ suc (examined surfaces t n (low b) + examined surfaces t n (high b)) ]
 
-abbrev pub blocksExamined : Universe → List ℤ → Tree → ℕ
-blocksExamined u rows t = examined rows t (levels u) (wholeBlock u)
+abbrev pub blocksExamined : Universe → Surfaces → Tree → ℕ
+blocksExamined u surfaces t = examined surfaces t (levels u) (wholeBlock u)

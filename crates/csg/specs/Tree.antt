@@ -1,15 +1,16 @@
--- Document 01, "Halfspaces and trees": trees, MINUS and reversal. MINUS and reversal are pushed down to the halfspaces, so that marks and
--- colours are given to plain trees alone.
+-- Document 01, "Halfspaces and trees": trees, MINUS and reversal. MINUS and reversal are pushed down to the surfaces,
+-- so that marks and colours are given to plain trees alone.
 use Prim.Native.Nat.{ℕ, _+_}
 use mathlib.Core.Bool.{Bool, true, false}
 use Rattle.bintree.specs.declared.Colour.{Colour}
 use Rattle.bintree.specs.declared.Colour.the-variants.{White, Black}
+use Rattle.csg.specs.Surfaces.{Surface, countHalfspace}
 
--- what a word pushes: WHITE, BLACK or a halfspace
+-- what a word pushes: WHITE, BLACK or a surface
 pub data Leaf : Type 0 where
   white : Leaf
   black : Leaf
-  halfspace : ℕ → Leaf
+  surface : Surface → Leaf
 
 pub data Operator : Type 0 where
   union : Operator
@@ -20,14 +21,14 @@ pub data Tree : Type 0 where
   leaf : Leaf → Tree
   node : Operator → Tree → Tree → Tree
 
--- a tree with no MINUS, each of whose halfspaces stands as it is or reversed
+-- a tree with no MINUS, each of whose surfaces is as it is or reversed
 pub data Plain : Type 0 where
   colour : Colour → Plain
-  side : Bool → ℕ → Plain
+  side : Bool → Surface → Plain
   unionOf : Plain → Plain → Plain
   intersectionOf : Plain → Plain → Plain
 
--- a halfspace as it is, and reversed
+-- a surface as it is, and reversed
 abbrev pub asItIs : Bool
 asItIs = false
 
@@ -39,30 +40,30 @@ unfoldable mutual
   pub plain : Tree → Plain
   plain (leaf white) = colour White
   plain (leaf black) = colour Black
-  plain (leaf (halfspace i)) = side asItIs i
+  plain (leaf (surface s)) = side asItIs s
   plain (node union a b) = unionOf (plain a) (plain b)
   plain (node intersection a b) = intersectionOf (plain a) (plain b)
   plain (node minus a b) = intersectionOf (plain a) (reversal b)
 
-  -- "Reversal negates all five numbers of a halfspace, exchanges BLACK with WHITE, turns UNION and INTERSECTION into each other over reversed
-  -- sons, and makes A MINUS B into reversed A UNION B."
+  -- "Reversal negates all five numbers of a halfspace, exchanges BLACK with WHITE, turns UNION and INTERSECTION into
+  -- each other over reversed sons, and makes A MINUS B into reversed A UNION B."
   pub reversal : Tree → Plain
   reversal (leaf white) = colour Black
   reversal (leaf black) = colour White
-  reversal (leaf (halfspace i)) = side reversed i
+  reversal (leaf (surface s)) = side reversed s
   reversal (node union a b) = intersectionOf (reversal a) (reversal b)
   reversal (node intersection a b) = unionOf (reversal a) (reversal b)
   reversal (node minus a b) = unionOf (reversal a) (plain b)
 
--- how many halfspaces a tree has, and how many sides a plain one; one that stands twice counts twice
+-- how many halfspaces a tree has, and how many a plain one; one that stands twice counts twice
 unfoldable pub leaves : Tree → ℕ
 leaves (leaf white) = 0
 leaves (leaf black) = 0
-leaves (leaf (halfspace i)) = 1
+leaves (leaf (surface s)) = countHalfspace s
 leaves (node o a b) = leaves a + leaves b
 
 unfoldable pub sides : Plain → ℕ
 sides (colour c) = 0
-sides (side turned i) = 1
+sides (side turned s) = countHalfspace s
 sides (unionOf a b) = sides a + sides b
 sides (intersectionOf a b) = sides a + sides b

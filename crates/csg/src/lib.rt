@@ -1,5 +1,6 @@
 // Halfspaces and trees: whether rows are halfspaces of a universe, and whether words are a tree over them.
 use universe::Universe;
+use universe::refusals;
 ghost use mathlib.Core.Path.{_≡_};
 ghost use mathlib.Core.Bool.{cond, _&&_};
 ghost use Prim.Native.Nat.{_+_, _*_, _≤_};
@@ -85,16 +86,16 @@ pub fn check_rows(universe: Universe, rows: &[i64]) -> u64
     ensures { λ r. ⌜ r ≡ rowsRefusal universe (now (rows .entry)) ⌝ }
 {
     if rows.len() % ROW_LENGTH != 0 {
-        return 3;
+        return refusals::BAD_ROWS;
     }
     let count = rows.len() / ROW_LENGTH;
     if MOST_ROWS < count {
-        return 3;
+        return refusals::BAD_ROWS;
     }
     let mut row: usize = 0;
     while row < count {
         if !row_within(universe, rows, row) {
-            return 3;
+            return refusals::BAD_ROWS;
         }
         row += 1;
     }
@@ -111,49 +112,6 @@ pub fn is_operator(word: u16) -> bool
     word <= MINUS
 }
 
-// Whether a word pushes a shape, where there are so many rows.
-fn is_leaf(rows: u64, word: u16) -> bool
-    ensures { λ r. ⌜ r ≡ isLeaf rows word ⌝ }
-{
-    if word <= BLACK {
-        return true;
-    }
-    if word < FIRST_HALFSPACE {
-        return false;
-    }
-    ((word - FIRST_HALFSPACE) as u64) < rows
-}
-
-// 5 where a tree has too many words or shapes pending, 4 where words are no tree over so many rows, else 0.
-pub fn check_tree(rows: u64, words: &[u16]) -> u64
-    ensures { λ r. ⌜ r ≡ treeRefusal rows (now (words .entry)) ⌝ }
-{
-    if MOST_WORDS < words.len() {
-        return 5;
-    }
-    let mut pending: usize = 0;
-    let mut i: usize = 0;
-    while i < words.len() {
-        let word = words[i];
-        if is_operator(word) {
-            if pending < 2 {
-                return 4;
-            }
-            pending -= 1;
-        } else {
-            if !is_leaf(rows, word) {
-                return 4;
-            }
-            if MOST_PENDING <= pending {
-                return 5;
-            }
-            pending += 1;
-        }
-        i += 1;
-    }
-    if pending == 1 { 0 } else { 4 }
-}
-
 // Whether a word names a halfspace.
 fn names_halfspace(word: u16) -> bool
     ensures { λ r. ⌜ r ≡ namesHalfspace word ⌝ }
@@ -162,6 +120,49 @@ fn names_halfspace(word: u16) -> bool
         return false;
     }
     ((word - FIRST_HALFSPACE) as usize) < MOST_ROWS
+}
+
+// Whether a word pushes a shape, where there are so many rows.
+fn is_leaf(rows: u64, word: u16) -> bool
+    ensures { λ r. ⌜ r ≡ isLeaf (record { halfspaces = rows }) word ⌝ }
+{
+    if word <= BLACK {
+        return true;
+    }
+    if !names_halfspace(word) {
+        return false;
+    }
+    ((word - FIRST_HALFSPACE) as u64) < rows
+}
+
+// 5 where a tree has too many words or shapes pending, 4 where words are no tree over so many rows, else 0.
+pub fn check_tree(rows: u64, words: &[u16]) -> u64
+    ensures { λ r. ⌜ r ≡ treeRefusal (record { halfspaces = rows }) (now (words .entry)) ⌝ }
+{
+    if MOST_WORDS < words.len() {
+        return refusals::OVERFULL_TREE;
+    }
+    let mut pending: usize = 0;
+    let mut i: usize = 0;
+    while i < words.len() {
+        let word = words[i];
+        if is_operator(word) {
+            if pending < 2 {
+                return refusals::BAD_TREE;
+            }
+            pending -= 1;
+        } else {
+            if !is_leaf(rows, word) {
+                return refusals::BAD_TREE;
+            }
+            if MOST_PENDING <= pending {
+                return refusals::OVERFULL_TREE;
+            }
+            pending += 1;
+        }
+        i += 1;
+    }
+    if pending == 1 { 0 } else { refusals::BAD_TREE }
 }
 
 // How many of the words name a halfspace.

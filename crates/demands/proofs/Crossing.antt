@@ -20,7 +20,7 @@ use Rattle.universe.specs.Block.{lowAlong}
 use Rattle.universe.specs.Room.{blocksAt, innerBlocksAt}
 use Rattle.csg.specs.Halfspace.{Halfspace, Mark, decided, undecided, valueAt, least, greatest, markOver}
 use Rattle.csg.proofs.Halfspace.{rise, fall, endAlong, value-is, least-is, greatest-is, active-crosses}
-use Rattle.demands.proofs.Counting.{blockAt, low-along, countUndecided}
+use Rattle.demands.proofs.Counting.{gridBlock, low-along, countUndecided}
 
 -- along one axis, from the place w × p over the length w: what a coefficient's two parts give at the ends, the end of each kind of corner taken
 greatest-end : (a : ℤ) (w p : ℕ) → (up a * (w * p + w) ≡ up a * (w * (p + count (nonNeg a)))) × (dn a * (w * p) ≡ dn a * (w * (p + count (nonNeg a))))
@@ -58,7 +58,7 @@ module _ (u : Universe) (few-axes : u .axes ≤ mostAxes) (l : ℕ) (h : Halfspa
 
   module _ (p : ℕ → ℕ) where
     abbrev block : Block
-    block = blockAt u l p
+    block = gridBlock u l p
 
     -- a weight at an end of the block, and at a corner of a kind, axis by axis
     at-low : (s : ℕ → Bool) (v : ℕ → ℕ) → ((i : ℕ) → v i * (blockSide u l i * p i) ≡ v i * (blockSide u l i * (p i + count (s i)))) →
@@ -99,8 +99,8 @@ module _ (u : Universe) (few-axes : u .axes ≤ mostAxes) (l : ℕ) (h : Halfspa
           weighted-le (u .axes) (λ i. dn (h .coefficient i)) (lowAlong block) (endAlong block) (λ i k. omega arith),
         ))
 
-  pub active-blocks : grid (u .axes) (blocksAlong u l) (λ p. countUndecided (markOver h (blockAt u l p))) + innerBlocksAt u l ≤ blocksAt u l
+  pub active-blocks : grid (u .axes) (blocksAlong u l) (λ p. countUndecided (markOver h (gridBlock u l p))) + innerBlocksAt u l ≤ blocksAt u l
   unfolding blocksAt innerBlocksAt
   active-blocks =
-      crossed-cells rising (λ p. ltZ (pos 0) (valueOn p)) (λ p. countUndecided (markOver h (blockAt u l p))) (u .axes) (blocksAlong u l)
-      (λ p. rw (← (greatest-on p), ← (least-on p)) (above-zero (markOver h (blockAt u l p)) _ _ (least-greatest p) (active-crosses h (blockAt u l p))))
+      crossed-cells rising (λ p. ltZ (pos 0) (valueOn p)) (λ p. countUndecided (markOver h (gridBlock u l p))) (u .axes) (blocksAlong u l)
+      (λ p. rw (← (greatest-on p), ← (least-on p)) (above-zero (markOver h (gridBlock u l p)) _ _ (least-greatest p) (active-crosses h (gridBlock u l p))))

@@ -7,7 +7,6 @@ use mathlib.Core.List.{List}
 use native.Mathlib.Omega.{arith}
 use native.Mathlib.Decide.{ℕ-discrete}
 use lib.Dec.{eqb}
-use lib.IntN.{ℤ}
 use borrow.Author.Tests.{eq-eqb, ne-eqb}
 use Rattle.lemmas.specs.Grid.{count, listed}
 use Rattle.lemmas.proofs.Grid.{listed-at}
@@ -23,6 +22,7 @@ use Rattle.bintree.specs.Parts.{part, colourOf, colourAt}
 use Rattle.bintree.proofs.Shape.{depth-low, depth-high, halved-deep}
 use Rattle.bintree.proofs.Reading.{read-is}
 use Rattle.bintree.proofs.Merging.{apart, merged-is}
+use Rattle.csg.specs.Surfaces.{Surfaces}
 use Rattle.csg.specs.Tree.{Tree}
 use Rattle.csg.specs.Raw.{raw}
 use Rattle.demands.specs.Colours.{Shows}
@@ -79,7 +79,8 @@ module _ (u : Universe) (accept : Accepted u) where
         go i h (yes f) = rw (← f) (omega (arith, w .below axis (axis-below u some l), side-halved u some l (omega arith)))
         go i h (no k) = rw (← (side-kept u l i k)) (w .below i h)
 
-    low-way : (s : Shape) (p : ℕ → ℕ) → Inside (u .axes) (blockSide u (suc l)) p → part s (pathFrom u (voxel p) l (suc n)) ≡ part (lowPart s) (pathFrom u (voxel p) (suc l) n)
+    low-way : (s : Shape) (p : ℕ → ℕ) → Inside (u .axes) (blockSide u (suc l)) p →
+        part s (pathFrom u (voxel p) l (suc n)) ≡ part (lowPart s) (pathFrom u (voxel p) (suc l) n)
     unfolding pathFrom part lowPart
     low-way (leaf c) p w = refl
     low-way (halved a b) p w =
@@ -100,7 +101,8 @@ module _ (u : Universe) (accept : Accepted u) where
     high-apart : (p : ℕ → ℕ) → Apart u (suc l) (voxel (moved axis half p)) (voxel p)
     high-apart p = record { lengths = λ i. count (eqb axis i); place = λ i h. go i h (ℕ-discrete axis i) }
       where
-        go : (i : ℕ) → i < u .axes → Dec (axis ≡ i) → placeAlong (voxel (moved axis half p)) i ≡ placeAlong (voxel p) i + count (eqb axis i) * blockSide u (suc l) i
+        go : (i : ℕ) → i < u .axes → Dec (axis ≡ i) →
+            placeAlong (voxel (moved axis half p)) i ≡ placeAlong (voxel p) i + count (eqb axis i) * blockSide u (suc l) i
         go i h (yes f) =
             rw (← f, place (moved axis half p) axis (axis-below u some l), place p axis (axis-below u some l), moved-same axis half p, eq-eqb axis axis refl)
             (omega arith)
@@ -141,9 +143,11 @@ module _ (u : Universe) (accept : Accepted u) where
       (sym (once n (suc l) (omega arith) a (leaf c) (depth-low a b n h) (omega arith) (apart a b m .low) o (low-same l n e (halved a b) (leaf c) q)))
       (sym (once n (suc l) (omega arith) b (leaf c) (depth-high a b n h) (omega arith) (apart a b m .high) o (high-same l n e (halved a b) (leaf c) q))))
   once (suc n) l e (halved a b) (halved c d) h k m o q =
+      let x = apart a b m in
+      let y = apart c d o in
       ap₂ halved
-      (once n (suc l) (omega arith) a c (depth-low a b n h) (depth-low c d n k) (apart a b m .low) (apart c d o .low) (low-same l n e (halved a b) (halved c d) q))
-      (once n (suc l) (omega arith) b d (depth-high a b n h) (depth-high c d n k) (apart a b m .high) (apart c d o .high) (high-same l n e (halved a b) (halved c d) q))
+      (once n (suc l) (omega arith) a c (depth-low a b n h) (depth-low c d n k) (x .low) (y .low) (low-same l n e (halved a b) (halved c d) q))
+      (once n (suc l) (omega arith) b d (depth-high a b n h) (depth-high c d n k) (x .high) (y .high) (high-same l n e (halved a b) (halved c d) q))
 
   -- ---- THEOREM: so are those that agree on the accepted voxels
   point-accepted : (p : ℕ → ℕ) → Inside (u .axes) (blockSide u 0) p → voxelRefusal u (voxel p) ≡ 0
@@ -158,7 +162,8 @@ module _ (u : Universe) (accept : Accepted u) where
   merged-once s t h k m o same = once (levels u) 0 (omega arith) s t h k m o (λ p w. same (voxel p) (point-accepted p w))
 
 -- a tree's merged shape is the only merged one that shows the tree
-pub merged-fixed : (u : Universe) → universeRefusal u ≡ 0 → (rows : List ℤ) (t : Tree) (s : Shape) → isMerged s ≡ true → Shows u rows t s → s ≡ merged (raw u rows t)
-merged-fixed u e rows t s m w =
-    merged-once u (accepted u e) s (merged (raw u rows t)) (read-is u _ s (w .reads) .1) (merged-raw-depth u e rows t) m (merged-is (raw u rows t))
-    (λ v f. w .colours v f ∙ sym (merged-shows u e rows t .colours v f))
+pub merged-fixed : (u : Universe) → universeRefusal u ≡ 0 → (surfaces : Surfaces) (t : Tree) (s : Shape) →
+    isMerged s ≡ true → Shows u surfaces t s → s ≡ merged (raw u surfaces t)
+merged-fixed u e surfaces t s m w =
+    merged-once u (accepted u e) s (merged (raw u surfaces t)) (read-is u _ s (w .reads) .1) (merged-raw-depth u e surfaces t) m (merged-is (raw u surfaces t))
+    (λ v f. w .colours v f ∙ sym (merged-shows u e surfaces t .colours v f))

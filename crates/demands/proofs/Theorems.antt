@@ -1,10 +1,9 @@
 -- What the definitions promise, in one place: each theorem is stated here and cited from the file that proves it. The universe is an accepted one;
--- rows and trees are any.
+-- surfaces and trees are any.
 use Prim.Native.Nat.{ℕ}
 use mathlib.Core.Path.{_≡_, refl, _∙_}
 use mathlib.Core.Bool.{true}
 use mathlib.Core.List.{List}
-use lib.IntN.{ℤ}
 use Rattle.universe.specs.declared.Universe.{Universe}
 use Rattle.universe.specs.Universe.{universeRefusal}
 use Rattle.universe.specs.Voxel.{windowRefusal}
@@ -17,6 +16,7 @@ use Rattle.bintree.specs.Parts.{colourAt}
 use Rattle.bintree.specs.Counts.{volume}
 use Rattle.bintree.specs.Verdicts.{verdict}
 use Rattle.bintree.proofs.Reading.{read-is}
+use Rattle.csg.specs.Surfaces.{Surfaces}
 use Rattle.csg.specs.Tree.{Tree}
 use Rattle.csg.specs.Marks.{intersectionColour, treeColour}
 use Rattle.csg.specs.Raw.{raw, both}
@@ -32,28 +32,29 @@ use Rattle.demands.proofs.Verdicts.{judges, verdict-once}
 
 module _ (u : Universe) (e : universeRefusal u ≡ 0) where
   -- DEMAND 2: every voxel of the raw and of the merged shape has the colour of the whole tree at the voxel's centre, and what is written reads back
-  pub demand-2 : (rows : List ℤ) (t : Tree) → ColoursKept u rows t
-  demand-2 rows t = colours-kept u e rows t
+  pub demand-2 : (surfaces : Surfaces) (t : Tree) → ColoursKept u surfaces t
+  demand-2 surfaces t = colours-kept u e surfaces t
 
   -- and the merged shape is the only merged one of which that holds
-  pub merged-once : (rows : List ℤ) (t : Tree) (s : Shape) → isMerged s ≡ true → Shows u rows t s → s ≡ merged (raw u rows t)
-  merged-once rows t s = merged-fixed u e rows t s
+  pub merged-once : (surfaces : Surfaces) (t : Tree) (s : Shape) → isMerged s ≡ true → Shows u surfaces t s → s ≡ merged (raw u surfaces t)
+  merged-once surfaces t s = merged-fixed u e surfaces t s
 
   -- DEMAND 3: the raw expression has a symbol for each block examined, and it and the merged one fit into the tree's room
-  pub demand-3 : (rows : List ℤ) (t : Tree) → RoomSuffices u rows t
-  demand-3 rows t = room-suffices u e rows t
+  pub demand-3 : (surfaces : Surfaces) (t : Tree) → RoomSuffices u surfaces t
+  demand-3 surfaces t = room-suffices u e surfaces t
 
   -- VOLUME: that of a well-formed expression is the number of voxels that are black in it; for a tree's raw and merged expressions these are the
   -- voxels at whose centre the tree is BLACK
   pub volume-of-expression : (written : List ℕ) (s : Shape) → expression u written ≡ read s → volume u s ≡ blackVoxels u (colourAt u s)
   volume-of-expression written s r = volume-counts u (accepted u e) s (read-is u written s r .1)
 
-  pub volume-of-raw : (rows : List ℤ) (t : Tree) → volume u (raw u rows t) ≡ blackVoxels u (treeColour rows u t)
-  volume-of-raw rows t = volume-of u (accepted u e) (raw u rows t) (raw-depth u e rows t) (treeColour rows u t) (raw-shows u e rows t .colours)
+  pub volume-of-raw : (surfaces : Surfaces) (t : Tree) → volume u (raw u surfaces t) ≡ blackVoxels u (treeColour surfaces u t)
+  volume-of-raw surfaces t =
+      volume-of u (accepted u e) (raw u surfaces t) (raw-depth u e surfaces t) (treeColour surfaces u t) (raw-shows u e surfaces t .colours)
 
-  pub volume-of-merged : (rows : List ℤ) (t : Tree) → volume u (merged (raw u rows t)) ≡ blackVoxels u (treeColour rows u t)
-  volume-of-merged rows t =
-      volume-of u (accepted u e) (merged (raw u rows t)) (merged-raw-depth u e rows t) (treeColour rows u t) (merged-shows u e rows t .colours)
+  pub volume-of-merged : (surfaces : Surfaces) (t : Tree) → volume u (merged (raw u surfaces t)) ≡ blackVoxels u (treeColour surfaces u t)
+  volume-of-merged surfaces t =
+      volume-of u (accepted u e) (merged (raw u surfaces t)) (merged-raw-depth u e surfaces t) (treeColour surfaces u t) (merged-shows u e surfaces t .colours)
 
   -- VERDICT: over an accepted window it is Clear exactly where no voxel of the window is black, and otherwise Hit with the least and the greatest
   -- frame of such a voxel and the number of them; of a well-formed expression, and of two trees, for which a voxel is black where both are BLACK
@@ -61,11 +62,11 @@ module _ (u : Universe) (e : universeRefusal u ≡ 0) where
       (first last : ℕ) → windowRefusal u first last ≡ 0 → Judges u (colourAt u s) first last (verdict u s first last)
   verdict-of-expression written s r first last w = judges u (accepted u e) s (read-is u written s r .1) (colourAt u s) (λ v f. refl) first last w
 
-  pub verdict-of-trees : (rows : List ℤ) (s t : Tree) (first last : ℕ) → windowRefusal u first last ≡ 0 →
-      Judges u (λ v. intersectionColour (treeColour rows u s v) (treeColour rows u t v)) first last (verdict u (raw u rows (both s t)) first last)
-  verdict-of-trees rows s t first last w =
-      judges u (accepted u e) (raw u rows (both s t)) (raw-depth u e rows (both s t)) _
-      (λ v f. raw-shows u e rows (both s t) .colours v f ∙ both-colour rows u s t v) first last w
+  pub verdict-of-trees : (surfaces : Surfaces) (s t : Tree) (first last : ℕ) → windowRefusal u first last ≡ 0 →
+      Judges u (λ v. intersectionColour (treeColour surfaces u s v) (treeColour surfaces u t v)) first last (verdict u (raw u surfaces (both s t)) first last)
+  verdict-of-trees surfaces s t first last w =
+      judges u (accepted u e) (raw u surfaces (both s t)) (raw-depth u e surfaces (both s t)) _
+      (λ v f. raw-shows u e surfaces (both s t) .colours v f ∙ both-colour surfaces u s t v) first last w
 
 -- and that fixes the verdict
 pub one-verdict : (u : Universe) (colours : Colouring) (first last : ℕ) (x y : Verdict) → Judges u colours first last x → Judges u colours first last y → x ≡ y

@@ -11,9 +11,10 @@ use borrow.Author.Tests.{ltb-true, leb-true, lt-ltb, le-ltb}
 use Rattle.lemmas.specs.Grid.{count}
 use Rattle.lemmas.proofs.Sums.{sum-cong, and-left, and-right}
 use Rattle.universe.specs.declared.Universe.{Universe}
+use Rattle.universe.specs.Refusals.{outside}
 use Rattle.universe.specs.Universe.{levels, sideAlong, frameAxis, frameCount}
 use Rattle.universe.specs.Voxel.{placeAlong, voxelRefusal, windowRefusal}
-use Rattle.universe.proofs.Refusals.{unless-holds}
+use Rattle.universe.proofs.Refusing.{unless-holds}
 use Rattle.universe.proofs.Universes.{Accepted}
 use Rattle.universe.proofs.Voxel.{voxel-taken}
 use Rattle.bintree.specs.declared.Colour.{Colour}
@@ -34,11 +35,11 @@ use Rattle.demands.proofs.Voxels.{frameVoxel, place-frame, place-other,
 -- an accepted window
 window-order : (u : Universe) (first last : ℕ) → windowRefusal u first last ≡ 0 → first ≤ last
 unfolding windowRefusal
-window-order u first last e = leb-true _ _ (and-left (leb first last) (ltb last (frameCount u)) (unless-holds _ 9 (omega arith) e))
+window-order u first last e = leb-true _ _ (and-left (leb first last) (ltb last (frameCount u)) (unless-holds _ outside (omega arith) e))
 
 window-frames : (u : Universe) (first last : ℕ) → windowRefusal u first last ≡ 0 → last < frameCount u
 unfolding windowRefusal
-window-frames u first last e = ltb-true _ _ (and-right (leb first last) (ltb last (frameCount u)) (unless-holds _ 9 (omega arith) e))
+window-frames u first last e = ltb-true _ _ (and-right (leb first last) (ltb last (frameCount u)) (unless-holds _ outside (omega arith) e))
 
 -- a colour that counts is Black
 counts-black : (c : Colour) → 0 < count (isBlack c) → c ≡ Black

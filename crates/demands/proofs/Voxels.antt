@@ -135,7 +135,9 @@ module _ (u : Universe) (accept : Accepted u) (frame : ℕ) where
     unfolding Counted voxelsFrom
     across-frames q =
         rw (eq-eqb (axisAt u l) (frameAxis u) q, x, y)
-        (choose (frameAxis u) (blockSide u (suc l)) (eqb (halfAt u l frame) 0) (λ p. onWay u (suc l) n a (frameVoxel u frame p)) (λ p. onWay u (suc l) n b (frameVoxel u frame p))
+        (choose (frameAxis u) (blockSide u (suc l)) (eqb (halfAt u l frame) 0)
+        (λ p. onWay u (suc l) n a (frameVoxel u frame p))
+        (λ p. onWay u (suc l) n b (frameVoxel u frame p))
         ∙ grid-lengths (frameAxis u) (blockSide u (suc l)) (blockSide u l) _ (λ i h. side-kept u l i (λ f. omega arith))
         ∙ ap (grid (frameAxis u) (blockSide u l)) (fun-ext (λ p. sym (half-way u l n a b (frameVoxel u frame p) ∙ rw (q, place-frame p)))))
 
@@ -163,11 +165,13 @@ module _ (u : Universe) (accept : Accepted u) (frame : ℕ) where
         low : (p : ℕ → ℕ) → Inside (frameAxis u) side p → onWay u l (suc n) (halved a b) (frameVoxel u frame p) ≡ onWay u (suc l) n a (frameVoxel u frame p)
         low p w = half-way u l n a b (frameVoxel u frame p) ∙ rw (place-other p axis other, low-half (p axis) (side axis) (w .below axis other))
 
-        high : (p : ℕ → ℕ) → Inside (frameAxis u) side p → onWay u l (suc n) (halved a b) (frameVoxel u frame (moved axis (side axis) p)) ≡ onWay u (suc l) n b (frameVoxel u frame p)
+        high : (p : ℕ → ℕ) → Inside (frameAxis u) side p →
+            onWay u l (suc n) (halved a b) (frameVoxel u frame (moved axis (side axis) p)) ≡ onWay u (suc l) n b (frameVoxel u frame p)
         high p w =
             half-way u l n a b (frameVoxel u frame (moved axis (side axis) p))
             ∙ rw (place-other (moved axis (side axis) p) axis other, moved-same axis (side axis) p, high-half (p axis) (side axis) (w .below axis other))
-            (ap (λ path. count (isBlack (colourOf (part b path)))) (path-apart u (accept .some-axes) n (suc l) _ _ (omega arith) (moved-apart (suc l) axis p other)))
+            (ap (λ path. count (isBlack (colourOf (part b path))))
+            (path-apart u (accept .some-axes) n (suc l) _ _ (omega arith) (moved-apart (suc l) axis p other)))
 
   counted : (n l : ℕ) (s : Shape) → l + n ≡ levels u → depth s ≤ n → Counted l n s
   unfolding Counted voxelsFrom part
@@ -175,14 +179,17 @@ module _ (u : Universe) (accept : Accepted u) (frame : ℕ) where
   counted n l (leaf White) e h = sym (grid-const (frameAxis u) (blockSide u l) 0 ∙ omega arith)
   counted zero l (halved a b) e h = absurd (halved-deep a b h)
   counted (suc n) l (halved a b) e h =
-      go (ℕ-discrete (axisAt u l) (frameAxis u)) (counted n (suc l) a (omega arith) (depth-low a b n h)) (counted n (suc l) b (omega arith) (depth-high a b n h))
+      go (ℕ-discrete (axisAt u l) (frameAxis u))
+      (counted n (suc l) a (omega arith) (depth-low a b n h))
+      (counted n (suc l) b (omega arith) (depth-high a b n h))
     where
       go : Dec (axisAt u l ≡ frameAxis u) → Counted (suc l) n a → Counted (suc l) n b → Counted l (suc n) (halved a b)
       go (yes q) x y = across-frames l n e a b x y q
       go (no q) x y = along-frames l n e a b x y q
 
 -- ---- the voxels that are counted are accepted ones, so that colourings which agree on these count the same
-pub frame-voxel-accepted : (u : Universe) → Accepted u → (frame : ℕ) → frame < frameCount u → (p : ℕ → ℕ) → Inside (frameAxis u) (sideAlong u) p → voxelRefusal u (frameVoxel u frame p) ≡ 0
+pub frame-voxel-accepted : (u : Universe) → Accepted u → (frame : ℕ) → frame < frameCount u →
+    (p : ℕ → ℕ) → Inside (frameAxis u) (sideAlong u) p → voxelRefusal u (frameVoxel u frame p) ≡ 0
 unfolding frameVoxel
 frame-voxel-accepted u accept frame h p w =
     taken-voxel u (frameVoxel u frame p) (record { inside = λ i l. go i l (ℕ-discrete (frameAxis u) i); above = above })
@@ -217,7 +224,9 @@ module _ (u : Universe) (accept : Accepted u) (c d : Colouring) (same : (v : Lis
 module _ (u : Universe) (accept : Accepted u) (s : Shape) (fits : depth s ≤ levels u) where
   pub frame-counts : (frame : ℕ) → voxelsAt u s frame ≡ blackVoxelsAt u (colourAt u s) frame
   unfolding blackVoxelsAt Counted frameVoxel colourAt
-  frame-counts frame = counted u accept frame (levels u) 0 s (omega arith) fits ∙ grid-lengths (frameAxis u) (blockSide u 0) (sideAlong u) _ (λ i h. side-first u i)
+  frame-counts frame =
+      counted u accept frame (levels u) 0 s (omega arith) fits
+      ∙ grid-lengths (frameAxis u) (blockSide u 0) (sideAlong u) _ (λ i h. side-first u i)
 
   pub volume-counts : volume u s ≡ blackVoxels u (colourAt u s)
   volume-counts =

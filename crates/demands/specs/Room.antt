@@ -1,18 +1,19 @@
--- Demand 3: an expression fits into room. Document 01, "Expressions": room is for N halfspace words, which for a tree are its halfspace leaves.
+-- Demand 3: an expression fits into room. Document 01, "Expressions": room is for N halfspace words, which for a tree
+-- are its halfspace leaves.
 use Prim.Native.Nat.{_≤_}
 use mathlib.Core.Path.{_≡_}
-use mathlib.Core.List.{List}
-use lib.IntN.{ℤ}
 use lib.ListN.{length}
 use Rattle.universe.specs.declared.Universe.{Universe}
 use Rattle.universe.specs.Room.{room}
 use Rattle.bintree.specs.Shape.{symbols}
 use Rattle.bintree.specs.Merging.{merged}
+use Rattle.csg.specs.Surfaces.{Surfaces}
 use Rattle.csg.specs.Tree.{Tree, leaves}
 use Rattle.csg.specs.Raw.{raw, blocksExamined}
 
--- the raw expression has a symbol for each block that the rule examines; it and the merged one are no longer than the tree's room
-pub record RoomSuffices (u : Universe) (rows : List ℤ) (t : Tree) : Type 0 where
-  pub raw-counts : length (symbols (raw u rows t)) ≡ blocksExamined u rows t
-  pub raw-fits : length (symbols (raw u rows t)) ≤ room u (leaves t)
-  pub merged-fits : length (symbols (merged (raw u rows t))) ≤ room u (leaves t)
+-- the raw expression has a symbol for each block that the rule examines; it and the merged one are no longer than the
+-- tree's room
+pub record RoomSuffices (u : Universe) (surfaces : Surfaces) (t : Tree) : Type 0 where
+  pub raw-counts : length (symbols (raw u surfaces t)) ≡ blocksExamined u surfaces t
+  pub raw-fits : length (symbols (raw u surfaces t)) ≤ room u (leaves t)
+  pub merged-fits : length (symbols (merged (raw u surfaces t))) ≤ room u (leaves t)

@@ -1,5 +1,5 @@
--- What a verdict says of the voxels. Document 01, "Verdicts": Clear, or Hit with first frame, last frame and black voxel count, over frames first to
--- last, both ends in.
+-- What a verdict says of the voxels. Document 01, "Verdicts": Clear, or Hit with first frame, last frame and black
+-- voxel count, over frames first to last, both ends in.
 use Prim.Native.Nat.{ℕ, _+_, _≤_}
 use mathlib.Core.Path.{_≡_}
 use mathlib.Core.List.{List}
@@ -26,8 +26,8 @@ pub record BlackVoxel (u : Universe) (colours : Colouring) (first last : ℕ) : 
   pub to : frameOf u voxel ≤ last
   pub black : colours voxel ≡ Black
 
--- a Hit's first frame is that of a black voxel of the window, none of which is earlier; its last frame is that of one, none of which is later; and its
--- count is that of all of them
+-- a Hit's first frame is that of a black voxel of the window, none of which is earlier; its last frame is that of one,
+-- none of which is later; and its count is that of all of them
 pub record Touches (u : Universe) (colours : Colouring) (first last : ℕ) (contact : Contact) : Type 0 where
   pub earliest : BlackVoxel u colours first last
   pub first-frame : contact .first ≡ frameOf u (earliest .voxel)

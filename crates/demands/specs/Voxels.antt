@@ -1,5 +1,5 @@
--- Black voxels, counted one by one over the grid of the universe's voxels. A colouring gives each voxel its colour, as a shape does (`colourAt u s`)
--- or a tree (`treeColour rows u t`).
+-- Black voxels, counted one by one over the grid of the universe's voxels. A colouring gives each voxel its colour, as
+-- a shape does (`colourAt u s`) or a tree (`treeColour surfaces u t`).
 use Prim.Native.Nat.{ℕ}
 use mathlib.Core.Bool.{Bool, true, false}
 use mathlib.Core.List.{List}
@@ -25,6 +25,7 @@ countBlack colours p = count (isBlack (colours (listed mostAxes p)))
 unfoldable pub blackVoxels : Universe → Colouring → ℕ
 blackVoxels u colours = grid (u .axes) (sideAlong u) (countBlack colours)
 
--- and how many of one frame: the frame axis is the last one, so these are a grid of the other axes, the frame's place put in
+-- and how many of one frame: the frame axis is the last one, so these are a grid of the other axes, the frame's place
+-- put in
 unfoldable pub blackVoxelsAt : Universe → Colouring → ℕ → ℕ
 blackVoxelsAt u colours frame = grid (frameAxis u) (sideAlong u) (λ p. countBlack colours (put (frameAxis u) frame p))

@@ -2,9 +2,10 @@
 use universe::Universe;
 ghost use mathlib.Core.Path.{_≡_};
 ghost use Rattle.universe.specs.Room.{roomAnswer};
-ghost use Rattle.bintree.specs.Answers.{writtenAnswer, writtenBuffer};
 ghost use Rattle.csg.specs.Words.{halfspaceWords};
-ghost use Rattle.convert.specs.Answers.{refusalOfOne, refusalOfTwo, rawOfOne, rawOfTwo, mergedOfOne, mergedOfTwo};
+ghost use Rattle.csg.specs.Surfaces.{surfacesOf};
+ghost use Rattle.convert.specs.Answers.{rawOfOneAnswer, rawOfOneBuffer, rawOfTwoAnswer, rawOfTwoBuffer};
+ghost use Rattle.convert.specs.Answers.{mergedOfOneAnswer, mergedOfOneBuffer, mergedOfTwoAnswer, mergedOfTwoBuffer};
 ghost use Rattle.export.specs.Arrays.{universeOf, roomArray, lengthArray};
 
 // Room in symbols, for so many halfspace words in all trees of the run.
@@ -40,9 +41,15 @@ pub extern "C" fn durbizhan_raw_one(
     out: &mut [u8],
     answer: &mut [u64; 1],
 ) -> u64
-    ensures { λ r. ⌜ r ≡ writtenAnswer (refusalOfOne (universeOf axes bits) (now (rows .entry)) (now (words .entry))) (now (out .entry)) (rawOfOne (universeOf axes bits) (now (rows .entry)) (now (words .entry))) .refusal ⌝ }
-    ensures { λ _. ⌜ now (answer .exit) ≡ lengthArray (writtenAnswer (refusalOfOne (universeOf axes bits) (now (rows .entry)) (now (words .entry))) (now (out .entry)) (rawOfOne (universeOf axes bits) (now (rows .entry)) (now (words .entry)))) ⌝ }
-    ensures { λ _. ⌜ now (out .exit) ≡ writtenBuffer (refusalOfOne (universeOf axes bits) (now (rows .entry)) (now (words .entry))) (now (out .entry)) (rawOfOne (universeOf axes bits) (now (rows .entry)) (now (words .entry))) ⌝ }
+    ensures { λ r. let u = universeOf axes bits in
+        let surfaces = surfacesOf (now (rows .entry)) in
+        ⌜ r ≡ rawOfOneAnswer u surfaces (now (words .entry)) (now (out .entry)) .refusal ⌝ }
+    ensures { λ _. let u = universeOf axes bits in
+        let surfaces = surfacesOf (now (rows .entry)) in
+        ⌜ now (answer .exit) ≡ lengthArray (rawOfOneAnswer u surfaces (now (words .entry)) (now (out .entry))) ⌝ }
+    ensures { λ _. let u = universeOf axes bits in
+        let surfaces = surfacesOf (now (rows .entry)) in
+        ⌜ now (out .exit) ≡ rawOfOneBuffer u surfaces (now (words .entry)) (now (out .entry)) ⌝ }
 {
     let universe = Universe {
         axes: axes,
@@ -64,9 +71,21 @@ pub extern "C" fn durbizhan_raw_two(
     out: &mut [u8],
     answer: &mut [u64; 1],
 ) -> u64
-    ensures { λ r. ⌜ r ≡ writtenAnswer (refusalOfTwo (universeOf axes bits) (now (rows .entry)) (now (first .entry)) (now (second .entry))) (now (out .entry)) (rawOfTwo (universeOf axes bits) (now (rows .entry)) (now (first .entry)) (now (second .entry))) .refusal ⌝ }
-    ensures { λ _. ⌜ now (answer .exit) ≡ lengthArray (writtenAnswer (refusalOfTwo (universeOf axes bits) (now (rows .entry)) (now (first .entry)) (now (second .entry))) (now (out .entry)) (rawOfTwo (universeOf axes bits) (now (rows .entry)) (now (first .entry)) (now (second .entry)))) ⌝ }
-    ensures { λ _. ⌜ now (out .exit) ≡ writtenBuffer (refusalOfTwo (universeOf axes bits) (now (rows .entry)) (now (first .entry)) (now (second .entry))) (now (out .entry)) (rawOfTwo (universeOf axes bits) (now (rows .entry)) (now (first .entry)) (now (second .entry))) ⌝ }
+    ensures { λ r. let u = universeOf axes bits in
+        let surfaces = surfacesOf (now (rows .entry)) in
+        let first = now (first .entry) in
+        let second = now (second .entry) in
+        ⌜ r ≡ rawOfTwoAnswer u surfaces first second (now (out .entry)) .refusal ⌝ }
+    ensures { λ _. let u = universeOf axes bits in
+        let surfaces = surfacesOf (now (rows .entry)) in
+        let first = now (first .entry) in
+        let second = now (second .entry) in
+        ⌜ now (answer .exit) ≡ lengthArray (rawOfTwoAnswer u surfaces first second (now (out .entry))) ⌝ }
+    ensures { λ _. let u = universeOf axes bits in
+        let surfaces = surfacesOf (now (rows .entry)) in
+        let first = now (first .entry) in
+        let second = now (second .entry) in
+        ⌜ now (out .exit) ≡ rawOfTwoBuffer u surfaces first second (now (out .entry)) ⌝ }
 {
     let universe = Universe {
         axes: axes,
@@ -87,9 +106,15 @@ pub extern "C" fn durbizhan_merged_one(
     out: &mut [u8],
     answer: &mut [u64; 1],
 ) -> u64
-    ensures { λ r. ⌜ r ≡ writtenAnswer (refusalOfOne (universeOf axes bits) (now (rows .entry)) (now (words .entry))) (now (out .entry)) (mergedOfOne (universeOf axes bits) (now (rows .entry)) (now (words .entry))) .refusal ⌝ }
-    ensures { λ _. ⌜ now (answer .exit) ≡ lengthArray (writtenAnswer (refusalOfOne (universeOf axes bits) (now (rows .entry)) (now (words .entry))) (now (out .entry)) (mergedOfOne (universeOf axes bits) (now (rows .entry)) (now (words .entry)))) ⌝ }
-    ensures { λ _. ⌜ now (out .exit) ≡ writtenBuffer (refusalOfOne (universeOf axes bits) (now (rows .entry)) (now (words .entry))) (now (out .entry)) (mergedOfOne (universeOf axes bits) (now (rows .entry)) (now (words .entry))) ⌝ }
+    ensures { λ r. let u = universeOf axes bits in
+        let surfaces = surfacesOf (now (rows .entry)) in
+        ⌜ r ≡ mergedOfOneAnswer u surfaces (now (words .entry)) (now (out .entry)) .refusal ⌝ }
+    ensures { λ _. let u = universeOf axes bits in
+        let surfaces = surfacesOf (now (rows .entry)) in
+        ⌜ now (answer .exit) ≡ lengthArray (mergedOfOneAnswer u surfaces (now (words .entry)) (now (out .entry))) ⌝ }
+    ensures { λ _. let u = universeOf axes bits in
+        let surfaces = surfacesOf (now (rows .entry)) in
+        ⌜ now (out .exit) ≡ mergedOfOneBuffer u surfaces (now (words .entry)) (now (out .entry)) ⌝ }
 {
     let universe = Universe {
         axes: axes,
@@ -111,9 +136,21 @@ pub extern "C" fn durbizhan_merged_two(
     out: &mut [u8],
     answer: &mut [u64; 1],
 ) -> u64
-    ensures { λ r. ⌜ r ≡ writtenAnswer (refusalOfTwo (universeOf axes bits) (now (rows .entry)) (now (first .entry)) (now (second .entry))) (now (out .entry)) (mergedOfTwo (universeOf axes bits) (now (rows .entry)) (now (first .entry)) (now (second .entry))) .refusal ⌝ }
-    ensures { λ _. ⌜ now (answer .exit) ≡ lengthArray (writtenAnswer (refusalOfTwo (universeOf axes bits) (now (rows .entry)) (now (first .entry)) (now (second .entry))) (now (out .entry)) (mergedOfTwo (universeOf axes bits) (now (rows .entry)) (now (first .entry)) (now (second .entry)))) ⌝ }
-    ensures { λ _. ⌜ now (out .exit) ≡ writtenBuffer (refusalOfTwo (universeOf axes bits) (now (rows .entry)) (now (first .entry)) (now (second .entry))) (now (out .entry)) (mergedOfTwo (universeOf axes bits) (now (rows .entry)) (now (first .entry)) (now (second .entry))) ⌝ }
+    ensures { λ r. let u = universeOf axes bits in
+        let surfaces = surfacesOf (now (rows .entry)) in
+        let first = now (first .entry) in
+        let second = now (second .entry) in
+        ⌜ r ≡ mergedOfTwoAnswer u surfaces first second (now (out .entry)) .refusal ⌝ }
+    ensures { λ _. let u = universeOf axes bits in
+        let surfaces = surfacesOf (now (rows .entry)) in
+        let first = now (first .entry) in
+        let second = now (second .entry) in
+        ⌜ now (answer .exit) ≡ lengthArray (mergedOfTwoAnswer u surfaces first second (now (out .entry))) ⌝ }
+    ensures { λ _. let u = universeOf axes bits in
+        let surfaces = surfacesOf (now (rows .entry)) in
+        let first = now (first .entry) in
+        let second = now (second .entry) in
+        ⌜ now (out .exit) ≡ mergedOfTwoBuffer u surfaces first second (now (out .entry)) ⌝ }
 {
     let universe = Universe {
         axes: axes,

@@ -60,9 +60,12 @@ pub extern "C" fn durbizhan_shape_write(
     out: &mut [u8],
     answer: &mut [u64; 1],
 ) -> u64
-    ensures { λ r. ⌜ r ≡ writeAnswer (universeOf axes bits) (now (expression .entry)) (now (out .entry)) .refusal ⌝ }
-    ensures { λ _. ⌜ now (answer .exit) ≡ lengthArray (writeAnswer (universeOf axes bits) (now (expression .entry)) (now (out .entry))) ⌝ }
-    ensures { λ _. ⌜ now (out .exit) ≡ writeBuffer (universeOf axes bits) (now (expression .entry)) (now (out .entry)) ⌝ }
+    ensures { λ r. let u = universeOf axes bits in
+        ⌜ r ≡ writeAnswer u (now (expression .entry)) (now (out .entry)) .refusal ⌝ }
+    ensures { λ _. let u = universeOf axes bits in
+        ⌜ now (answer .exit) ≡ lengthArray (writeAnswer u (now (expression .entry)) (now (out .entry))) ⌝ }
+    ensures { λ _. let u = universeOf axes bits in
+        ⌜ now (out .exit) ≡ writeBuffer u (now (expression .entry)) (now (out .entry)) ⌝ }
 {
     let universe = Universe {
         axes: axes,

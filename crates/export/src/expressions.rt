@@ -3,13 +3,16 @@ use bintree::Colour;
 use universe::Universe;
 ghost use mathlib.Core.Path.{_≡_};
 ghost use mathlib.Core.List.{[], _∷_};
-ghost use Rattle.bintree.specs.Answers.{expressionChecks, volumeAnswer, colourAnswer, placeAnswer, mergeAnswer, mergeBuffer};
+ghost use Rattle.bintree.specs.Answers.{wellFormedRefusal};
+ghost use Rattle.bintree.specs.Counts.{volumeAnswer};
+ghost use Rattle.bintree.specs.Parts.{colourAnswer, placeAnswer};
+ghost use Rattle.bintree.specs.Merging.{mergeAnswer, mergeBuffer};
 ghost use Rattle.export.specs.Arrays.{universeOf, lengthArray, voxelsArray, colourNumber, colourArray, placeArray};
 
 // Whether an expression is well-formed.
 #[no_mangle]
 pub extern "C" fn durbizhan_well_formed(axes: u64, bits: u64, expression: &[u8]) -> u64
-    ensures { λ r. ⌜ r ≡ expressionChecks (universeOf axes bits) (now (expression .entry)) ⌝ }
+    ensures { λ r. ⌜ r ≡ wellFormedRefusal (universeOf axes bits) (now (expression .entry)) ⌝ }
 {
     let universe = Universe {
         axes: axes,
@@ -27,7 +30,8 @@ pub extern "C" fn durbizhan_volume(
     answer: &mut [u64; 1],
 ) -> u64
     ensures { λ r. ⌜ r ≡ volumeAnswer (universeOf axes bits) (now (expression .entry)) .refusal ⌝ }
-    ensures { λ _. ⌜ now (answer .exit) ≡ voxelsArray (volumeAnswer (universeOf axes bits) (now (expression .entry))) ⌝ }
+    ensures { λ _. let u = universeOf axes bits in
+        ⌜ now (answer .exit) ≡ voxelsArray (volumeAnswer u (now (expression .entry))) ⌝ }
 {
     let universe = Universe {
         axes: axes,
@@ -60,8 +64,10 @@ pub extern "C" fn durbizhan_colour(
     t: u64,
     answer: &mut [u64; 1],
 ) -> u64
-    ensures { λ r. ⌜ r ≡ colourAnswer (universeOf axes bits) (now (expression .entry)) (x ∷ y ∷ z ∷ t ∷ []) .refusal ⌝ }
-    ensures { λ _. ⌜ now (answer .exit) ≡ colourArray (colourAnswer (universeOf axes bits) (now (expression .entry)) (x ∷ y ∷ z ∷ t ∷ [])) ⌝ }
+    ensures { λ r. let u = universeOf axes bits in
+        ⌜ r ≡ colourAnswer u (now (expression .entry)) (x ∷ y ∷ z ∷ t ∷ []) .refusal ⌝ }
+    ensures { λ _. let u = universeOf axes bits in
+        ⌜ now (answer .exit) ≡ colourArray (colourAnswer u (now (expression .entry)) (x ∷ y ∷ z ∷ t ∷ [])) ⌝ }
 {
     let universe = Universe {
         axes: axes,
@@ -82,8 +88,10 @@ pub extern "C" fn durbizhan_part(
     path: &[u8],
     answer: &mut [u64; 2],
 ) -> u64
-    ensures { λ r. ⌜ r ≡ placeAnswer (universeOf axes bits) (now (expression .entry)) (now (path .entry)) .refusal ⌝ }
-    ensures { λ _. ⌜ now (answer .exit) ≡ placeArray (placeAnswer (universeOf axes bits) (now (expression .entry)) (now (path .entry))) ⌝ }
+    ensures { λ r. let u = universeOf axes bits in
+        ⌜ r ≡ placeAnswer u (now (expression .entry)) (now (path .entry)) .refusal ⌝ }
+    ensures { λ _. let u = universeOf axes bits in
+        ⌜ now (answer .exit) ≡ placeArray (placeAnswer u (now (expression .entry)) (now (path .entry))) ⌝ }
 {
     let universe = Universe {
         axes: axes,
@@ -103,9 +111,12 @@ pub extern "C" fn durbizhan_merge(
     out: &mut [u8],
     answer: &mut [u64; 1],
 ) -> u64
-    ensures { λ r. ⌜ r ≡ mergeAnswer (universeOf axes bits) (now (expression .entry)) (now (out .entry)) .refusal ⌝ }
-    ensures { λ _. ⌜ now (answer .exit) ≡ lengthArray (mergeAnswer (universeOf axes bits) (now (expression .entry)) (now (out .entry))) ⌝ }
-    ensures { λ _. ⌜ now (out .exit) ≡ mergeBuffer (universeOf axes bits) (now (expression .entry)) (now (out .entry)) ⌝ }
+    ensures { λ r. let u = universeOf axes bits in
+        ⌜ r ≡ mergeAnswer u (now (expression .entry)) (now (out .entry)) .refusal ⌝ }
+    ensures { λ _. let u = universeOf axes bits in
+        ⌜ now (answer .exit) ≡ lengthArray (mergeAnswer u (now (expression .entry)) (now (out .entry))) ⌝ }
+    ensures { λ _. let u = universeOf axes bits in
+        ⌜ now (out .exit) ≡ mergeBuffer u (now (expression .entry)) (now (out .entry)) ⌝ }
 {
     let universe = Universe {
         axes: axes,

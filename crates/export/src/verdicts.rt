@@ -2,8 +2,8 @@
 use bintree::Verdict;
 use universe::Universe;
 ghost use mathlib.Core.Path.{_≡_};
-ghost use Rattle.bintree.specs.Answers.{writtenBuffer};
-ghost use Rattle.convert.specs.Answers.{rawOfTwo, clearanceRefusal, clearanceAnswer};
+ghost use Rattle.csg.specs.Surfaces.{surfacesOf};
+ghost use Rattle.convert.specs.Answers.{clearanceAnswer, clearanceBuffer};
 ghost use Rattle.export.specs.Arrays.{universeOf, verdictArray, clearanceArray};
 
 // A verdict as five numbers: hit (0 Clear, 1 Hit), first frame, last frame, voxels, and the length beside it.
@@ -16,8 +16,8 @@ fn numbers_of(verdict: Verdict, length: u64) -> [u64; 5]
     }
 }
 
-// Whether two trees share space in a window of frames, both ends in; their raw expression is written into lent room. Read the number first: a refused
-// verdict is Clear.
+// Whether two trees share space in a window of frames, both ends in; their raw expression is written into lent room.
+// Read the number first: a refused verdict is Clear.
 #[no_mangle]
 pub extern "C" fn durbizhan_verdict(
     axes: u64,
@@ -30,9 +30,25 @@ pub extern "C" fn durbizhan_verdict(
     out: &mut [u8],
     answer: &mut [u64; 5],
 ) -> u64
-    ensures { λ r. ⌜ r ≡ clearanceAnswer (universeOf axes bits) (now (rows .entry)) (now (first .entry)) (now (second .entry)) «first_frame» «last_frame» (now (out .entry)) .refusal ⌝ }
-    ensures { λ _. ⌜ now (answer .exit) ≡ clearanceArray (clearanceAnswer (universeOf axes bits) (now (rows .entry)) (now (first .entry)) (now (second .entry)) «first_frame» «last_frame» (now (out .entry))) ⌝ }
-    ensures { λ _. ⌜ now (out .exit) ≡ writtenBuffer (clearanceRefusal (universeOf axes bits) (now (rows .entry)) (now (first .entry)) (now (second .entry)) «first_frame» «last_frame») (now (out .entry)) (rawOfTwo (universeOf axes bits) (now (rows .entry)) (now (first .entry)) (now (second .entry))) ⌝ }
+    ensures { λ r. let u = universeOf axes bits in
+        let surfaces = surfacesOf (now (rows .entry)) in
+        let first = now (first .entry) in
+        let second = now (second .entry) in
+        let out = now (out .entry) in
+        ⌜ r ≡ clearanceAnswer u surfaces first second «first_frame» «last_frame» out .refusal ⌝ }
+    ensures { λ _. let u = universeOf axes bits in
+        let surfaces = surfacesOf (now (rows .entry)) in
+        let first = now (first .entry) in
+        let second = now (second .entry) in
+        let out = now (out .entry) in
+        ⌜ now (answer .exit)
+        ≡ clearanceArray (clearanceAnswer u surfaces first second «first_frame» «last_frame» out) ⌝ }
+    ensures { λ _. let u = universeOf axes bits in
+        let surfaces = surfacesOf (now (rows .entry)) in
+        let first = now (first .entry) in
+        let second = now (second .entry) in
+        ⌜ now (out .exit)
+        ≡ clearanceBuffer u surfaces first second «first_frame» «last_frame» (now (out .entry)) ⌝ }
 {
     let universe = Universe {
         axes: axes,

@@ -4,15 +4,16 @@ use mathlib.Core.Path.{_≡_, refl}
 use mathlib.Core.List.{List, [], _∷_, _++_}
 use lib.IntN.{ℤ, pos, negsuc}
 use lib.ListN.{set, take, replicate}
-use Rattle.lemmas.specs.Sums.{every}
-use Rattle.universe.specs.Universe.{universeRefusal}
+use Rattle.lemmas.specs.Sums.{sum, every}
+use Rattle.lemmas.specs.Grid.{listed}
+use Rattle.universe.specs.Universe.{universeRefusal, bitsAlong, levels}
 use Rattle.universe.specs.Voxel.{windowRefusal}
-use Rattle.bintree.specs.Shape.{size}
+use Rattle.bintree.specs.Shape.{openSymbol, size}
 use Rattle.bintree.specs.Reading.{readLeaf, withHigh, readHalves, readAt, exactly, expression, expressionRefusal}
 use Rattle.bintree.specs.Merging.{isPair, isMerged}
 use Rattle.csg.specs.Halfspace.{withinLimits, rowsRefusal}
 use Rattle.csg.specs.Words.{meaning, step, finish, run, parse, treeRefusal}
-use Rattle.files.specs.Numbers.{signed, listed}
+use Rattle.files.specs.Numbers.{fromBits, hasHeader}
 use Rattle.files.specs.Scenes.{isScene, sceneHeader, sceneRefusal, sceneAnswer, rowsOf, firstWordsOf, secondWordsOf}
 use Rattle.files.specs.Shapes.{mergedRefusal, symbolsRefusal, shapeBytes, isShape, shapeHeader, shapeRefusal}
 
@@ -21,9 +22,9 @@ bytesOf : ℤ → List ℕ
 bytesOf (pos n) = n ∷ replicate 7 0
 bytesOf (negsuc n) = (255 - n) ∷ replicate 7 255
 
-rowBytes : List ℤ → List ℕ
-rowBytes [] = []
-rowBytes (z ∷ zs) = bytesOf z ++ rowBytes zs
+numbersBytes : List ℤ → List ℕ
+numbersBytes [] = []
+numbersBytes (z ∷ zs) = bytesOf z ++ numbersBytes zs
 
 -- rows (0,1,−1,0,0), (1,−1,1,0,0), (−2,1,0,0,0), (3,−1,0,0,0)
 rows : List ℤ
@@ -40,7 +41,7 @@ scene =
     72 ∷ 83 ∷ 67 ∷ 1 ∷ 0 ∷ 2 ∷ 2 ∷ 0
     ∷ 4 ∷ 0 ∷ 3 ∷ 0 ∷ 3 ∷ 0
     ∷ 0 ∷ 0 ∷ 3 ∷ 0
-    ∷ rowBytes rows
+    ∷ numbersBytes rows
     ++ (0 ∷ 1 ∷ 1 ∷ 1 ∷ 3 ∷ 0 ∷ 2 ∷ 1 ∷ 3 ∷ 1 ∷ 3 ∷ 0 ∷ [])
 
 -- the refusals of the scene as it is, and after changes: too short, one byte more, mark, version, zero byte, an axis too many, too long as well, a
@@ -70,31 +71,41 @@ shape s = shapeBytes (record { axes = 2; bits = 2 }) s
 
 shapeRefusals : List ℕ
 shapeRefusals =
-    shapeRefusal (shape (40 ∷ 87 ∷ 66 ∷ []))
+    shapeRefusal (shape (openSymbol ∷ 87 ∷ 66 ∷ []))
     ∷ shapeRefusal (shape [])
-    ∷ shapeRefusal (shape (40 ∷ 87 ∷ 66 ∷ []) ++ (66 ∷ []))
-    ∷ shapeRefusal (shape (40 ∷ 87 ∷ []))
-    ∷ shapeRefusal (shape (40 ∷ 66 ∷ 66 ∷ []))
-    ∷ shapeRefusal (set (shape (40 ∷ 87 ∷ 66 ∷ [])) 5 5)
+    ∷ shapeRefusal (shape (openSymbol ∷ 87 ∷ 66 ∷ []) ++ (66 ∷ []))
+    ∷ shapeRefusal (shape (openSymbol ∷ 87 ∷ []))
+    ∷ shapeRefusal (shape (openSymbol ∷ 66 ∷ 66 ∷ []))
+    ∷ shapeRefusal (set (shape (openSymbol ∷ 87 ∷ 66 ∷ [])) 5 5)
     ∷ []
 
 -- THEOREM: what the scene says, and the refusals
-scene-said : sceneAnswer scene ≡ record { refusal = 0; universe = record { axes = 2; bits = 2 }; counts = record { rows = 4; first = 3; second = 3 }; window = record { first = 0; last = 3 } }
-unfolding rowBytes bytesOf rows scene every signed listed universeRefusal windowRefusal withinLimits rowsRefusal meaning step finish run parse treeRefusal isScene sceneHeader sceneRefusal sceneAnswer
+scene-said :
+    sceneAnswer scene
+    ≡ record {
+      refusal = 0;
+      universe = record { axes = 2; bits = 2 };
+      counts = record { rows = 4; first = 3; second = 3 };
+      window = record { first = 0; last = 3 };
+    }
+unfolding hasHeader numbersBytes bytesOf rows scene every fromBits listed universeRefusal bitsAlong windowRefusal withinLimits rowsRefusal meaning step finish
+    run parse treeRefusal isScene sceneHeader sceneRefusal sceneAnswer
 scene-said = refl
 
 rows-said : rowsOf scene (sceneHeader scene) ≡ rows
-unfolding rowBytes bytesOf rows scene signed listed isScene sceneHeader
+unfolding every hasHeader numbersBytes bytesOf rows scene fromBits listed isScene sceneHeader
 rows-said = refl
 
 words-said : firstWordsOf scene (sceneHeader scene) ++ secondWordsOf scene (sceneHeader scene) ≡ 256 ∷ 257 ∷ 3 ∷ 258 ∷ 259 ∷ 3 ∷ []
-unfolding rowBytes bytesOf rows scene listed isScene sceneHeader
+unfolding every hasHeader numbersBytes bytesOf rows scene listed isScene sceneHeader
 words-said = refl
 
 scenes-refused : refusals ≡ 0 ∷ 1 ∷ 1 ∷ 1 ∷ 1 ∷ 1 ∷ 1 ∷ 1 ∷ 2 ∷ 1 ∷ 3 ∷ 4 ∷ 4 ∷ 9 ∷ 9 ∷ []
-unfolding refusals rowBytes bytesOf rows scene every signed listed universeRefusal windowRefusal withinLimits rowsRefusal meaning step finish run parse treeRefusal isScene sceneHeader sceneRefusal
+unfolding hasHeader refusals numbersBytes bytesOf rows scene every fromBits listed universeRefusal bitsAlong windowRefusal withinLimits rowsRefusal meaning step
+    finish run parse treeRefusal isScene sceneHeader sceneRefusal
 scenes-refused = refl
 
 shapes-refused : shapeRefusals ≡ 0 ∷ 7 ∷ 1 ∷ 7 ∷ 8 ∷ 2 ∷ []
-unfolding shapeRefusals shape shapeBytes isShape shapeHeader shapeRefusal symbolsRefusal mergedRefusal universeRefusal expressionRefusal expression exactly readAt readHalves withHigh readLeaf size isMerged isPair
+unfolding every hasHeader shapeRefusals shape shapeBytes isShape shapeHeader shapeRefusal symbolsRefusal mergedRefusal universeRefusal
+    bitsAlong sum levels expressionRefusal expression exactly readAt readHalves withHigh readLeaf size isMerged isPair
 shapes-refused = refl

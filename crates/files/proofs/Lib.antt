@@ -1,7 +1,6 @@
 -- Laws of the definitions; those of checks one after the other first.
 pub mod Refusals
 pub mod Numbers
-pub mod Lent
 pub mod Scenes
 pub mod Accepted
 pub mod Measuring

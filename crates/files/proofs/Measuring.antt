@@ -1,22 +1,23 @@
--- Whether an expression is merged is told by its length: merging leaves it exactly where there was nothing to merge, and merging into no room
--- measures it, with the refusals 2 and 7 of an expression on the way.
+-- Whether an expression is merged is told by its length: merging leaves it exactly where there was nothing to merge. Merging into no room answers the
+-- length needed, or 0 and the refusal 2 or 7 of what is no expression.
 use Prim.Native.Nat.{ℕ, suc, _+_, _≤_, _<_}
 use native.Mathlib.Omega.{arith}
 use native.Mathlib.Decide.{ℕ-discrete}
 use mathlib.Core.Path.{_≡_, refl, sym, ap, _∙_}
-use mathlib.Core.Bool.{Bool, true, false, _&&_}
-use mathlib.Core.List.{List, [], _∷_}
-use lib.Dec.{leb}
+use mathlib.Core.Bool.{Bool, true, false}
+use mathlib.Core.List.{List, []}
 use lib.ListN.{length}
+use borrow.Author.Needs.{needs}
 use borrow.Author.Tests.{eq-eqb, ne-eqb}
 use Rattle.universe.specs.declared.Universe.{Universe}
-use Rattle.universe.specs.Refusals.{firstRefusal, unless}
-use Rattle.universe.specs.Universe.{universeRefusal, leastAxes, mostAxes, mostBits}
+use Rattle.universe.specs.Refusals.{unless, badExpression, notMerged}
+use Rattle.universe.specs.Universe.{universeRefusal}
+use Rattle.universe.proofs.Refusing.{last-check}
 use Rattle.bintree.specs.declared.Written.{Written}
 use Rattle.bintree.specs.Shape.{Shape, leaf, halved, size}
 use Rattle.bintree.specs.Reading.{Reading, none, read, expression}
-use Rattle.bintree.specs.Merging.{merged, isMerged}
-use Rattle.bintree.specs.Answers.{expressionChecks, writtenAnswer, mergedSymbols, mergeAnswer}
+use Rattle.bintree.specs.Merging.{merged, isMerged, mergedSymbols, mergeAnswer}
+use Rattle.bintree.specs.Answers.{wellFormedRefusal, writtenAnswer}
 use Rattle.bintree.proofs.Shape.{length-symbols, size-positive}
 use Rattle.bintree.proofs.Reading.{none-refused, shape-accepted, expression-at}
 use Rattle.bintree.proofs.Merging.{Joined, one, two, joined, merged-self, self-merged, merged-size}
@@ -29,7 +30,8 @@ record Uncut (a b x y j : Shape) : Type 0 where
   low : size x ≡ size a
   high : size y ≡ size b
 
-uncut : (a b : Shape) {x y j : Shape} → Joined x y j → size j ≡ suc (size a + size b) → size x ≤ size a → size y ≤ size b → Uncut a b x y j
+uncut :
+    (a b : Shape) {x y j : Shape} → Joined x y j → size j ≡ suc (size a + size b) → size x ≤ size a → size y ≤ size b → Uncut a b x y j
 unfolding size
 uncut a b (one c) e l h = absurd (omega (arith, size-positive a))
 uncut a b (two p) e l h = record { whole = refl; low = omega arith; high = omega arith }
@@ -49,43 +51,31 @@ size-by-merged a e = ap size (merged-self a e)
 
 -- what measuring told
 data Told (u : Universe) (s : List ℕ) (m : Written) : Type 0 where
-  refuses : m .refusal ≡ symbolsRefusal u s → (m .refusal ≡ 6 → ⊥) → Told u s m
-  measures : (a : Shape) → m .refusal ≡ 6 → m .length ≡ size (merged a) → size a ≡ length s → symbolsRefusal u s ≡ unless (isMerged a) 8 → Told u s m
-
-not-six : (u : Universe) → universeRefusal u ≡ 6 → ⊥
-unfolding universeRefusal
-not-six u e = by (leb leastAxes (u .axes) && leb (u .axes) mostAxes && leb (u .bits) mostBits) e
-  where
-    by : (b : Bool) → unless b 2 ≡ 6 → ⊥
-    by true f = omega arith
-    by false f = omega arith
-
-alone : (b : Bool) → firstRefusal (unless b 8 ∷ []) ≡ unless b 8
-alone true = refl
-alone false = refl
+  refuses : m .refusal ≡ symbolsRefusal u s → m .length ≡ 0 → Told u s m
+  measures : (a : Shape) → m .length ≡ size (merged a) → size a ≡ length s → symbolsRefusal u s ≡ unless (isMerged a) notMerged → Told u s m
 
 module _ (u : Universe) (s : List ℕ) {m : Written} (e : m ≡ mergeAnswer u s []) where
-  answered : {n : ℕ} → expressionChecks u s ≡ n → m ≡ writtenAnswer n [] (mergedSymbols u s)
+  answered : {n : ℕ} → wellFormedRefusal u s ≡ n → m ≡ writtenAnswer n [] (mergedSymbols u s)
   unfolding mergeAnswer
   answered f = e ∙ ap (λ (k : ℕ). writtenAnswer k [] (mergedSymbols u s)) f
 
-  refused-by : (n : ℕ) → expressionChecks u s ≡ n → (n ≡ 0 → ⊥) → (n ≡ 6 → ⊥) → symbolsRefusal u s ≡ n → Told u s m
-  refused-by n f z six r =
-      let w = ap (λ (x : Written). x .refusal) (answered f ∙ sym (written-refused n [] (mergedSymbols u s) z)) in
-      refuses (w ∙ sym r) (λ k. six (sym w ∙ k))
+  refused-by : (n : ℕ) → wellFormedRefusal u s ≡ n → (n ≡ 0 → ⊥) → symbolsRefusal u s ≡ n → Told u s m
+  refused-by n f z r =
+      let w = answered f ∙ sym (written-refused n [] (mergedSymbols u s) z) in
+      refuses (ap (λ (x : Written). x .refusal) w ∙ sym r) (ap (λ (x : Written). x .length) w)
 
   by-shape : universeRefusal u ≡ 0 → (x : Reading) → expression u s ≡ x → Told u s m
   unfolding symbolsRefusal mergedRefusal
   by-shape z none x =
-      refused-by 7 (checks-none u (universeRefusal u) refl s z x) (λ k. omega arith) (λ k. omega arith) (rw (eq-eqb (universeRefusal u) 0 z, none-refused u s x))
+      refused-by badExpression (checks-none u (universeRefusal u) refl s z x) (λ k. omega arith)
+      (rw (eq-eqb (universeRefusal u) 0 z, none-refused u s x))
   by-shape z (read a) x =
       let long : 0 < length (mergedSymbols u s) = rw x (omega (arith, length-symbols (merged a), size-positive (merged a))) in
       let w = answered (checks-read u (universeRefusal u) refl s a z x) ∙ sym (written-short 0 [] (mergedSymbols u s) refl long) in
       measures a
-      (ap (λ (v : Written). v .refusal) w)
       (ap (λ (v : Written). v .length) w ∙ rw x (length-symbols (merged a)))
       (expression-at u s a x .1)
-      (rw (eq-eqb (universeRefusal u) 0 z, shape-accepted u s a x, x) (alone (isMerged a)))
+      (rw (eq-eqb (universeRefusal u) 0 z, shape-accepted u s a x, x) (last-check (unless (isMerged a) notMerged)))
 
   told : Told u s m
   unfolding symbolsRefusal
@@ -93,30 +83,32 @@ module _ (u : Universe) (s : List ℕ) {m : Written} (e : m ≡ mergeAnswer u s 
     where
       by-universe : Dec (universeRefusal u ≡ 0) → Told u s m
       by-universe (yes z) = by-shape z (expression u s) refl
-      by-universe (no h) = refused-by (universeRefusal u) (checks-universe u (universeRefusal u) refl s h) h (not-six u) (rw (ne-eqb (universeRefusal u) 0 h))
+      by-universe (no h) = refused-by (universeRefusal u) (checks-universe u (universeRefusal u) refl s h) h (rw (ne-eqb (universeRefusal u) 0 h))
 
-  pub measured-refused : (m .refusal ≡ 6 → ⊥) → m .refusal ≡ symbolsRefusal u s
-  measured-refused n = by told
+  pub measured-refused : m .length ≡ 0 → m .refusal ≡ symbolsRefusal u s
+  measured-refused z = by told
     where
       by : Told u s m → m .refusal ≡ symbolsRefusal u s
       by (refuses r h) = r
-      by (measures a r l k w) = absurd (n r)
+      by (measures a l k w) = absurd (omega (arith, size-positive (merged a)))
 
-  module _ (six : m .refusal ≡ 6) where
+  module _ (some : m .length ≡ 0 → ⊥) where
     pub measured-merged : m .length ≡ length s → 0 ≡ symbolsRefusal u s
     measured-merged h = by told
       where
         by : Told u s m → 0 ≡ symbolsRefusal u s
-        by (refuses r n) = absurd (n six)
-        by (measures a r l k w) = sym (w ∙ ap (λ (b : Bool). unless b 8) (merged-by-size a (omega arith)))
+        by (refuses r n) = absurd (some n)
+        by (measures a l k w) = sym (w ∙ ap (λ (b : Bool). unless b notMerged) (merged-by-size a (omega arith)))
 
-    pub measured-unmerged : (m .length ≡ length s → ⊥) → 8 ≡ symbolsRefusal u s
+    pub measured-unmerged : (m .length ≡ length s → ⊥) → notMerged ≡ symbolsRefusal u s
     measured-unmerged h = by told
       where
-        cut : (a : Shape) → m .length ≡ size (merged a) → size a ≡ length s → (b : Bool) → isMerged a ≡ b → 8 ≡ unless b 8
+        cut : (a : Shape) → m .length ≡ size (merged a) → size a ≡ length s → (b : Bool) → isMerged a ≡ b → notMerged ≡ unless b notMerged
         cut a l k true t = absurd (h (omega (arith, size-by-merged a t)))
         cut a l k false t = refl
 
-        by : Told u s m → 8 ≡ symbolsRefusal u s
-        by (refuses r n) = absurd (n six)
-        by (measures a r l k w) = cut a l k (isMerged a) refl ∙ sym w
+        by : Told u s m → notMerged ≡ symbolsRefusal u s
+        by (refuses r n) = absurd (some n)
+        by (measures a l k w) = cut a l k (isMerged a) refl ∙ sym w
+
+pub ruleset measuring-laws = (needs, measured-refused, measured-merged, measured-unmerged)

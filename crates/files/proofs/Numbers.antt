@@ -1,23 +1,34 @@
--- Numbers that stand one after the other in bytes. A loop that stores them fills the front of a list: `Filling` is its invariant.
+-- Numbers that stand one after the other in bytes. A loop that stores them fills the front of a list: `Filling` is its invariant; one that compares a
+-- mark has found its first bytes alike: `Marking`.
 use Prim.Native.Nat.{ℕ, zero, suc, _+_, _-_, _*_, _/_, _%_, _^_, _≤_, _<_}
 use native.Mathlib.Omega.{arith}
 use native.Mathlib.Numerals.{add-one}
 use native.Mathlib.Nat.{div-div-eq-div-mul}
 use mathlib.Core.Path.{_≡_, refl, sym, ap, _∙_}
-use mathlib.Core.List.{List, [], _∷_, _++_, append-assoc}
-use lib.ListN.{length, getD, take, drop, set, length-append, length-set}
+use mathlib.Core.Bool.{Bool, true, false, not}
+use mathlib.Core.List.{List, _++_, append-assoc}
+use lib.Dec.{leb, eqb}
+use lib.ListN.{length, getD, take, drop, set, length-set}
 use lib.Seq.{drop-cons, set-at, take-at}
 use lib.IntN.{ℤ, pos, negsuc, _-ℤ_}
+use lib.Signed.{mag}
 use mir.Syntax.{w64}
 use mir.Val.{SFits, toZ, ofZ}
 use mir.ValLaws.{toZ-pos, toZ-ofZ}
-use borrow.Author.Tests.{lt-ltb, le-ltb}
-use Rattle.files.specs.Numbers.{listed, signed}
+use borrow.Author.Needs.{needs}
+use borrow.Author.Tests.{lt-ltb, le-ltb, le-leb, lt-leb, leb-true, eq-eqb, ne-eqb, eqb-true, not-false}
+use Rattle.lemmas.specs.Sums.{every}
+use Rattle.lemmas.specs.Grid.{listed}
+use Rattle.lemmas.proofs.Sums.{and-left, and-right, every-all, one-not-every}
+use Rattle.lemmas.proofs.Grid.{listed-length, listed-next}
+use Rattle.lemmas.proofs.Machine.{read-call}
+use Rattle.files.specs.Numbers.{fromBits, u64At, hasHeader}
 
--- 64 bits as a whole number
-pub signed-read : (n : ℕ) → n < 2 ^ 64 → toZ w64 n ≡ signed n
-unfolding signed
-signed-read n h = rw (lt-ltb n (2 ^ 64) h)
+-- ---- 64 bits as a whole number
+
+pub bits-low : (n : ℕ) → n < 2 ^ 64 → toZ w64 n ≡ fromBits n
+unfolding fromBits
+bits-low n h = rw (lt-ltb n (2 ^ 64) h)
 
 minus : (m : ℕ) → negsuc 0 -ℤ pos m ≡ negsuc m
 minus zero = refl
@@ -28,33 +39,23 @@ module _ (n : ℕ) (high : 2 ^ 63 ≤ n) (fits : n < 2 ^ 64) where
   below : negsuc 0 -ℤ toZ w64 (2 ^ 64 - 1 - n) ≡ negsuc (2 ^ 64 - suc n)
   below =
       let e : 2 ^ 64 - 1 - n ≡ 2 ^ 64 - suc n = omega arith in
-      ap (λ (z : ℤ). negsuc 0 -ℤ z) (toZ-pos w64 (2 ^ 64 - 1 - n) (omega arith)) ∙ minus (2 ^ 64 - 1 - n) ∙ ap negsuc e
+      ap (λ (z : ℤ). negsuc 0 -ℤ z) (toZ-pos w64 (2 ^ 64 - 1 - n) (omega arith))
+      ∙ minus (2 ^ 64 - 1 - n)
+      ∙ ap negsuc e
 
-  pub signed-fits : SFits w64 (negsuc 0 -ℤ toZ w64 (2 ^ 64 - 1 - n))
-  signed-fits = rw below (record { sfits = omega arith })
+  pub bits-fit : SFits w64 (negsuc 0 -ℤ toZ w64 (2 ^ 64 - 1 - n))
+  bits-fit = rw below (record { sfits = omega arith })
 
-  pub signed-high : toZ w64 (ofZ w64 (negsuc 0 -ℤ toZ w64 (2 ^ 64 - 1 - n))) ≡ signed n
-  signed-high = toZ-ofZ w64 _ signed-fits ∙ below ∙ at-high
+  pub bits-high : toZ w64 (ofZ w64 (negsuc 0 -ℤ toZ w64 (2 ^ 64 - 1 - n))) ≡ fromBits n
+  bits-high = toZ-ofZ w64 _ bits-fit ∙ below ∙ at-high
     where
-      at-high : negsuc (2 ^ 64 - suc n) ≡ signed n
-      at-high = rw (sym (signed-read n fits), le-ltb n (2 ^ 63) high)
+      at-high : negsuc (2 ^ 64 - suc n) ≡ fromBits n
+      at-high = rw (sym (bits-low n fits), le-ltb n (2 ^ 63) high)
 
-module _ {A : Type 0} (f : ℕ → A) where
-  pub listed-length : (n : ℕ) → length (listed n f) ≡ n
-  unfolding listed
-  listed-length zero = refl
-  listed-length (suc n) = simp length-append (omega (arith, listed-length n))
+pub ruleset bits-laws = (needs, bits-low, bits-fit, bits-high)
 
-  -- a list is what stands at its first places, and the rest
-  pub listed-own : (n : ℕ) (l : List A) (d : A) → ((i : ℕ) → f i ≡ getD l i d) → n ≤ length l → listed n f ++ drop n l ≡ l
-  unfolding listed
-  listed-own zero l d e h = refl
-  listed-own (suc n) l d e h =
-      append-assoc (listed n f) (f n ∷ []) (drop (suc n) l)
-      ∙ ap (λ (r : List A). listed n f ++ r) (rw (e n) (sym (drop-cons l n d h)))
-      ∙ listed-own n l d e (omega arith)
+-- ---- i of the n places at the front of a list are filled with what a rule gives
 
--- i of the n places at the front of a list are filled with what a rule gives
 pub record Filling {A : Type 0} (n : ℕ) (f : ℕ → A) (before : List A) (i : ℕ) (now : List A) : Type 0 where
   pub within : i ≤ n
   pub room : n ≤ length before
@@ -68,26 +69,90 @@ filling-start n f before h = record { within = omega arith; room = h; same = ref
 module _ {A : Type 0} {n : ℕ} {f : ℕ → A} {before : List A} {i : ℕ} {now : List A} (s : Filling n f before i now) where
   module _ (h : i < n) where
     stored : set now i (f i) ≡ listed (i + 1) f ++ drop (i + 1) before
-    unfolding listed
     stored =
         let l : i < length before = omega (arith, s .room) in
-        rw (s .same, add-one, drop-cons before i (f i) l, set-at (listed i f) (getD before i (f i)) (drop (suc i) before) (f i) i (listed-length f i), append-assoc)
+        rw (s .same, add-one, listed-next i f, drop-cons before i (f i) l)
+        (rw (set-at (listed i f) (getD before i (f i)) (drop (suc i) before) (f i) i (listed-length i f), append-assoc))
 
     pub filling-next : {x : A} → x ≡ f i → Filling n f before (i + 1) (set now i x)
-    filling-next e = record { within = omega arith; room = s .room; same = ap (set now i) e ∙ stored; kept = length-set now i _ ∙ s .kept }
+    filling-next e =
+        record { within = omega arith; room = s .room; same = ap (set now i) e ∙ stored; kept = length-set now i _ ∙ s .kept }
 
   pub filling-end : n ≤ i → now ≡ listed n f ++ drop n before
   filling-end h = let e : i ≡ n = omega (arith, s .within) in s .same ∙ ap (λ (k : ℕ). listed k f ++ drop k before) e
 
+  pub filling-kept : length now ≡ length before
+  filling-kept = s .kept
+
+-- a number of eight bytes as the machine stores it
+pub number-read : (bytes : List ℕ) (at : ℕ) {bits : ℕ} {z : ℤ} → mag z < 2 ^ 63 → z ≡ fromBits bits → bits ≡ u64At bytes at →
+    toZ w64 (ofZ w64 z) ≡ fromBits (u64At bytes at)
+number-read bytes at l e f = read-call l (e ∙ ap fromBits f)
+
+pub ruleset filling-laws = (needs, filling-start, filling-next, filling-end, filling-kept, number-read)
+
 -- what a list that was filled so holds at its front
 module _ {A : Type 0} (n : ℕ) (f : ℕ → A) (rest : List A) {now : List A} (e : now ≡ listed n f ++ rest) where
   pub front-is : take n now ≡ listed n f
-  front-is = rw e (take-at (listed n f) rest n (listed-length f n))
+  front-is = rw e (take-at (listed n f) rest n (listed-length n f))
 
   pub front-length : n ≡ length (take n now)
-  front-length = rw front-is (sym (listed-length f n))
+  front-length = rw front-is (sym (listed-length n f))
 
--- a number below 2^32 is what its four bytes make, and four bytes are those of what they make
+-- ---- the first i bytes of a header are those of its mark
+
+pub record Marking (bytes : List ℕ) (header : ℕ) (mark : List ℕ) (i : ℕ) : Type 0 where
+  pub long : header ≤ length bytes
+  pub within : i ≤ length mark
+  pub alike : every i (λ k. eqb (getD bytes k 0) (getD mark k 0)) ≡ true
+
+module _ (bytes : List ℕ) (header : ℕ) (mark : List ℕ) where
+  pub marking-short : length bytes < header → false ≡ hasHeader bytes header mark
+  unfolding hasHeader
+  marking-short h = rw (lt-leb header (length bytes) h)
+
+  pub marking-start : header ≤ length bytes → Marking bytes header mark 0
+  unfolding every
+  marking-start h = record { long = h; within = omega arith; alike = refl }
+
+  module _ (i : ℕ) (s : Marking bytes header mark i) where
+    pub marking-place : length mark ≤ header → i < length mark → i < length bytes
+    marking-place h l = omega (arith, s .long)
+
+    pub marking-next : i < length mark → getD bytes i 0 ≡ getD mark i 0 → Marking bytes header mark (i + 1)
+    unfolding every
+    marking-next h e =
+        record { long = s .long; within = omega arith; alike = rw (add-one i, s .alike, eq-eqb (getD bytes i 0) (getD mark i 0) e) }
+
+    pub marking-off : i < length mark → (getD bytes i 0 ≡ getD mark i 0 → ⊥) → false ≡ hasHeader bytes header mark
+    unfolding hasHeader
+    marking-off h n =
+        let off = one-not-every (length mark) _ i h (ne-eqb (getD bytes i 0) (getD mark i 0) n) in
+        rw (le-leb header (length bytes) (s .long)) (sym off)
+
+    pub marking-end : length mark ≤ i → true ≡ hasHeader bytes header mark
+    unfolding hasHeader
+    marking-end h =
+        let e : length mark ≡ i = omega (arith, s .within) in
+        rw (le-leb header (length bytes) (s .long)) (sym (ap (λ (n : ℕ). every n (λ k. eqb (getD bytes k 0) (getD mark k 0))) e ∙ s .alike))
+
+  -- bytes with a header are as long, and begin with its mark
+  module _ (e : hasHeader bytes header mark ≡ true) where
+    pub header-long : header ≤ length bytes
+    unfolding hasHeader
+    header-long = leb-true header (length bytes) (and-left (leb header (length bytes)) _ e)
+
+    pub mark-at : (i : ℕ) → i < length mark → getD bytes i 0 ≡ getD mark i 0
+    unfolding hasHeader
+    mark-at i h = eqb-true _ _ (every-all (length mark) _ (and-right (leb header (length bytes)) _ e) i h)
+
+  pub header-there : {f : Bool} → f ≡ hasHeader bytes header mark → not f ≡ false → header ≤ length bytes
+  header-there {f} e t = header-long (sym e ∙ not-false f t)
+
+pub ruleset marking-laws = (needs, marking-short, marking-start, marking-place, marking-next, marking-off, marking-end)
+
+-- ---- a number below 2^32 is what its four bytes make, and four bytes are those of what they make
+
 pub u32-back : (n : ℕ) → n < 2 ^ 32 → n % 256 + 256 * (n / 256 % 256) + 65_536 * (n / 65_536 % 256 + 256 * (n / 16_777_216 % 256)) ≡ n
 u32-back n h =
     let a : n / 256 / 256 ≡ n / 65_536 = div-div-eq-div-mul n 256 256 in

@@ -5,6 +5,7 @@ use mathlib.Core.Path.{_≡_, refl, sym, _∙_}
 use mathlib.Core.List.{List, [], _∷_}
 use borrow.Author.Tests.{eq-eqb, ne-eqb}
 use Rattle.universe.specs.Refusals.{firstRefusal}
+use Rattle.universe.proofs.Refusing.{last-check}
 
 -- the answer is up to these checks
 pub record Left (answer : ℕ) (checks : List ℕ) : Type 0 where
@@ -36,8 +37,4 @@ module _ {answer n : ℕ} {ns : List ℕ} (left : Left answer (n ∷ ns)) where
   left-others e = record { same = left .same ∙ accepting n ns (left-accepts e) }
 
 pub left-last : {answer n x : ℕ} → Left answer (n ∷ []) → x ≡ n → x ≡ answer
-left-last {answer} {n} left check = check ∙ sym (left .same ∙ by n)
-  where
-    by : (k : ℕ) → firstRefusal (k ∷ []) ≡ k
-    by zero = refl
-    by (suc k) = refusing (suc k) [] (λ e. omega arith)
+left-last {answer} {n} left check = check ∙ sym (left .same ∙ last-check n)

@@ -3,23 +3,26 @@
 use Prim.Native.Nat.{ℕ, _+_, _≤_, _<_}
 use native.Mathlib.Omega.{arith}
 use mathlib.Core.Path.{_≡_, refl, sym, ap, _∙_}
-use mathlib.Core.Bool.{Bool, true, false, _&&_}
+use mathlib.Core.Bool.{Bool, true, false}
 use mathlib.Core.List.{List, _++_}
-use lib.Dec.{eqb}
 use lib.ListN.{length, getD, drop, length-drop}
 use lib.Seq.{take-length, take-all}
-use borrow.Author.Tests.{le-leb, eq-eqb, eqb-true}
-use Rattle.lemmas.proofs.Sums.{and-left, and-right}
+use borrow.Author.Tests.{le-leb, eq-eqb}
+use Rattle.lemmas.specs.Sums.{every}
+use Rattle.lemmas.specs.Grid.{listed}
+use Rattle.lemmas.proofs.Grid.{listed-own}
 use Rattle.universe.specs.declared.Universe.{Universe}
+use Rattle.universe.specs.Lent.{overwritten}
+use Rattle.universe.proofs.Lent.{written}
 use Rattle.bintree.specs.declared.Written.{Written}
 use Rattle.files.specs.declared.ShapeRead.{ShapeRead}
 use Rattle.files.specs.declared.ShapeHeader.{ShapeHeader}
-use Rattle.files.specs.Lent.{overwritten}
-use Rattle.files.specs.Numbers.{listed, u32At, isMarked}
-use Rattle.files.specs.Shapes.{shapeHeaderLength, mostSymbols, symbolsRefusal, shapeHeaderBytes, shapeBytes, writeAnswer, writeBuffer, isShape, shapeHeaderOf, noShapeHeader, shapeHeader, symbolsOf, shapeRefusal, readAnswer, readBuffer}
+use Rattle.files.specs.Numbers.{u32At, hasHeader}
+use Rattle.files.specs.Shapes.{shapeMark, shapeHeaderLength, shapeLength, mostSymbols, symbolsRefusal, shapeHeaderBytes, shapeBytes}
+use Rattle.files.specs.Shapes.{writeAnswer, writeBuffer, isShape, shapeHeaderOf, noShapeHeader, shapeHeader, symbolsOf, shapeRefusal}
+use Rattle.files.specs.Shapes.{readAnswer, readBuffer}
 use Rattle.files.proofs.Refusals.{left-last, left-next, left-accepts, left-others}
-use Rattle.files.proofs.Lent.{written}
-use Rattle.files.proofs.Numbers.{listed-own, u32-back, first-byte, second-byte, third-byte, fourth-byte}
+use Rattle.files.proofs.Numbers.{mark-at, u32-back, first-byte, second-byte, third-byte, fourth-byte}
 use Rattle.files.proofs.Shapes.{is-shape, shape-checks, read-all, write-all}
 
 -- what the header of a written file says
@@ -29,10 +32,10 @@ module _ (u : Universe) (s : List ℕ) (few : length s ≤ mostSymbols) where
   count-back = u32-back (length s) (omega arith)
 
   is-file : isShape (shapeBytes u s) ≡ true
-  unfolding shapeBytes isShape
+  unfolding shapeBytes isShape hasHeader every
   is-file =
       let file = shapeBytes u s in
-      rw (le-leb shapeHeaderLength (length file) (omega arith), eq-eqb (length file) (shapeHeaderLength + u32At file 7) (omega (arith, count-back)))
+      rw (le-leb shapeHeaderLength (length file) (omega arith), eq-eqb (length file) (shapeLength (u32At file 7)) (omega (arith, count-back)))
 
   -- the header itself
   abbrev told : ShapeHeader
@@ -59,24 +62,8 @@ module _ (u : Universe) (s : List ℕ) (few : length s ≤ mostSymbols) where
     written-copied out h =
         let file = shapeBytes u s in
         let r = ap (λ (x : ShapeRead). x .refusal) (written-read out h) in
-        ap (λ (v : List ℕ). overwritten (readAnswer file out .refusal) v out) (ap (symbolsOf file) (sym told-is) ∙ told-symbols) ∙ sym (written s out r refl)
-
--- the three bytes of a mark
-record Marked (bytes : List ℕ) (a b c : ℕ) : Type 0 where
-  first : getD bytes 0 0 ≡ a
-  second : getD bytes 1 0 ≡ b
-  third : getD bytes 2 0 ≡ c
-
-marks : (bytes : List ℕ) (a b c : ℕ) → isMarked bytes a b c ≡ true → Marked bytes a b c
-marks bytes a b c e =
-    let x = eqb (getD bytes 0 0) a in
-    let y = eqb (getD bytes 1 0) b in
-    let l = and-left (x && y) (eqb (getD bytes 2 0) c) e in
-    record {
-      first = eqb-true (getD bytes 0 0) a (and-left x y l);
-      second = eqb-true (getD bytes 1 0) b (and-right x y l);
-      third = eqb-true (getD bytes 2 0) c (and-right (x && y) (eqb (getD bytes 2 0) c) e);
-    }
+        ap (λ (v : List ℕ). overwritten (readAnswer file out .refusal) v out) (ap (symbolsOf file) (sym told-is) ∙ told-symbols)
+        ∙ sym (written s out r refl)
 
 -- what an accepted file says of its own bytes, each of which is below 256
 module _ (bytes : List ℕ) (small : (i : ℕ) → getD bytes i 0 < 256) (accepted : shapeRefusal bytes ≡ 0) where
@@ -101,10 +88,12 @@ module _ (bytes : List ℕ) (small : (i : ℕ) → getD bytes i 0 < 256) (accept
   bytes-said : shapeHeaderBytes (shapeHeaderOf bytes .shape .universe) (u32At bytes 7) ≡ listed shapeHeaderLength (λ i. getD bytes i 0)
   unfolding listed
   bytes-said =
-      let f = is-shape bytes said in
-      let m = marks bytes 66 78 84 (f .marked) in
-      let v : getD bytes 3 0 ≡ 1 = omega (arith, f .version) in
-      let w : getD bytes 4 0 ≡ 0 = omega (arith, f .version) in
+      let m = mark-at bytes shapeHeaderLength shapeMark (is-shape bytes said .header) in
+      let m0 = m 0 (omega arith) in
+      let m1 = m 1 (omega arith) in
+      let m2 = m 2 (omega arith) in
+      let m3 = m 3 (omega arith) in
+      let m4 = m 4 (omega arith) in
       let a = first-byte _ _ _ _ (small 7) (small 8) (small 9) (small 10) in
       let b = second-byte _ _ _ _ (small 7) (small 8) (small 9) (small 10) in
       let c = third-byte _ _ _ _ (small 7) (small 8) (small 9) (small 10) in
@@ -121,23 +110,26 @@ module _ (bytes : List ℕ) (small : (i : ℕ) → getD bytes i 0 < 256) (accept
       ∙ ap (shapeBytes u) symbols-said
       ∙ ap (λ (n : ℕ). shapeHeaderBytes u n ++ rest) rest-long
       ∙ ap (λ (l : List ℕ). l ++ rest) bytes-said
-      ∙ listed-own (λ i. getD bytes i 0) shapeHeaderLength bytes 0 (λ i. refl) (omega (arith, is-shape bytes said .whole))
+      ∙ listed-own shapeHeaderLength (λ i. getD bytes i 0) bytes 0 (λ i. refl) (omega (arith, is-shape bytes said .whole))
 
   -- so writing what was read, into room enough, answers the file's length and leaves the file's bytes
   module _ (out : List ℕ) (room : length bytes ≤ length out) where
     symbols-long : length (symbolsOf bytes (shapeHeader bytes)) ≡ u32At bytes 7
     symbols-long = ap length symbols-said ∙ rest-long
 
-    pub read-written : writeAnswer (shapeHeader bytes .shape .universe) (symbolsOf bytes (shapeHeader bytes)) out ≡ record { refusal = 0; length = length bytes }
+    pub read-written :
+        writeAnswer (shapeHeader bytes .shape .universe) (symbolsOf bytes (shapeHeader bytes)) out ≡ record { refusal = 0; length = length bytes }
     read-written =
         let n = symbols-long in
         let w = is-shape bytes said .whole in
         let k : shapeHeaderLength + length (symbolsOf bytes (shapeHeader bytes)) ≡ length bytes = omega arith in
         let z = left-accepts (left-others (shape-checks bytes refl) accepted) accepted in
-        sym (write-all _ _ out refl z (omega (arith, small 7, small 8, small 9, small 10)) (omega arith)) ∙ ap (λ (l : ℕ). record { refusal = 0; length = l }) k
+        sym (write-all _ _ out refl z (omega (arith, small 7, small 8, small 9, small 10)) (omega arith) refl)
+        ∙ ap (λ (l : ℕ). record { refusal = 0; length = l }) k
 
     pub read-left : writeBuffer (shapeHeader bytes .shape .universe) (symbolsOf bytes (shapeHeader bytes)) out ≡ bytes ++ drop (length bytes) out
     read-left =
         let u = shapeHeader bytes .shape .universe in
         let s = symbolsOf bytes (shapeHeader bytes) in
-        ap (λ (v : List ℕ). overwritten (writeAnswer u s out .refusal) v out) read-bytes ∙ sym (written bytes out (ap (λ (w : Written). w .refusal) read-written) refl)
+        ap (λ (v : List ℕ). overwritten (writeAnswer u s out .refusal) v out) read-bytes
+        ∙ sym (written bytes out (ap (λ (w : Written). w .refusal) read-written) refl)

@@ -1,117 +1,202 @@
--- Scene files: each test of `isScene` alone decides where those before it hold; what a header tells of is there; an accepted scene is accepted by
--- every check (`scene-accepts`); and the answer and the lent arrays of both outcomes.
-use Prim.Native.Nat.{ℕ, _+_, _*_, _≤_, _<_}
+-- Scene files: each test of `isScene` alone decides where those before it hold; what a header tells of is there; each check decides where those before
+-- it accept; an accepted scene is accepted by every check (`scene-accepts`); and the answer and the lent arrays of both outcomes.
+use Prim.Native.Nat.{ℕ, _+_, _*_, _^_, _≤_, _<_}
 use native.Mathlib.Omega.{arith}
-use native.Mathlib.Decide.{decLe}
 use mathlib.Core.Path.{_≡_, refl, sym, ap, _∙_}
-use mathlib.Core.Bool.{Bool, true, false, cond, _&&_}
+use mathlib.Core.Bool.{Bool, true, false, not, cond, _&&_}
 use mathlib.Core.List.{List, _++_}
-use lib.Dec.{leb, eqb}
+use lib.Dec.{eqb}
 use lib.IntN.{ℤ}
-use lib.ListN.{length, getD, drop}
-use borrow.Author.Tests.{le-leb, lt-leb, eq-eqb, ne-eqb, eqb-true}
+use lib.ListN.{length, getD, take, drop}
+use borrow.Author.Needs.{needs}
+use borrow.Author.Tests.{eq-eqb, ne-eqb, eqb-true, not-true, not-false}
+use Rattle.lemmas.specs.Grid.{listed}
 use Rattle.lemmas.proofs.Sums.{and-right}
+use Rattle.lemmas.proofs.Grid.{listed-length}
 use Rattle.universe.specs.declared.Universe.{Universe}
-use Rattle.universe.specs.Refusals.{firstRefusal}
+use Rattle.universe.specs.Refusals.{firstRefusal, badFile, badRows, overfullTree}
+use Rattle.universe.specs.Lent.{overwritten}
 use Rattle.universe.specs.Universe.{universeRefusal}
 use Rattle.universe.specs.Voxel.{windowRefusal}
+use Rattle.universe.proofs.Lent.{untouched, written}
+use Rattle.bintree.proofs.Answers.{is-refused, is-done}
 use Rattle.csg.specs.Halfspace.{mostRows, rowLength, rowsRefusal}
+use Rattle.csg.specs.Surfaces.{Named}
 use Rattle.csg.specs.Words.{mostWords, treeRefusal}
 use Rattle.csg.proofs.Rows.{rows-too-many}
 use Rattle.csg.proofs.Words.{too-long}
-use Rattle.files.specs.Lent.{overwritten}
-use Rattle.files.specs.Numbers.{listed, u16At, isMarked}
-use Rattle.files.specs.Scenes.{sceneHeaderLength, sceneLength, isScene, headerOf, noHeader, sceneHeader, rowsOf, firstWordsOf, secondWordsOf, sceneChecks, sceneRefusal, refusedScene, sceneAnswer, rowsAfter, firstWordsAfter, secondWordsAfter}
 use Rattle.files.specs.declared.Scene.{Scene}
 use Rattle.files.specs.declared.SceneHeader.{SceneHeader}
-use Rattle.files.proofs.Refusals.{Left, left-accepts, left-others}
-use Rattle.files.proofs.Numbers.{listed-length}
-use Rattle.files.proofs.Lent.{untouched, written}
+use Rattle.files.specs.Numbers.{u16At, numberBytes, wordBytes, hasHeader}
+use Rattle.files.specs.Scenes.{sceneMark, sceneHeaderLength, rowBytes, sceneLength, isScene, refusedScene, sceneHeaderOf, noSceneHeader, sceneHeader}
+use Rattle.files.specs.Scenes.{rowsOf, firstWordsOf, secondWordsOf, namedBy, sceneChecks, sceneRefusal, sceneAnswer}
+use Rattle.files.specs.Scenes.{rowsAfter, firstWordsAfter, secondWordsAfter}
+use Rattle.files.proofs.Refusals.{Left, left-refused, left-next, left-last, left-accepts, left-others}
+use Rattle.files.proofs.Numbers.{front-is, front-length, header-there}
 
-module _ (bytes : List ℕ) where
-  pub scene-short : length bytes < sceneHeaderLength → isScene bytes ≡ false
+-- ---- the tests of a scene
+
+module _ (bytes : List ℕ) {f : Bool} (e : f ≡ hasHeader bytes sceneHeaderLength sceneMark) where
+  pub scene-no-header : not f ≡ true → false ≡ isScene bytes
   unfolding isScene
-  scene-short h = rw (lt-leb sceneHeaderLength (length bytes) h)
+  scene-no-header t = rw (← e, not-true f t)
 
-  module _ (long : sceneHeaderLength ≤ length bytes) where
-    pub scene-not-marked : isMarked bytes 72 83 67 ≡ false → isScene bytes ≡ false
-    unfolding isScene
-    scene-not-marked e = rw (le-leb sceneHeaderLength (length bytes) long, e)
+  module _ (t : not f ≡ false) where
+    pub scene-zero-there : 7 < length bytes
+    scene-zero-there = omega (arith, header-there bytes sceneHeaderLength sceneMark e t)
 
-    module _ (marked : isMarked bytes 72 83 67 ≡ true) where
-      pub scene-other-version : (u16At bytes 3 ≡ 1 → ⊥) → isScene bytes ≡ false
+    module _ {z : ℕ} (k : z ≡ getD bytes 7 0) where
+      pub scene-not-zero : (z ≡ 0 → ⊥) → false ≡ isScene bytes
       unfolding isScene
-      scene-other-version e = rw (le-leb sceneHeaderLength (length bytes) long, marked, ne-eqb (u16At bytes 3) 1 e)
+      scene-not-zero n = rw (← e, not-false f t, ← k, ne-eqb z 0 n)
 
-      module _ (version : u16At bytes 3 ≡ 1) where
-        pub scene-not-zero : (getD bytes 7 0 ≡ 0 → ⊥) → isScene bytes ≡ false
-        unfolding isScene
-        scene-not-zero e = rw (le-leb sceneHeaderLength (length bytes) long, marked, eq-eqb (u16At bytes 3) 1 version, ne-eqb (getD bytes 7 0) 0 e)
-
-        pub scene-by-length : getD bytes 7 0 ≡ 0 → isScene bytes ≡ eqb (length bytes) (sceneLength bytes)
-        unfolding isScene
-        scene-by-length e = rw (le-leb sceneHeaderLength (length bytes) long, marked, eq-eqb (u16At bytes 3) 1 version, eq-eqb (getD bytes 7 0) 0 e)
+      pub scene-by-length : {w : Bool} → z ≡ 0 → w ≡ eqb (length bytes) (sceneLength bytes) → w ≡ isScene bytes
+      unfolding isScene
+      scene-by-length n g = g ∙ rw (← e, not-false f t, ← k, eq-eqb z 0 n)
 
 module _ (bytes : List ℕ) (is : isScene bytes ≡ true) where
-  pub scene-whole : length bytes ≡ sceneLength bytes
+  scene-whole : length bytes ≡ sceneLength bytes
   unfolding isScene
-  scene-whole = eqb-true _ _ (and-right (leb sceneHeaderLength (length bytes) && isMarked bytes 72 83 67 && eqb (u16At bytes 3) 1 && eqb (getD bytes 7 0) 0) _ is)
+  scene-whole = eqb-true _ _ (and-right (hasHeader bytes sceneHeaderLength sceneMark && eqb (getD bytes 7 0) 0) _ is)
 
-  pub scene-long : sceneHeaderLength ≤ length bytes
-  scene-long = omega (arith, scene-whole)
+-- ---- the header
 
--- more rows, or words, than there may be are refused whatever they hold
-pub rows-many : (u : Universe) (n : ℕ) (f : ℕ → ℤ) → mostRows < n → rowsRefusal u (listed (rowLength * n) f) ≡ 3
-rows-many u n f h = rows-too-many u (listed (rowLength * n) f) (omega (arith, listed-length f (rowLength * n))) (omega (arith, listed-length f (rowLength * n)))
+-- each number is read at its place
+module _ (bytes : List ℕ) {rows first second : ℕ} (r : rows ≡ u16At bytes 8) (f : first ≡ u16At bytes 10) (s : second ≡ u16At bytes 12) where
+  pub whole-told : eqb (length bytes) (sceneHeaderLength + rowBytes * rows + wordBytes * (first + second)) ≡ eqb (length bytes) (sceneLength bytes)
+  whole-told = rw (r, f, s)
 
-pub words-many : (rows n : ℕ) (f : ℕ → ℕ) → mostWords < n → treeRefusal rows (listed n f) ≡ 5
-words-many rows n f h = too-long rows (listed n f) (omega (arith, listed-length f n))
+  pub header-made : {axes bits start last : ℕ} → axes ≡ getD bytes 5 0 → bits ≡ getD bytes 6 0 → start ≡ u16At bytes 14 → last ≡ u16At bytes 16 →
+      record {
+        scene =
+            record {
+              refusal = 0;
+              universe = record { axes = axes; bits = bits };
+              counts = record { rows = rows; first = first; second = second };
+              window = record { first = start; last = last };
+            };
+        places =
+            record {
+              rows = sceneHeaderLength;
+              first = sceneHeaderLength + rowBytes * rows;
+              second = sceneHeaderLength + rowBytes * rows + wordBytes * first;
+            };
+      }
+      ≡ sceneHeaderOf bytes
+  header-made a b c d = rw (r, f, s, a, b, c, d)
 
--- rows and words that are accepted fit the lent arrays
-pub rows-few : (u : Universe) (n : ℕ) (f : ℕ → ℤ) → rowsRefusal u (listed (rowLength * n) f) ≡ 0 → n ≤ mostRows
-rows-few u n f e = by (decLe n mostRows)
-  where
-    by : Dec (n ≤ mostRows) → n ≤ mostRows
-    by (yes h) = h
-    by (no h) = absurd (omega (arith, rows-many u n f (omega arith)))
+module _ (bytes : List ℕ) {f : Bool} (e : f ≡ isScene bytes) where
+  pub scene-long : f ≡ true → sceneHeaderLength ≤ length bytes
+  scene-long t = omega (arith, scene-whole bytes (sym e ∙ t))
 
-pub words-few : (rows n : ℕ) (f : ℕ → ℕ) → treeRefusal rows (listed n f) ≡ 0 → n ≤ mostWords
-words-few rows n f e = by (decLe n mostWords)
-  where
-    by : Dec (n ≤ mostWords) → n ≤ mostWords
-    by (yes h) = h
-    by (no h) = absurd (omega (arith, words-many rows n f (omega arith)))
+  pub header-told : {h : SceneHeader} → f ≡ true → h ≡ sceneHeaderOf bytes → h ≡ sceneHeader bytes
+  unfolding sceneHeader
+  header-told t g = g ∙ rw (← e, t)
+
+  pub header-none : {s : Scene} → f ≡ false → s ≡ refusedScene badFile →
+      record { scene = s; places = record { rows = 0; first = 0; second = 0 } } ≡ sceneHeader bytes
+  unfolding sceneHeader
+  header-none t g = rw (← e, t, g)
+
+-- ---- rows and words
+
+-- more of them than there may be are refused whatever they hold
+pub rows-many : (u : Universe) (n : ℕ) (f : ℕ → ℤ) → mostRows < n → badRows ≡ rowsRefusal u (listed (rowLength * n) f)
+rows-many u n f h =
+    let l = listed-length (rowLength * n) f in
+    sym (rows-too-many u (listed (rowLength * n) f) (omega (arith, l)) (omega (arith, l)))
+
+pub words-many : (names : Named) (n : ℕ) (f : ℕ → ℕ) → mostWords < n → overfullTree ≡ treeRefusal names (listed n f)
+words-many names n f h = sym (too-long names (listed n f) (omega (arith, listed-length n f)))
+
+-- the others are judged as they stand in the array that they were read into
+module _ (n : ℕ) where
+  pub rows-judged : {x : ℕ} {rows : List ℤ} (u : Universe) (f : ℕ → ℤ) (rest : List ℤ) →
+      rows ≡ listed n f ++ rest → x ≡ rowsRefusal u (take n rows) → x ≡ rowsRefusal u (listed n f)
+  rows-judged u f rest e g = g ∙ ap (rowsRefusal u) (front-is n f rest e)
+
+  pub words-judged : {x : ℕ} {words : List ℕ} (names : Named) (f : ℕ → ℕ) (rest : List ℕ) →
+      words ≡ listed n f ++ rest → x ≡ treeRefusal names (take n words) → x ≡ treeRefusal names (listed n f)
+  words-judged names f rest e g = g ∙ ap (treeRefusal names) (front-is n f rest e)
+
+-- those that are accepted fit the lent arrays
+rows-few : (u : Universe) (n : ℕ) (f : ℕ → ℤ) → rowsRefusal u (listed (rowLength * n) f) ≡ 0 → n ≤ mostRows
+rows-few u n f e = let few : mostRows < n → ⊥ = λ h. omega (arith, rows-many u n f h) in omega arith
+
+words-few : (names : Named) (n : ℕ) (f : ℕ → ℕ) → treeRefusal names (listed n f) ≡ 0 → n ≤ mostWords
+words-few names n f e = let few : mostWords < n → ⊥ = λ h. omega (arith, words-many names n f h) in omega arith
 
 -- the rows and words that a header tells of are there
-pub record Holds (bytes : List ℕ) (h : SceneHeader) : Type 0 where
-  pub rows : h .places .rows + 40 * h .scene .counts .rows ≤ length bytes
-  pub first : h .places .first + 2 * h .scene .counts .first ≤ length bytes
-  pub second : h .places .second + 2 * h .scene .counts .second ≤ length bytes
+record Holds (bytes : List ℕ) (h : SceneHeader) : Type 0 where
+  rows : h .places .rows + rowBytes * h .scene .counts .rows ≤ length bytes
+  first : h .places .first + wordBytes * h .scene .counts .first ≤ length bytes
+  second : h .places .second + wordBytes * h .scene .counts .second ≤ length bytes
 
-pub header-holds : (bytes : List ℕ) {h : SceneHeader} → h ≡ sceneHeader bytes → Holds bytes h
-unfolding sceneHeader
-header-holds bytes {h} e = rw e (by (isScene bytes) refl)
-  where
-    by : (b : Bool) → isScene bytes ≡ b → Holds bytes (cond b (headerOf bytes) noHeader)
-    by true is = record { rows = omega (arith, scene-whole bytes is); first = omega (arith, scene-whole bytes is); second = omega (arith, scene-whole bytes is) }
-    by false is = record { rows = omega arith; first = omega arith; second = omega arith }
+holds : (bytes : List ℕ) (b : Bool) → isScene bytes ≡ b → Holds bytes (cond b (sceneHeaderOf bytes) noSceneHeader)
+holds bytes true is =
+    let w = scene-whole bytes is in
+    record { rows = omega arith; first = omega arith; second = omega arith }
+holds bytes false is = record { rows = omega arith; first = omega arith; second = omega arith }
 
--- the answer is up to the checks of the header
-pub scene-checks : (bytes : List ℕ) {h : SceneHeader} → h ≡ sceneHeader bytes → Left (sceneRefusal bytes) (sceneChecks bytes h)
-unfolding sceneRefusal
-scene-checks bytes {h} e = record { same = ap (λ (g : SceneHeader). firstRefusal (sceneChecks bytes g)) (sym e) }
+module _ (bytes : List ℕ) {h : SceneHeader} (e : h ≡ sceneHeader bytes) where
+  header-holds : Holds bytes h
+  unfolding sceneHeader
+  header-holds = rw e (holds bytes (isScene bytes) refl)
+
+  pub rows-there : h .places .rows + rowBytes * h .scene .counts .rows ≤ length bytes
+  rows-there = header-holds .rows
+
+  pub first-there : h .places .first + wordBytes * h .scene .counts .first ≤ length bytes
+  first-there = header-holds .first
+
+  pub second-there : h .places .second + wordBytes * h .scene .counts .second ≤ length bytes
+  second-there = header-holds .second
+
+-- ---- the checks of a scene, one after the other: each refuses where those before it accept
+
+module _ (bytes : List ℕ) {h : SceneHeader} (e : h ≡ sceneHeader bytes) where
+  scene-checks : Left (sceneRefusal bytes) (sceneChecks bytes h)
+  unfolding sceneRefusal
+  scene-checks = record { same = ap (λ (g : SceneHeader). firstRefusal (sceneChecks bytes g)) (sym e) }
+
+  pub scene-by-file : (h .scene .refusal ≡ 0 → ⊥) → h .scene .refusal ≡ sceneRefusal bytes
+  scene-by-file n = left-refused scene-checks refl n
+
+  module _ {x : ℕ} (a : h .scene .refusal ≡ 0) (universe : x ≡ universeRefusal (h .scene .universe)) where
+    pub scene-by-universe : (x ≡ 0 → ⊥) → x ≡ sceneRefusal bytes
+    scene-by-universe n = left-refused (left-next scene-checks refl a) universe n
+
+    module _ {y : ℕ} (b : x ≡ 0) (rows : y ≡ rowsRefusal (h .scene .universe) (rowsOf bytes h)) where
+      pub scene-by-rows : (y ≡ 0 → ⊥) → y ≡ sceneRefusal bytes
+      scene-by-rows n = left-refused (left-next (left-next scene-checks refl a) universe b) rows n
+
+      module _ {v : ℕ} (c : y ≡ 0) (first : v ≡ treeRefusal (namedBy (h .scene .counts)) (firstWordsOf bytes h)) where
+        pub scene-by-first : (v ≡ 0 → ⊥) → v ≡ sceneRefusal bytes
+        scene-by-first n = left-refused (left-next (left-next (left-next scene-checks refl a) universe b) rows c) first n
+
+        module _ {w : ℕ} (d : v ≡ 0) (second : w ≡ treeRefusal (namedBy (h .scene .counts)) (secondWordsOf bytes h)) where
+          pub scene-by-second : (w ≡ 0 → ⊥) → w ≡ sceneRefusal bytes
+          scene-by-second n =
+              left-refused (left-next (left-next (left-next (left-next scene-checks refl a) universe b) rows c) first d) second n
+
+          pub scene-by-window : {m : ℕ} → w ≡ 0 → m ≡ windowRefusal (h .scene .universe) (h .scene .window .first) (h .scene .window .last) →
+              m ≡ sceneRefusal bytes
+          scene-by-window z window =
+              left-last (left-next (left-next (left-next (left-next (left-next scene-checks refl a) universe b) rows c) first d) second z) window
+
+-- ---- acceptance
 
 -- an accepted scene: every check accepts what is read, and it fits the lent arrays
 pub record Accepts (bytes : List ℕ) (h : SceneHeader) : Type 0 where
   pub file : h .scene .refusal ≡ 0
   pub universe : universeRefusal (h .scene .universe) ≡ 0
   pub rows : rowsRefusal (h .scene .universe) (rowsOf bytes h) ≡ 0
-  pub first : treeRefusal (h .scene .counts .rows) (firstWordsOf bytes h) ≡ 0
-  pub second : treeRefusal (h .scene .counts .rows) (secondWordsOf bytes h) ≡ 0
+  pub first : treeRefusal (namedBy (h .scene .counts)) (firstWordsOf bytes h) ≡ 0
+  pub second : treeRefusal (namedBy (h .scene .counts)) (secondWordsOf bytes h) ≡ 0
   pub window : windowRefusal (h .scene .universe) (h .scene .window .first) (h .scene .window .last) ≡ 0
 
 module _ (bytes : List ℕ) {h : SceneHeader} (e : h ≡ sceneHeader bytes) (z : sceneRefusal bytes ≡ 0) where
-  pub header-accepts : Accepts bytes h
+  header-accepts : Accepts bytes h
   header-accepts =
       let a = scene-checks bytes e in
       let b = left-others a z in
@@ -140,30 +225,98 @@ module _ (bytes : List ℕ) {h : SceneHeader} (e : h ≡ sceneHeader bytes) (z :
 pub scene-accepts : (bytes : List ℕ) → sceneRefusal bytes ≡ 0 → Accepts bytes (sceneHeader bytes)
 scene-accepts bytes z = header-accepts bytes refl z
 
--- the answer and the lent memory of a refused scene, and of an accepted one
-module _ (bytes : List ℕ) {x : ℕ} (judged : x ≡ sceneRefusal bytes) where
+-- ---- the answer and the lent memory of a refused scene, and of an accepted one
+
+module _ (bytes : List ℕ) {x : ℕ} (number : x ≡ sceneRefusal bytes) where
   module _ (refuses : x ≡ 0 → ⊥) where
     pub answer-refused : {s : Scene} → s ≡ refusedScene x → s ≡ sceneAnswer bytes
     unfolding sceneAnswer
-    answer-refused e = rw (ne-eqb (sceneRefusal bytes) 0 (λ z. refuses (judged ∙ z)), sym judged) e
+    answer-refused g = g ∙ rw (← number) (is-refused refusedScene _ x refuses)
 
     pub memory-refused : {A : Type 0} (values before : List A) → before ≡ overwritten (sceneRefusal bytes) values before
-    memory-refused values before = untouched values before (λ z. refuses (judged ∙ z))
+    memory-refused values before = untouched values before (λ z. refuses (number ∙ z))
 
-  module _ (z : x ≡ 0) where
-    pub answer-accepted : {h : SceneHeader} → h ≡ sceneHeader bytes → h .scene ≡ sceneAnswer bytes
+  module _ {h : SceneHeader} (z : x ≡ 0) (e : h ≡ sceneHeader bytes) where
+    pub answer-accepted : h .scene ≡ sceneAnswer bytes
     unfolding sceneAnswer
-    answer-accepted e = rw (eq-eqb (sceneRefusal bytes) 0 (sym judged ∙ z)) (ap (λ (g : SceneHeader). g .scene) e)
+    answer-accepted = ap (λ (g : SceneHeader). g .scene) e ∙ rw (← number) (is-done refusedScene _ x z)
 
-    kept : {A : Type 0} (n : ℕ) (f : ℕ → A) (before : List A) → listed n f ++ drop n before ≡ overwritten (sceneRefusal bytes) (listed n f) before
-    kept n f before = written (listed n f) before (sym judged ∙ z) (sym (listed-length f n))
+    filled : {A : Type 0} (n : ℕ) (f : ℕ → A) (before : List A) → listed n f ++ drop n before ≡ overwritten (sceneRefusal bytes) (listed n f) before
+    filled n f before = written (listed n f) before (sym number ∙ z) (sym (listed-length n f))
 
-    module _ {h : SceneHeader} (e : h ≡ sceneHeader bytes) where
-      pub rows-accepted : (before : List ℤ) {now : List ℤ} → now ≡ rowsOf bytes h ++ drop (rowLength * h .scene .counts .rows) before → now ≡ rowsAfter bytes before
-      rows-accepted before q = q ∙ kept _ _ before ∙ ap (λ (g : SceneHeader). overwritten (sceneRefusal bytes) (rowsOf bytes g) before) e
+    pub rows-accepted : (before : List ℤ) {now : List ℤ} → now ≡ rowsOf bytes h ++ drop (rowLength * h .scene .counts .rows) before →
+        now ≡ rowsAfter bytes before
+    rows-accepted before q = rw (← e) (q ∙ filled _ _ before)
 
-      pub first-accepted : (before : List ℕ) {now : List ℕ} → now ≡ firstWordsOf bytes h ++ drop (h .scene .counts .first) before → now ≡ firstWordsAfter bytes before
-      first-accepted before q = q ∙ kept _ _ before ∙ ap (λ (g : SceneHeader). overwritten (sceneRefusal bytes) (firstWordsOf bytes g) before) e
+    pub first-accepted : (before : List ℕ) {now : List ℕ} → now ≡ firstWordsOf bytes h ++ drop (h .scene .counts .first) before →
+        now ≡ firstWordsAfter bytes before
+    first-accepted before q = rw (← e) (q ∙ filled _ _ before)
 
-      pub second-accepted : (before : List ℕ) {now : List ℕ} → now ≡ secondWordsOf bytes h ++ drop (h .scene .counts .second) before → now ≡ secondWordsAfter bytes before
-      second-accepted before q = q ∙ kept _ _ before ∙ ap (λ (g : SceneHeader). overwritten (sceneRefusal bytes) (secondWordsOf bytes g) before) e
+    pub second-accepted : (before : List ℕ) {now : List ℕ} → now ≡ secondWordsOf bytes h ++ drop (h .scene .counts .second) before →
+        now ≡ secondWordsAfter bytes before
+    second-accepted before q = rw (← e) (q ∙ filled _ _ before)
+
+    -- what is read fits the lent arrays
+    accepted : sceneRefusal bytes ≡ 0
+    accepted = sym number ∙ z
+
+    pub numbers-fit : rowLength * h .scene .counts .rows < 2 ^ 64
+    numbers-fit = omega (arith, header-rows-few bytes e accepted)
+
+    pub numbers-place : h .places .rows + numberBytes * (rowLength * h .scene .counts .rows) ≤ length bytes
+    numbers-place = omega (arith, rows-there bytes e)
+
+    pub rows-room : (out : List ℤ) → length out ≡ rowLength * mostRows → rowLength * h .scene .counts .rows ≤ length out
+    rows-room out l = omega (arith, header-rows-few bytes e accepted)
+
+    pub first-room : (out : List ℕ) → length out ≡ mostWords → h .scene .counts .first ≤ length out
+    first-room out l = omega (arith, header-first-few bytes e accepted)
+
+    pub second-room : (out : List ℕ) → length out ≡ mostWords → h .scene .counts .second ≤ length out
+    second-room out l = omega (arith, header-second-few bytes e accepted)
+
+pub ruleset scene-laws = (
+  needs,
+  header-there,
+  scene-no-header,
+  scene-zero-there,
+  scene-not-zero,
+  scene-by-length,
+  scene-long,
+  whole-told,
+  header-made,
+  header-told,
+  header-none,
+)
+
+pub ruleset array-laws = (needs, front-length, rows-many, rows-judged, words-many, words-judged)
+
+pub ruleset refusal-laws = (
+  needs,
+  rows-there,
+  first-there,
+  second-there,
+  scene-by-file,
+  scene-by-universe,
+  scene-by-rows,
+  scene-by-first,
+  scene-by-second,
+  scene-by-window,
+)
+
+pub ruleset read-laws = (
+  needs,
+  answer-refused,
+  memory-refused,
+  answer-accepted,
+  rows-accepted,
+  first-accepted,
+  second-accepted,
+  numbers-fit,
+  numbers-place,
+  first-there,
+  second-there,
+  rows-room,
+  first-room,
+  second-room,
+)

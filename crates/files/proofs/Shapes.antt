@@ -1,141 +1,273 @@
--- Shape files: each test of `isShape` alone decides where those before it hold; and the answers and lent room of writing and of reading.
-use Prim.Native.Nat.{ℕ, _+_, _-_, _≤_, _<_}
+-- Shape files: each test of `isShape` alone decides where those before it hold; what a header tells of is there; and the answers and lent room of
+-- writing and of reading.
+use Prim.Native.Nat.{ℕ, _+_, _-_, _^_, _≤_, _<_}
 use native.Mathlib.Omega.{arith}
 use mathlib.Core.Path.{_≡_, refl, sym, ap, _∙_}
-use mathlib.Core.Bool.{Bool, true, false, cond, _&&_}
+use mathlib.Core.Bool.{Bool, true, false, not, cond}
 use mathlib.Core.List.{List, _++_}
-use lib.Dec.{leb, eqb}
-use lib.ListN.{length, take, drop}
-use lib.Seq.{paste}
-use borrow.Author.Tests.{le-leb, lt-leb, eq-eqb, ne-eqb, eqb-true}
+use lib.Dec.{eqb}
+use lib.ListN.{length, getD, take, drop, length-take, length-append}
+use lib.Seq.{sets}
+use borrow.Author.Needs.{needs}
+use borrow.Author.Tests.{le-leb, lt-leb, eqb-true, not-true, not-false}
 use Rattle.lemmas.proofs.Sums.{and-left, and-right}
+use Rattle.lemmas.proofs.Stores.{sets-append, sets-first}
 use Rattle.universe.specs.declared.Universe.{Universe}
-use Rattle.universe.specs.Refusals.{firstRefusal}
+use Rattle.universe.specs.Refusals.{firstRefusal, badFile, noRoom}
+use Rattle.universe.specs.Lent.{roomRefusal}
+use Rattle.universe.specs.Universe.{universeRefusal}
+use Rattle.universe.proofs.Universes.{accepted}
+use Rattle.universe.proofs.Lent.{untouched, written, room-enough, room-short}
 use Rattle.bintree.specs.declared.Written.{Written}
+use Rattle.bintree.specs.Answers.{unlessRefused, refusedWriting, shortWriting, doneWriting}
+use Rattle.bintree.proofs.Answers.{is-refused, is-done}
 use Rattle.files.specs.declared.ShapeRead.{ShapeRead}
 use Rattle.files.specs.declared.ShapeHeader.{ShapeHeader}
-use Rattle.files.specs.Numbers.{u16At, u32At, isMarked}
-use Rattle.files.specs.Shapes.{shapeHeaderLength, mostSymbols, mergedChecks, symbolsRefusal, shapeHeaderBytes, shapeBytes, fileRefusal, writeAnswer, writeBuffer, isShape, refusedShape, shapeHeaderOf, noShapeHeader, shapeHeader, symbolsOf, shapeChecks, shapeRefusal, readAnswer, readBuffer}
-use Rattle.files.proofs.Refusals.{Left, left-accepts}
-use Rattle.files.proofs.Lent.{untouched, written, front, behind}
+use Rattle.files.specs.Numbers.{u32At, hasHeader}
+use Rattle.files.specs.Shapes.{shapeMark, shapeHeaderLength, shapeLength, mostSymbols, symbolsChecks, symbolsRefusal, shapeHeaderBytes, shapeBytes}
+use Rattle.files.specs.Shapes.{fileRefusal, writeAnswer, writeBuffer, isShape, refusedShape, shortShape, shapeHeaderOf, noShapeHeader, shapeHeader}
+use Rattle.files.specs.Shapes.{symbolsOf, shapeChecks, shapeRefusal, readAnswer, readBuffer}
+use Rattle.files.proofs.Numbers.{header-there}
+use Rattle.files.proofs.Refusals.{Left, left-refused, left-next, left-last, left-accepts}
 
-module _ (bytes : List ℕ) where
-  pub shape-short : length bytes < shapeHeaderLength → isShape bytes ≡ false
+-- ---- the tests of a shape
+
+module _ (bytes : List ℕ) {f : Bool} (e : f ≡ hasHeader bytes shapeHeaderLength shapeMark) where
+  pub shape-no-header : not f ≡ true → false ≡ isShape bytes
   unfolding isShape
-  shape-short h = rw (lt-leb shapeHeaderLength (length bytes) h)
+  shape-no-header t = rw (← e, not-true f t)
 
-  module _ (long : shapeHeaderLength ≤ length bytes) where
-    pub shape-not-marked : isMarked bytes 66 78 84 ≡ false → isShape bytes ≡ false
-    unfolding isShape
-    shape-not-marked e = rw (le-leb shapeHeaderLength (length bytes) long, e)
-
-    module _ (marked : isMarked bytes 66 78 84 ≡ true) where
-      pub shape-other-version : (u16At bytes 3 ≡ 1 → ⊥) → isShape bytes ≡ false
-      unfolding isShape
-      shape-other-version e = rw (le-leb shapeHeaderLength (length bytes) long, marked, ne-eqb (u16At bytes 3) 1 e)
-
-      pub shape-by-length : u16At bytes 3 ≡ 1 → isShape bytes ≡ eqb (length bytes) (shapeHeaderLength + u32At bytes 7)
-      unfolding isShape
-      shape-by-length e = rw (le-leb shapeHeaderLength (length bytes) long, marked, eq-eqb (u16At bytes 3) 1 e)
+  pub shape-by-length : {count : ℕ} → not f ≡ false → count ≡ u32At bytes 7 → eqb (length bytes) (shapeLength count) ≡ isShape bytes
+  unfolding isShape
+  shape-by-length t k = rw (← e, not-false f t, k)
 
 -- what the tests say of a shape file
 pub record IsShape (bytes : List ℕ) : Type 0 where
-  pub marked : isMarked bytes 66 78 84 ≡ true
-  pub version : u16At bytes 3 ≡ 1
-  pub whole : length bytes ≡ shapeHeaderLength + u32At bytes 7
+  pub header : hasHeader bytes shapeHeaderLength shapeMark ≡ true
+  pub whole : length bytes ≡ shapeLength (u32At bytes 7)
 
 pub is-shape : (bytes : List ℕ) → isShape bytes ≡ true → IsShape bytes
 unfolding isShape
 is-shape bytes e =
-    let a = leb shapeHeaderLength (length bytes) in
-    let b = isMarked bytes 66 78 84 in
-    let c = eqb (u16At bytes 3) 1 in
-    let x = and-left (a && b && c) (eqb (length bytes) (shapeHeaderLength + u32At bytes 7)) e in
-    record {
-      marked = and-right a b (and-left (a && b) c x);
-      version = eqb-true (u16At bytes 3) 1 (and-right (a && b) c x);
-      whole = eqb-true (length bytes) (shapeHeaderLength + u32At bytes 7) (and-right (a && b && c) _ e);
-    }
+    let a = hasHeader bytes shapeHeaderLength shapeMark in
+    let b = eqb (length bytes) (shapeLength (u32At bytes 7)) in
+    record { header = and-left a b e; whole = eqb-true _ _ (and-right a b e) }
 
-pub shape-long : (bytes : List ℕ) → isShape bytes ≡ true → shapeHeaderLength ≤ length bytes
-shape-long bytes e = omega (arith, is-shape bytes e .whole)
+-- ---- the header
 
--- the symbols that a header tells of are there, and the answer is up to the checks
+-- each number is read at its place
+pub header-made : (bytes : List ℕ) {axes bits count : ℕ} → axes ≡ getD bytes 5 0 → bits ≡ getD bytes 6 0 → count ≡ u32At bytes 7 →
+    record { shape = record { refusal = 0; universe = record { axes = axes; bits = bits }; length = count }; place = shapeHeaderLength } ≡ shapeHeaderOf bytes
+header-made bytes a b c = rw (a, b, c)
+
+module _ (bytes : List ℕ) {f : Bool} (e : f ≡ isShape bytes) where
+  pub shape-long : f ≡ true → shapeHeaderLength ≤ length bytes
+  shape-long t = omega (arith, is-shape bytes (sym e ∙ t) .whole)
+
+  pub header-told : {h : ShapeHeader} → f ≡ true → h ≡ shapeHeaderOf bytes → h ≡ shapeHeader bytes
+  unfolding shapeHeader
+  header-told t g = g ∙ rw (← e, t)
+
+  pub header-none : {s : ShapeRead} → f ≡ false → s ≡ refusedShape badFile → record { shape = s; place = 0 } ≡ shapeHeader bytes
+  unfolding shapeHeader
+  header-none t g = rw (← e, t, g)
+
+pub ruleset shape-laws = (needs, header-there, shape-no-header, shape-by-length, shape-long, header-made, header-told, header-none)
+
+-- ---- the symbols that a header tells of are there, and the answer is up to the checks
+
+there : (bytes : List ℕ) (b : Bool) → isShape bytes ≡ b →
+    cond b (shapeHeaderOf bytes) noShapeHeader .place + cond b (shapeHeaderOf bytes) noShapeHeader .shape .length ≤ length bytes
+there bytes true is = omega (arith, is-shape bytes is .whole)
+there bytes false is = omega arith
+
 module _ (bytes : List ℕ) {h : ShapeHeader} (e : h ≡ shapeHeader bytes) where
   pub symbols-there : h .place + h .shape .length ≤ length bytes
   unfolding shapeHeader
-  symbols-there = rw e (by (isShape bytes) refl)
-    where
-      by : (b : Bool) → isShape bytes ≡ b → cond b (shapeHeaderOf bytes) noShapeHeader .place + cond b (shapeHeaderOf bytes) noShapeHeader .shape .length ≤ length bytes
-      by true is = omega (arith, is-shape bytes is .whole)
-      by false is = omega arith
+  symbols-there = rw e (there bytes (isShape bytes) refl)
+
+  pub symbols-end : length bytes < 2 ^ 64 → h .place + h .shape .length < 2 ^ 64
+  symbols-end l = omega (arith, symbols-there)
 
   pub shape-checks : Left (shapeRefusal bytes) (shapeChecks bytes h)
   unfolding shapeRefusal
   shape-checks = record { same = ap (λ (g : ShapeHeader). firstRefusal (shapeChecks bytes g)) (sym e) }
 
   -- the part of the bytes that code takes
-  pub part-is : take (h .place + h .shape .length - h .place) (drop (h .place) bytes) ≡ symbolsOf bytes h
-  part-is = let k : h .place + h .shape .length - h .place ≡ h .shape .length = omega arith in ap (λ (n : ℕ). take n (drop (h .place) bytes)) k
+  part-is : take (h .place + h .shape .length - h .place) (drop (h .place) bytes) ≡ symbolsOf bytes h
+  part-is =
+      let k : h .place + h .shape .length - h .place ≡ h .shape .length = omega arith in
+      ap (λ (n : ℕ). take n (drop (h .place) bytes)) k
 
--- the checks of an expression by itself
-pub symbols-checks : (u : Universe) (s : List ℕ) → Left (symbolsRefusal u s) (mergedChecks u s)
+  pub shape-by-file : (h .shape .refusal ≡ 0 → ⊥) → h .shape .refusal ≡ shapeRefusal bytes
+  shape-by-file n = left-refused shape-checks refl n
+
+  pub shape-by-symbols : {x : ℕ} → h .shape .refusal ≡ 0 →
+      x ≡ symbolsRefusal (h .shape .universe) (take (h .place + h .shape .length - h .place) (drop (h .place) bytes)) → x ≡ shapeRefusal bytes
+  shape-by-symbols z g = left-last (left-next shape-checks refl z) (g ∙ ap (symbolsRefusal (h .shape .universe)) part-is)
+
+pub ruleset shape-refusal-laws = (needs, symbols-there, symbols-end, shape-by-file, shape-by-symbols)
+
+-- ---- the header of an accepted universe is made of bytes
+
+module _ (u : Universe) (z : universeRefusal u ≡ 0) where
+  pub axes-small : u .axes < 256
+  axes-small = omega (arith, accepted u z .few-axes)
+
+  pub bits-small : u .bits < 256
+  bits-small = omega (arith, accepted u z .few-bits)
+
+pub ruleset header-laws = (needs, axes-small, bits-small)
+
+-- ---- writing: what it answers, and what the room holds afterwards
+
+symbols-checks : (u : Universe) (s : List ℕ) → Left (symbolsRefusal u s) (symbolsChecks u s)
 unfolding symbolsRefusal
 symbols-checks u s = record { same = refl }
 
--- what writing answers, and what the room holds afterwards
 module _ (u : Universe) (s out : List ℕ) where
-  pub write-keeps : {w : Written} → w ≡ writeAnswer u s out → (w .refusal ≡ 0 → ⊥) → out ≡ writeBuffer u s out
-  write-keeps e f = untouched (shapeBytes u s) out (λ z. f (ap (λ (w : Written). w .refusal) e ∙ z))
+  write-keeps : {w : Written} → w ≡ writeAnswer u s out → (w .refusal ≡ 0 → ⊥) → out ≡ writeBuffer u s out
+  write-keeps e n = untouched (shapeBytes u s) out (λ z. n (ap (λ (w : Written). w .refusal) e ∙ z))
 
-  module _ {x : ℕ} (judged : x ≡ symbolsRefusal u s) where
-    pub write-refused : (x ≡ 0 → ⊥) → record { refusal = x; length = 0 } ≡ writeAnswer u s out
-    unfolding writeAnswer
-    write-refused f = rw (← judged, ne-eqb x 0 f)
+  module _ {x : ℕ} (number : x ≡ symbolsRefusal u s) where
+    module _ (n : x ≡ 0 → ⊥) where
+      refused-writing : refusedWriting x ≡ writeAnswer u s out
+      unfolding writeAnswer
+      refused-writing = rw (← number) (is-refused refusedWriting _ x n)
+
+      pub write-refused : {w : Written} → w ≡ refusedWriting x → w ≡ writeAnswer u s out
+      write-refused g = g ∙ refused-writing
+
+      pub write-refused-kept : out ≡ writeBuffer u s out
+      write-refused-kept = write-keeps refused-writing n
 
     module _ (z : x ≡ 0) where
-      pub write-many : mostSymbols < length s → record { refusal = 6; length = shapeHeaderLength + length s } ≡ writeAnswer u s out
-      unfolding writeAnswer fileRefusal
-      write-many h = rw (← judged, eq-eqb x 0 z, lt-leb (length s) mostSymbols h)
+      pub write-accepted : universeRefusal u ≡ 0
+      write-accepted = left-accepts (symbols-checks u s) (sym number ∙ z)
+
+      -- number 6, or all is written
+      written-by-room : (six : ℕ) → fileRefusal (length out) (length s) ≡ six →
+          unlessRefused six (λ k. shortWriting (shapeLength (length s))) (doneWriting (shapeLength (length s))) ≡ writeAnswer u s out
+      unfolding writeAnswer
+      written-by-room six e = rw (← number, ← e) (is-done refusedWriting _ x z)
+
+      short-writing : fileRefusal (length out) (length s) ≡ noRoom → shortWriting (shapeLength (length s)) ≡ writeAnswer u s out
+      short-writing e = written-by-room noRoom e
+
+      many : mostSymbols < length s → fileRefusal (length out) (length s) ≡ noRoom
+      unfolding fileRefusal
+      many h = rw (lt-leb (length s) mostSymbols h)
+
+      pub write-many : {w : Written} → mostSymbols < length s → w ≡ shortWriting (shapeLength (length s)) → w ≡ writeAnswer u s out
+      write-many h g = g ∙ short-writing (many h)
+
+      pub write-many-kept : mostSymbols < length s → out ≡ writeBuffer u s out
+      write-many-kept h = write-keeps (short-writing (many h)) (λ k. omega arith)
 
       module _ (few : length s ≤ mostSymbols) where
-        pub write-short : length out < shapeHeaderLength + length s → record { refusal = 6; length = shapeHeaderLength + length s } ≡ writeAnswer u s out
-        unfolding writeAnswer fileRefusal
-        write-short h = rw (← judged, eq-eqb x 0 z, le-leb (length s) mostSymbols few, lt-leb (shapeHeaderLength + length s) (length out) h)
+        module _ (h : length out < shapeLength (length s)) where
+          lacking : fileRefusal (length out) (length s) ≡ noRoom
+          unfolding fileRefusal
+          lacking = rw (le-leb (length s) mostSymbols few) (room-short (length out) (shapeLength (length s)) h)
 
-        module _ (h : shapeHeaderLength + length s ≤ length out) where
-          pub write-all : record { refusal = 0; length = shapeHeaderLength + length s } ≡ writeAnswer u s out
-          unfolding writeAnswer fileRefusal
-          write-all = rw (← judged, eq-eqb x 0 z, le-leb (length s) mostSymbols few, le-leb (shapeHeaderLength + length s) (length out) h)
+          pub write-short : {w : Written} → w ≡ shortWriting (shapeLength (length s)) → w ≡ writeAnswer u s out
+          write-short g = g ∙ short-writing lacking
 
-          pub write-leaves : {header front now : List ℕ} → header ≡ shapeHeaderBytes u (length s) → front ≡ paste out 0 header (length header) → now ≡ paste front shapeHeaderLength s (length s) → now ≡ writeBuffer u s out
+          pub write-short-kept : out ≡ writeBuffer u s out
+          write-short-kept = write-keeps (short-writing lacking) (λ k. omega arith)
+
+        module _ (h : shapeLength (length s) ≤ length out) where
+          enough : fileRefusal (length out) (length s) ≡ 0
+          unfolding fileRefusal
+          enough = rw (le-leb (length s) mostSymbols few) (room-enough (length out) (shapeLength (length s)) h)
+
+          all : doneWriting (shapeLength (length s)) ≡ writeAnswer u s out
+          all = written-by-room 0 enough
+
+          pub write-all : {w : Written} → w ≡ doneWriting (shapeLength (length s)) → w ≡ writeAnswer u s out
+          write-all g = g ∙ all
+
+          -- the header stored from the first place on, and the symbols behind it
+          pub write-leaves : {header front now : List ℕ} → header ≡ shapeHeaderBytes u (length s) → front ≡ sets out 0 header →
+              now ≡ sets front shapeHeaderLength s → now ≡ writeBuffer u s out
           unfolding shapeBytes
           write-leaves k f g =
-              let b = behind (shapeHeaderBytes u (length s)) s out (f ∙ ap (λ (l : List ℕ). paste out 0 l (length l)) k) in
-              g ∙ b ∙ written (shapeHeaderBytes u (length s) ++ s) out (sym (ap (λ (w : Written). w .refusal) write-all)) refl
+              let bytes = shapeHeaderBytes u (length s) in
+              g
+              ∙ ap (λ (l : List ℕ). sets l shapeHeaderLength s) (f ∙ ap (sets out 0) k)
+              ∙ sets-append bytes s out 0
+              ∙ sets-first (bytes ++ s) out (omega (arith, length-append bytes s))
+              ∙ written (bytes ++ s) out (sym (ap (λ (w : Written). w .refusal) all)) refl
 
--- what reading answers, and what the room holds afterwards
+pub ruleset write-laws = (
+  needs,
+  write-refused,
+  write-refused-kept,
+  write-accepted,
+  write-many,
+  write-many-kept,
+  write-short,
+  write-short-kept,
+  write-all,
+  write-leaves,
+)
+
+-- ---- reading: what it answers, and what the room holds afterwards
+
 module _ (bytes out : List ℕ) where
-  pub read-keeps : {r : ShapeRead} → r ≡ readAnswer bytes out → (r .refusal ≡ 0 → ⊥) → out ≡ readBuffer bytes out
-  read-keeps e f = untouched (symbolsOf bytes (shapeHeader bytes)) out (λ z. f (ap (λ (r : ShapeRead). r .refusal) e ∙ z))
+  read-keeps : {r : ShapeRead} → r ≡ readAnswer bytes out → (r .refusal ≡ 0 → ⊥) → out ≡ readBuffer bytes out
+  read-keeps e n = untouched (symbolsOf bytes (shapeHeader bytes)) out (λ z. n (ap (λ (r : ShapeRead). r .refusal) e ∙ z))
 
-  module _ {x : ℕ} (judged : x ≡ shapeRefusal bytes) where
-    pub read-refused : (x ≡ 0 → ⊥) → {r : ShapeRead} → r ≡ refusedShape x 0 → r ≡ readAnswer bytes out
-    unfolding readAnswer
-    read-refused f e = rw (← judged, ne-eqb x 0 f) e
-
-    module _ (z : x ≡ 0) {h : ShapeHeader} (e : h ≡ shapeHeader bytes) where
-      pub read-short : length out < h .shape .length → {r : ShapeRead} → r ≡ refusedShape 6 (h .shape .length) → r ≡ readAnswer bytes out
+  module _ {x : ℕ} (number : x ≡ shapeRefusal bytes) where
+    module _ (n : x ≡ 0 → ⊥) where
+      refused-reading : refusedShape x ≡ readAnswer bytes out
       unfolding readAnswer
-      read-short l q = rw (← judged, eq-eqb x 0 z, ← e, lt-leb (h .shape .length) (length out) l) q
+      refused-reading = rw (← number) (is-refused refusedShape _ x n)
+
+      pub read-refused : {r : ShapeRead} → r ≡ refusedShape x → r ≡ readAnswer bytes out
+      read-refused g = g ∙ refused-reading
+
+      pub read-refused-kept : out ≡ readBuffer bytes out
+      read-refused-kept = read-keeps refused-reading n
+
+    module _ {h : ShapeHeader} (z : x ≡ 0) (e : h ≡ shapeHeader bytes) where
+      read-by-room : (six : ℕ) → roomRefusal (length out) (h .shape .length) ≡ six →
+          unlessRefused six (λ k. shortShape (h .shape .length)) (h .shape) ≡ readAnswer bytes out
+      unfolding readAnswer
+      read-by-room six f = rw (← number, ← e, f) (is-done refusedShape _ x z)
+
+      module _ (l : length out < h .shape .length) where
+        short-reading : shortShape (h .shape .length) ≡ readAnswer bytes out
+        short-reading = read-by-room noRoom (room-short (length out) (h .shape .length) l)
+
+        pub read-short : {r : ShapeRead} → r ≡ shortShape (h .shape .length) → r ≡ readAnswer bytes out
+        read-short g = g ∙ short-reading
+
+        pub read-short-kept : out ≡ readBuffer bytes out
+        read-short-kept = read-keeps short-reading (λ k. omega arith)
 
       module _ (l : h .shape .length ≤ length out) where
         pub read-all : h .shape ≡ readAnswer bytes out
-        unfolding readAnswer
-        read-all = rw (← judged, eq-eqb x 0 z, ← e, le-leb (h .shape .length) (length out) l)
+        read-all = read-by-room 0 (room-enough (length out) (h .shape .length) l)
 
-        pub read-leaves : {part now : List ℕ} → part ≡ take (h .place + h .shape .length - h .place) (drop (h .place) bytes) → now ≡ paste out 0 part (length part) → now ≡ readBuffer bytes out
-        read-leaves p q =
-            let a = p ∙ part-is bytes e ∙ ap (symbolsOf bytes) e in
-            let r = left-accepts (shape-checks bytes e) (sym judged ∙ z) in
-            q ∙ ap (λ (w : List ℕ). paste out 0 w (length w)) a ∙ front (symbolsOf bytes (shapeHeader bytes)) out ∙ written (symbolsOf bytes (shapeHeader bytes)) out (sym (ap (λ (v : ShapeRead). v .refusal) read-all) ∙ r) refl
+        pub read-leaves : {now : List ℕ} → let part = take (h .place + h .shape .length - h .place) (drop (h .place) bytes) in
+            now ≡ sets out 0 part → now ≡ readBuffer bytes out
+        read-leaves q =
+            let r = left-accepts (shape-checks bytes e) (sym number ∙ z) in
+            q
+            ∙ ap (sets out 0) (part-is bytes e)
+            ∙ sets-first (symbolsOf bytes h) out (omega (arith, length-take (h .shape .length) (drop (h .place) bytes)))
+            ∙ ap (λ (w : List ℕ). w ++ drop (length w) out) (ap (symbolsOf bytes) e)
+            ∙ written (symbolsOf bytes (shapeHeader bytes)) out (sym (ap (λ (v : ShapeRead). v .refusal) read-all) ∙ r) refl
+
+pub ruleset read-laws = (
+  needs,
+  symbols-there,
+  symbols-end,
+  read-refused,
+  read-refused-kept,
+  read-short,
+  read-short-kept,
+  read-all,
+  read-leaves,
+)

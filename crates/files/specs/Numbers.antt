@@ -1,10 +1,13 @@
--- Document 01, "Files": "Little-endian, no padding." Numbers and marks in bytes; past the end of the bytes stands 0.
-use Prim.Native.Nat.{ℕ, zero, suc, _+_, _*_, _/_, _%_, _^_}
+-- Document 01, "Files": "Little-endian, no padding." Numbers in bytes, and with what a file begins; past the end of the
+-- bytes stands 0.
+use Prim.Native.Nat.{ℕ, _+_, _*_, _/_, _%_, _^_}
 use mathlib.Core.Bool.{Bool, cond, _&&_}
-use mathlib.Core.List.{List, [], _∷_, _++_}
-use lib.Dec.{ltb, eqb}
-use lib.ListN.{getD}
+use mathlib.Core.List.{List, [], _∷_}
+use lib.Dec.{ltb, leb, eqb}
+use lib.ListN.{length, getD}
 use lib.IntN.{ℤ, pos, _-ℤ_}
+use Rattle.lemmas.specs.Sums.{every}
+use Rattle.lemmas.specs.Grid.{listed}
 
 -- an unsigned number at a place: its lower half comes first
 abbrev pub u16At : List ℕ → ℕ → ℕ
@@ -17,24 +20,34 @@ abbrev pub u64At : List ℕ → ℕ → ℕ
 u64At bytes at = u32At bytes at + 4_294_967_296 * u32At bytes (at + 4)
 
 -- 64 bits as a whole number: two's complement
-unfoldable pub signed : ℕ → ℤ
-signed n = cond (ltb n (2 ^ 63)) (pos n) (pos n -ℤ pos (2 ^ 64))
+unfoldable pub fromBits : ℕ → ℤ
+fromBits n = cond (ltb n (2 ^ 63)) (pos n) (pos n -ℤ pos (2 ^ 64))
 
--- numbers that stand one after the other: what a rule gives at 0, 1, .., one for each of n
-unfoldable pub listed : {A : Type 0} → ℕ → (ℕ → A) → List A
-listed zero f = []
-listed (suc n) f = listed n f ++ (f n ∷ [])
+-- the bytes of a number i64, and of a word u16; and n of them, one after the other
+abbrev pub numberBytes : ℕ
+numberBytes = 8
+
+abbrev pub wordBytes : ℕ
+wordBytes = 2
 
 abbrev pub i64sAt : List ℕ → ℕ → ℕ → List ℤ
-i64sAt bytes at n = listed n (λ i. signed (u64At bytes (at + 8 * i)))
+i64sAt bytes at n = listed n (λ i. fromBits (u64At bytes (at + numberBytes * i)))
 
 abbrev pub u16sAt : List ℕ → ℕ → ℕ → List ℕ
-u16sAt bytes at n = listed n (λ i. u16At bytes (at + 2 * i))
+u16sAt bytes at n = listed n (λ i. u16At bytes (at + wordBytes * i))
 
--- the bytes of an unsigned number below 2^32
+-- the bytes of an unsigned number below 2^16, and of one below 2^32
+abbrev pub u16Bytes : ℕ → List ℕ
+u16Bytes n = n % 256 ∷ n / 256 % 256 ∷ []
+
 abbrev pub u32Bytes : ℕ → List ℕ
 u32Bytes n = n % 256 ∷ n / 256 % 256 ∷ n / 65_536 % 256 ∷ n / 16_777_216 % 256 ∷ []
 
--- the three bytes with which a file of a kind begins
-abbrev pub isMarked : List ℕ → ℕ → ℕ → ℕ → Bool
-isMarked bytes a b c = eqb (getD bytes 0 0) a && eqb (getD bytes 1 0) b && eqb (getD bytes 2 0) c
+-- a file begins with the three bytes of its mark and "version u16 = 1"
+abbrev pub markOf : ℕ → ℕ → ℕ → List ℕ
+markOf a b c = a ∷ b ∷ c ∷ u16Bytes 1
+
+-- whether bytes are as long as a header of so many bytes, and begin with its mark
+unfoldable pub hasHeader : List ℕ → ℕ → List ℕ → Bool
+hasHeader bytes header mark =
+    leb header (length bytes) && every (length mark) (λ i. eqb (getD bytes i 0) (getD mark i 0))

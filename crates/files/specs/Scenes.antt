@@ -1,49 +1,59 @@
--- Document 01, "Files": the scene. `sceneHeader`, by `isScene` and `headerOf`, alone knows its version and its places.
+-- Document 01, "Files": the scene. `sceneHeader`, by `isScene` and `sceneHeaderOf`, alone knows its version and its
+-- places.
 use Prim.Native.Nat.{ℕ, _+_, _*_}
 use mathlib.Core.Bool.{Bool, cond, _&&_}
 use mathlib.Core.List.{List, [], _∷_}
-use lib.Dec.{leb, eqb}
+use lib.Dec.{eqb}
 use lib.IntN.{ℤ}
 use lib.ListN.{length, getD}
-use Rattle.universe.specs.Refusals.{firstRefusal}
+use Rattle.universe.specs.Refusals.{firstRefusal, badFile}
+use Rattle.universe.specs.Lent.{overwritten}
 use Rattle.universe.specs.Universe.{universeRefusal}
 use Rattle.universe.specs.Voxel.{windowRefusal}
+use Rattle.bintree.specs.Answers.{unlessRefused}
 use Rattle.csg.specs.Halfspace.{rowLength, rowsRefusal}
+use Rattle.csg.specs.Surfaces.{Named}
 use Rattle.csg.specs.Words.{treeRefusal}
+use Rattle.files.specs.declared.Counts.{Counts}
 use Rattle.files.specs.declared.Scene.{Scene}
 use Rattle.files.specs.declared.SceneHeader.{SceneHeader}
-use Rattle.files.specs.Lent.{overwritten}
-use Rattle.files.specs.Numbers.{u16At, i64sAt, u16sAt, isMarked}
+use Rattle.files.specs.Numbers.{u16At, i64sAt, u16sAt, numberBytes, wordBytes, markOf, hasHeader}
 
--- "18 + 40·H + 2·(W1 + W2) bytes": the length of the header, and that of the file by its "counts u16: halfspaces, words of tree 1, of tree 2"
+-- "`HSC`, version u16 = 1"
+abbrev pub sceneMark : List ℕ
+sceneMark = markOf 72 83 67
+
+-- "18 + 40·H + 2·(W1 + W2) bytes": the length of the header, that of a row, and that of the file by its "counts u16:
+-- halfspaces, words of tree 1, of tree 2"
 abbrev pub sceneHeaderLength : ℕ
 sceneHeaderLength = 18
 
-abbrev pub sceneLength : List ℕ → ℕ
-sceneLength bytes = sceneHeaderLength + 40 * u16At bytes 8 + 2 * (u16At bytes 10 + u16At bytes 12)
+abbrev pub rowBytes : ℕ
+rowBytes = numberBytes * rowLength
 
--- "`HSC`, version u16 = 1, d, k, a zero byte"; and the file is as long as its counts say
+abbrev pub sceneLength : List ℕ → ℕ
+sceneLength bytes = sceneHeaderLength + rowBytes * u16At bytes 8 + wordBytes * (u16At bytes 10 + u16At bytes 12)
+
+-- whether bytes are a scene by mark, version, "a zero byte" and length
 unfoldable pub isScene : List ℕ → Bool
 isScene bytes =
-    leb sceneHeaderLength (length bytes)
-    && isMarked bytes 72 83 67
-    && eqb (u16At bytes 3) 1
+    hasHeader bytes sceneHeaderLength sceneMark
     && eqb (getD bytes 7 0) 0
     && eqb (length bytes) (sceneLength bytes)
 
 -- "All other fields of a refused answer are zero"
 abbrev pub refusedScene : ℕ → Scene
-refusedScene n =
+refusedScene number =
     record {
-      refusal = n;
+      refusal = number;
       universe = record { axes = 0; bits = 0 };
       counts = record { rows = 0; first = 0; second = 0 };
       window = record { first = 0; last = 0 };
     }
 
 -- what the header says of the scene, and where the rows, the words of tree 1 and those of tree 2 begin
-abbrev pub headerOf : List ℕ → SceneHeader
-headerOf bytes =
+abbrev pub sceneHeaderOf : List ℕ → SceneHeader
+sceneHeaderOf bytes =
     record {
       scene =
           record {
@@ -55,17 +65,17 @@ headerOf bytes =
       places =
           record {
             rows = sceneHeaderLength;
-            first = sceneHeaderLength + 40 * u16At bytes 8;
-            second = sceneHeaderLength + 40 * u16At bytes 8 + 2 * u16At bytes 10;
+            first = sceneHeaderLength + rowBytes * u16At bytes 8;
+            second = sceneHeaderLength + rowBytes * u16At bytes 8 + wordBytes * u16At bytes 10;
           };
     }
 
 -- number 1 where the file is no scene
-abbrev pub noHeader : SceneHeader
-noHeader = record { scene = refusedScene 1; places = record { rows = 0; first = 0; second = 0 } }
+abbrev pub noSceneHeader : SceneHeader
+noSceneHeader = record { scene = refusedScene badFile; places = record { rows = 0; first = 0; second = 0 } }
 
 unfoldable pub sceneHeader : List ℕ → SceneHeader
-sceneHeader bytes = cond (isScene bytes) (headerOf bytes) noHeader
+sceneHeader bytes = cond (isScene bytes) (sceneHeaderOf bytes) noSceneHeader
 
 -- "halfspaces, five i64 each; words u16"
 abbrev pub rowsOf : List ℕ → SceneHeader → List ℤ
@@ -77,14 +87,18 @@ firstWordsOf bytes h = u16sAt bytes (h .places .first) (h .scene .counts .first)
 abbrev pub secondWordsOf : List ℕ → SceneHeader → List ℕ
 secondWordsOf bytes h = u16sAt bytes (h .places .second) (h .scene .counts .second)
 
+-- what the words of both trees may name
+abbrev pub namedBy : Counts → Named
+namedBy counts = record { halfspaces = counts .rows }
+
 -- "Order for scenes and conversions: 1, 2, 3, trees one after the other, 9"
 abbrev pub sceneChecks : List ℕ → SceneHeader → List ℕ
 sceneChecks bytes h =
     h .scene .refusal
     ∷ universeRefusal (h .scene .universe)
     ∷ rowsRefusal (h .scene .universe) (rowsOf bytes h)
-    ∷ treeRefusal (h .scene .counts .rows) (firstWordsOf bytes h)
-    ∷ treeRefusal (h .scene .counts .rows) (secondWordsOf bytes h)
+    ∷ treeRefusal (namedBy (h .scene .counts)) (firstWordsOf bytes h)
+    ∷ treeRefusal (namedBy (h .scene .counts)) (secondWordsOf bytes h)
     ∷ windowRefusal (h .scene .universe) (h .scene .window .first) (h .scene .window .last)
     ∷ []
 
@@ -93,7 +107,7 @@ sceneRefusal bytes = firstRefusal (sceneChecks bytes (sceneHeader bytes))
 
 -- what reading a scene answers
 unfoldable pub sceneAnswer : List ℕ → Scene
-sceneAnswer bytes = cond (eqb (sceneRefusal bytes) 0) (sceneHeader bytes .scene) (refusedScene (sceneRefusal bytes))
+sceneAnswer bytes = unlessRefused (sceneRefusal bytes) refusedScene (sceneHeader bytes .scene)
 
 -- what the lent arrays hold afterwards
 abbrev pub rowsAfter : List ℕ → List ℤ → List ℤ

@@ -1,20 +1,24 @@
--- Document 01, "Files": the shape. `shapeHeader`, by `isShape` and `shapeHeaderOf`, and `shapeHeaderBytes` alone know its version and its places.
+-- Document 01, "Files": the shape. `shapeHeader`, by `isShape` and `shapeHeaderOf`, and `shapeHeaderBytes` alone know
+-- its version and its places.
 use Prim.Native.Nat.{ℕ, _+_}
 use mathlib.Core.Bool.{Bool, true, cond, _&&_}
 use mathlib.Core.List.{List, [], _∷_, _++_}
 use lib.Dec.{leb, eqb}
 use lib.ListN.{length, getD, take, drop}
 use Rattle.universe.specs.declared.Universe.{Universe}
-use Rattle.universe.specs.Refusals.{firstRefusal, unless}
-use Rattle.universe.specs.Universe.{universeRefusal}
+use Rattle.universe.specs.Refusals.{firstRefusal, unless, badFile, noRoom, notMerged}
+use Rattle.universe.specs.Lent.{overwritten, roomRefusal}
 use Rattle.bintree.specs.declared.Written.{Written}
-use Rattle.bintree.specs.Reading.{expression, expressionRefusal}
+use Rattle.bintree.specs.Reading.{expression}
 use Rattle.bintree.specs.Merging.{isMerged}
-use Rattle.bintree.specs.Answers.{ofShape}
+use Rattle.bintree.specs.Answers.{ofShape, unlessRefused, expressionChecks, refusedWriting, shortWriting, doneWriting}
 use Rattle.files.specs.declared.ShapeRead.{ShapeRead}
 use Rattle.files.specs.declared.ShapeHeader.{ShapeHeader}
-use Rattle.files.specs.Lent.{overwritten}
-use Rattle.files.specs.Numbers.{u16At, u32At, u32Bytes, isMarked}
+use Rattle.files.specs.Numbers.{u32At, u32Bytes, markOf, hasHeader}
+
+-- "`BNT`, version u16 = 1"
+abbrev pub shapeMark : List ℕ
+shapeMark = markOf 66 78 84
 
 -- "11 + count bytes", and the most that a "symbol count u32" counts
 abbrev pub shapeHeaderLength : ℕ
@@ -25,59 +29,66 @@ mostSymbols = 4_294_967_295
 
 -- number 8 where an expression is not merged; one that is not well-formed is refused before
 unfoldable pub mergedRefusal : Universe → List ℕ → ℕ
-mergedRefusal u s = unless (ofShape (expression u s) true isMerged) 8
+mergedRefusal u s = unless (ofShape (expression u s) true isMerged) notMerged
 
 -- "For expressions: 1, 2, 7, 8, 9, 6": those of an expression that is or goes into a shape file
-abbrev pub mergedChecks : Universe → List ℕ → List ℕ
-mergedChecks u s = universeRefusal u ∷ expressionRefusal u s ∷ mergedRefusal u s ∷ []
+abbrev pub symbolsChecks : Universe → List ℕ → List ℕ
+symbolsChecks u s = expressionChecks u s ++ (mergedRefusal u s ∷ [])
 
 unfoldable pub symbolsRefusal : Universe → List ℕ → ℕ
-symbolsRefusal u s = firstRefusal (mergedChecks u s)
+symbolsRefusal u s = firstRefusal (symbolsChecks u s)
 
--- "`BNT`, version u16 = 1, d, k", "symbol count u32"
+-- mark, version, "d, k", "symbol count u32"
 abbrev pub shapeHeaderBytes : Universe → ℕ → List ℕ
-shapeHeaderBytes u count = 66 ∷ 78 ∷ 84 ∷ 1 ∷ 0 ∷ u .axes ∷ u .bits ∷ u32Bytes count
+shapeHeaderBytes u count = shapeMark ++ (u .axes ∷ u .bits ∷ u32Bytes count)
 
--- the shape file of an expression
+-- the shape file of an expression, and its length
 unfoldable pub shapeBytes : Universe → List ℕ → List ℕ
 shapeBytes u s = shapeHeaderBytes u (length s) ++ s
 
+abbrev pub shapeLength : ℕ → ℕ
+shapeLength count = shapeHeaderLength + count
+
 -- number 6: "file bytes needed exceed the room lent; a shape file also where its symbols exceed 4,294,967,295"
 unfoldable pub fileRefusal : ℕ → ℕ → ℕ
-fileRefusal lent count = unless (leb count mostSymbols && leb (shapeHeaderLength + count) lent) 6
+fileRefusal lent count = cond (leb count mostSymbols) (roomRefusal lent (shapeLength count)) noRoom
 
 -- what writing a shape file answers, and what the room holds afterwards
 unfoldable pub writeAnswer : Universe → List ℕ → List ℕ → Written
 writeAnswer u s out =
-    cond (eqb (symbolsRefusal u s) 0)
-    (record { refusal = fileRefusal (length out) (length s); length = shapeHeaderLength + length s })
-    (record { refusal = symbolsRefusal u s; length = 0 })
+    unlessRefused (symbolsRefusal u s) refusedWriting
+    (unlessRefused (fileRefusal (length out) (length s)) (λ six. shortWriting (shapeLength (length s)))
+    (doneWriting (shapeLength (length s))))
 
 abbrev pub writeBuffer : Universe → List ℕ → List ℕ → List ℕ
 writeBuffer u s out = overwritten (writeAnswer u s out .refusal) (shapeBytes u s) out
 
--- whether bytes are a shape file by mark, version and length; a count that does not fit the length is number 1
+-- whether bytes are a shape by mark, version and length; a count that does not fit the length is number 1
 unfoldable pub isShape : List ℕ → Bool
-isShape bytes =
-    leb shapeHeaderLength (length bytes)
-    && isMarked bytes 66 78 84
-    && eqb (u16At bytes 3) 1
-    && eqb (length bytes) (shapeHeaderLength + u32At bytes 7)
+isShape bytes = hasHeader bytes shapeHeaderLength shapeMark && eqb (length bytes) (shapeLength (u32At bytes 7))
 
 -- "All other fields of a refused answer are zero", and number 6 "also returns the length needed"
-abbrev pub refusedShape : ℕ → ℕ → ShapeRead
-refusedShape n needed = record { refusal = n; universe = record { axes = 0; bits = 0 }; length = needed }
+abbrev pub refusedShape : ℕ → ShapeRead
+refusedShape number = record { refusal = number; universe = record { axes = 0; bits = 0 }; length = 0 }
+
+abbrev pub shortShape : ℕ → ShapeRead
+shortShape needed = record { refusal = noRoom; universe = record { axes = 0; bits = 0 }; length = needed }
 
 -- what the header says of the shape, and where the symbols begin; number 1 where the file is no shape
 abbrev pub shapeHeaderOf : List ℕ → ShapeHeader
 shapeHeaderOf bytes =
     record {
-      shape = record { refusal = 0; universe = record { axes = getD bytes 5 0; bits = getD bytes 6 0 }; length = u32At bytes 7 };
+      shape =
+          record {
+            refusal = 0;
+            universe = record { axes = getD bytes 5 0; bits = getD bytes 6 0 };
+            length = u32At bytes 7;
+          };
       place = shapeHeaderLength;
     }
 
 abbrev pub noShapeHeader : ShapeHeader
-noShapeHeader = record { shape = refusedShape 1 0; place = 0 }
+noShapeHeader = record { shape = refusedShape badFile; place = 0 }
 
 unfoldable pub shapeHeader : List ℕ → ShapeHeader
 shapeHeader bytes = cond (isShape bytes) (shapeHeaderOf bytes) noShapeHeader
@@ -94,11 +105,12 @@ unfoldable pub shapeRefusal : List ℕ → ℕ
 shapeRefusal bytes = firstRefusal (shapeChecks bytes (shapeHeader bytes))
 
 -- "Reading one gives d and k and copies its symbols into lent room, so 6 applies to it"
+abbrev pub readHeader : ℕ → ShapeHeader → ShapeRead
+readHeader lent h =
+    unlessRefused (roomRefusal lent (h .shape .length)) (λ six. shortShape (h .shape .length)) (h .shape)
+
 unfoldable pub readAnswer : List ℕ → List ℕ → ShapeRead
-readAnswer bytes out =
-    cond (eqb (shapeRefusal bytes) 0)
-    (cond (leb (shapeHeader bytes .shape .length) (length out)) (shapeHeader bytes .shape) (refusedShape 6 (shapeHeader bytes .shape .length)))
-    (refusedShape (shapeRefusal bytes) 0)
+readAnswer bytes out = unlessRefused (shapeRefusal bytes) refusedShape (readHeader (length out) (shapeHeader bytes))
 
 abbrev pub readBuffer : List ℕ → List ℕ → List ℕ
 readBuffer bytes out = overwritten (readAnswer bytes out .refusal) (symbolsOf bytes (shapeHeader bytes)) out

@@ -3,20 +3,30 @@ ghost use mathlib.Core.Path.{_≡_};
 ghost use mathlib.Core.List.{_++_};
 ghost use Prim.Native.Nat.{_+_, _*_, _≤_, _<_};
 ghost use lib.ListN.{length, getD, drop};
-ghost use lib.Seq.{paste};
-ghost use Rattle.files.specs.Numbers.{u16At, u32At, u64At, signed, i64sAt, u16sAt, isMarked};
+ghost use Rattle.files.specs.Numbers.{u16At, u32At, u64At, fromBits, i64sAt, u16sAt};
+ghost use Rattle.files.specs.Numbers.{numberBytes, wordBytes, hasHeader};
 
-// Whether bytes begin with the three of a mark.
-pub(crate) fn is_marked(bytes: &[u8], first: u8, second: u8, third: u8) -> bool
-    requires { ⌜ 3 ≤ length (now bytes) ⌝ }
-    ensures { λ r. ⌜ r ≡ isMarked (now (bytes .entry)) first second third ⌝ }
+// The bytes of a number, and of a word.
+pub(crate) const NUMBER_BYTES: usize = 8;
+
+pub(crate) const WORD_BYTES: usize = 2;
+
+// Whether bytes are as long as a header of so many bytes, and begin with its mark.
+pub(crate) fn has_header(bytes: &[u8], header: usize, mark: &[u8]) -> bool
+    requires { ⌜ length (now mark) ≤ header ⌝ }
+    ensures { λ r. ⌜ r ≡ hasHeader (now (bytes .entry)) header (now (mark .entry)) ⌝ }
 {
-    if bytes[0] == first {
-        if bytes[1] == second {
-            return bytes[2] == third;
-        }
+    if bytes.len() < header {
+        return false;
     }
-    false
+    let mut i: usize = 0;
+    while i < mark.len() {
+        if bytes[i] != mark[i] {
+            return false;
+        }
+        i += 1;
+    }
+    true
 }
 
 // The byte at a place.
@@ -54,8 +64,8 @@ fn u64_at(bytes: &[u8], at: usize) -> u64
 }
 
 // 64 bits as a whole number: from 2^63 on they are those of a negative one.
-fn as_signed(bits: u64) -> i64
-    ensures { λ r. ⌜ r ≡ signed bits ⌝ }
+fn from_bits(bits: u64) -> i64
+    ensures { λ r. ⌜ r ≡ fromBits bits ⌝ }
 {
     if bits < 9_223_372_036_854_775_808 {
         return bits as i64;
@@ -65,38 +75,26 @@ fn as_signed(bits: u64) -> i64
 
 // Reads `count` numbers of eight bytes that begin at `at` into the front of `out`.
 pub(crate) fn read_numbers(bytes: &[u8], at: usize, count: usize, out: &mut [i64])
-    requires { ⌜ at + 8 * count ≤ length (now bytes) ⌝ }
+    requires { ⌜ at + numberBytes * count ≤ length (now bytes) ⌝ }
     requires { ⌜ count ≤ length (now out) ⌝ }
     ensures { λ _. ⌜ now (out .exit) ≡ i64sAt (now (bytes .entry)) at count ++ drop count (now (out .entry)) ⌝ }
 {
     let mut i: usize = 0;
     while i < count {
-        out[i] = as_signed(u64_at(bytes, at + 8 * i));
+        out[i] = from_bits(u64_at(bytes, at + NUMBER_BYTES * i));
         i += 1;
     }
 }
 
 // Reads `count` numbers of two bytes that begin at `at` into the front of `out`.
 pub(crate) fn read_words(bytes: &[u8], at: usize, count: usize, out: &mut [u16])
-    requires { ⌜ at + 2 * count ≤ length (now bytes) ⌝ }
+    requires { ⌜ at + wordBytes * count ≤ length (now bytes) ⌝ }
     requires { ⌜ count ≤ length (now out) ⌝ }
     ensures { λ _. ⌜ now (out .exit) ≡ u16sAt (now (bytes .entry)) at count ++ drop count (now (out .entry)) ⌝ }
 {
     let mut i: usize = 0;
     while i < count {
-        out[i] = u16_at(bytes, at + 2 * i);
-        i += 1;
-    }
-}
-
-// Copies bytes to a place of `out`.
-pub(crate) fn copy(bytes: &[u8], out: &mut [u8], at: usize)
-    requires { ⌜ at + length (now bytes) ≤ length (now out) ⌝ }
-    ensures { λ _. ⌜ now (out .exit) ≡ paste (now (out .entry)) at (now (bytes .entry)) (length (now (bytes .entry))) ⌝ }
-{
-    let mut i: usize = 0;
-    while i < bytes.len() {
-        out[at + i] = bytes[i];
+        out[i] = u16_at(bytes, at + WORD_BYTES * i);
         i += 1;
     }
 }

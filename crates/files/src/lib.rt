@@ -7,7 +7,11 @@ pub use scene_file::MOST_NUMBERS;
 pub use scene_file::read_scene;
 pub use shape_file::read_shape;
 pub use shape_file::write_shape;
+ghost use mathlib.Core.Path.{_≡_};
+ghost use Rattle.files.specs.Scenes.{refusedScene};
+ghost use Rattle.files.specs.Shapes.{refusedShape, shortShape};
 use universe::Universe;
+use universe::refusals;
 
 // How many rows a scene has, and how many words each of its trees.
 pub struct Counts {
@@ -30,6 +34,23 @@ pub struct Scene {
     pub window: Window,
 }
 
+impl Scene {
+    pub(crate) fn refused(number: u64) -> Scene
+        ensures { λ r. ⌜ r ≡ refusedScene number ⌝ }
+    {
+        Scene {
+            refusal: number,
+            universe: Universe { axes: 0, bits: 0 },
+            counts: Counts {
+                rows: 0,
+                first: 0,
+                second: 0,
+            },
+            window: Window { first: 0, last: 0 },
+        }
+    }
+}
+
 // Where the parts of a scene file begin.
 pub struct Places {
     pub rows: usize,
@@ -43,11 +64,36 @@ pub struct SceneHeader {
     pub places: Places,
 }
 
-// What reading a shape file answers: 0, its universe and the number of its symbols; 6 and the number of its symbols; or another refusal and zeros.
+// What reading a shape file answers: 0, its universe and the number of its symbols; 6 and the number of its symbols; or
+// another refusal and zeros.
 pub struct ShapeRead {
     pub refusal: u64,
     pub universe: Universe,
     pub length: u64,
+}
+
+impl ShapeRead {
+    // Refused with a number other than 6.
+    pub(crate) fn refused(number: u64) -> ShapeRead
+        ensures { λ r. ⌜ r ≡ refusedShape number ⌝ }
+    {
+        ShapeRead {
+            refusal: number,
+            universe: Universe { axes: 0, bits: 0 },
+            length: 0,
+        }
+    }
+
+    // Refused 6: so much room is needed.
+    pub(crate) fn short(needed: u64) -> ShapeRead
+        ensures { λ r. ⌜ r ≡ shortShape needed ⌝ }
+    {
+        ShapeRead {
+            refusal: refusals::NO_ROOM,
+            universe: Universe { axes: 0, bits: 0 },
+            length: needed,
+        }
+    }
 }
 
 // What the header of a shape file says: the shape, or 1 and zeros, and where its symbols begin.

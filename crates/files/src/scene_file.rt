@@ -5,15 +5,19 @@ ghost use lib.Dec.{eqb};
 ghost use lib.ListN.{length};
 ghost use Rattle.csg.specs.Halfspace.{rowLength, rowsRefusal};
 ghost use Rattle.csg.specs.Words.{treeRefusal};
-ghost use Rattle.files.specs.Numbers.{i64sAt, u16sAt};
-ghost use Rattle.files.specs.Scenes.{sceneHeaderLength, sceneLength, isScene, headerOf, sceneHeader, refusedScene, sceneRefusal, sceneAnswer, rowsAfter, firstWordsAfter, secondWordsAfter};
+ghost use Rattle.files.specs.Numbers.{i64sAt, u16sAt, wordBytes};
+ghost use Rattle.files.specs.Scenes.{sceneHeaderLength, rowBytes, sceneLength, isScene};
+ghost use Rattle.files.specs.Scenes.{sceneHeaderOf, sceneHeader, sceneRefusal};
+ghost use Rattle.files.specs.Scenes.{sceneAnswer, rowsAfter, firstWordsAfter, secondWordsAfter};
 use crate::Counts;
 use crate::Places;
 use crate::Scene;
 use crate::SceneHeader;
 use crate::Window;
+use crate::decode::NUMBER_BYTES;
+use crate::decode::WORD_BYTES;
 use crate::decode::byte_at;
-use crate::decode::is_marked;
+use crate::decode::has_header;
 use crate::decode::read_numbers;
 use crate::decode::read_words;
 use crate::decode::u16_at;
@@ -23,17 +27,18 @@ use csg::ROW_LENGTH;
 use csg::check_rows;
 use csg::check_tree;
 use universe::Universe;
+use universe::refusals;
 
 // The numbers of all rows of a scene.
 pub const MOST_NUMBERS: usize = MOST_ROWS * ROW_LENGTH;
 
-// The length of a scene file's header.
+// With what a scene file begins: its mark and its version.
+const MARK: [u8; 5] = [b'H', b'S', b'C', 1, 0];
+
+// The length of a scene file's header, and of a row.
 const HEADER_LENGTH: usize = 18;
 
-// The bytes of one row, and of one word.
-const ROW_BYTES: usize = 40;
-
-const WORD_BYTES: usize = 2;
+const ROW_BYTES: usize = NUMBER_BYTES * ROW_LENGTH;
 
 // Whether the bytes are as long as their header says.
 fn is_whole(bytes: &[u8]) -> bool
@@ -50,13 +55,7 @@ fn is_whole(bytes: &[u8]) -> bool
 fn is_scene(bytes: &[u8]) -> bool
     ensures { λ r. ⌜ r ≡ isScene (now (bytes .entry)) ⌝ }
 {
-    if bytes.len() < HEADER_LENGTH {
-        return false;
-    }
-    if !is_marked(bytes, b'H', b'S', b'C') {
-        return false;
-    }
-    if u16_at(bytes, 3) != 1 {
+    if !has_header(bytes, HEADER_LENGTH, &MARK) {
         return false;
     }
     if byte_at(bytes, 7) != 0 {
@@ -65,26 +64,10 @@ fn is_scene(bytes: &[u8]) -> bool
     is_whole(bytes)
 }
 
-// The scene that a refusal answers.
-fn refused(refusal: u64) -> Scene
-    ensures { λ r. ⌜ r ≡ refusedScene refusal ⌝ }
-{
-    Scene {
-        refusal: refusal,
-        universe: Universe { axes: 0, bits: 0 },
-        counts: Counts {
-            rows: 0,
-            first: 0,
-            second: 0,
-        },
-        window: Window { first: 0, last: 0 },
-    }
-}
-
 // What the header of a scene file says.
 fn header_of(bytes: &[u8]) -> SceneHeader
     requires { ⌜ sceneHeaderLength ≤ length (now bytes) ⌝ }
-    ensures { λ r. ⌜ r ≡ headerOf (now (bytes .entry)) ⌝ }
+    ensures { λ r. ⌜ r ≡ sceneHeaderOf (now (bytes .entry)) ⌝ }
 {
     let rows = u16_at(bytes, 8) as u64;
     let first = u16_at(bytes, 10) as u64;
@@ -122,7 +105,7 @@ fn scene_header(bytes: &[u8]) -> SceneHeader
         return header_of(bytes);
     }
     SceneHeader {
-        scene: refused(1),
+        scene: Scene::refused(refusals::BAD_FILE),
         places: Places {
             rows: 0,
             first: 0,
@@ -133,11 +116,11 @@ fn scene_header(bytes: &[u8]) -> SceneHeader
 
 // 3 where the rows of a scene are refused, else 0.
 fn rows_refusal(universe: Universe, bytes: &[u8], at: usize, count: usize) -> u64
-    requires { ⌜ at + 40 * count ≤ length (now bytes) ⌝ }
+    requires { ⌜ at + rowBytes * count ≤ length (now bytes) ⌝ }
     ensures { λ r. ⌜ r ≡ rowsRefusal universe (i64sAt (now (bytes .entry)) at (rowLength * count)) ⌝ }
 {
     if MOST_ROWS < count {
-        return 3;
+        return refusals::BAD_ROWS;
     }
     let mut rows = [0i64; MOST_NUMBERS];
     let length = ROW_LENGTH * count;
@@ -147,11 +130,11 @@ fn rows_refusal(universe: Universe, bytes: &[u8], at: usize, count: usize) -> u6
 
 // 4 or 5 where the words of a tree are refused, else 0.
 fn words_refusal(rows: u64, bytes: &[u8], at: usize, count: usize) -> u64
-    requires { ⌜ at + 2 * count ≤ length (now bytes) ⌝ }
-    ensures { λ r. ⌜ r ≡ treeRefusal rows (u16sAt (now (bytes .entry)) at count) ⌝ }
+    requires { ⌜ at + wordBytes * count ≤ length (now bytes) ⌝ }
+    ensures { λ r. ⌜ r ≡ treeRefusal (record { halfspaces = rows }) (u16sAt (now (bytes .entry)) at count) ⌝ }
 {
     if MOST_WORDS < count {
-        return 5;
+        return refusals::OVERFULL_TREE;
     }
     let mut words = [0u16; MOST_WORDS];
     read_words(bytes, at, count, &mut words);
@@ -167,9 +150,9 @@ fn scene_refusal(bytes: &[u8], header: SceneHeader) -> u64
     if scene.refusal != 0 {
         return scene.refusal;
     }
-    let outside = scene.universe.refusal();
-    if outside != 0 {
-        return outside;
+    let universe = scene.universe.refusal();
+    if universe != 0 {
+        return universe;
     }
     let counts = scene.counts;
     let places = header.places;
@@ -189,7 +172,8 @@ fn scene_refusal(bytes: &[u8], header: SceneHeader) -> u64
     scene.universe.window_refusal(window.first, window.last)
 }
 
-// Reads a scene: its rows and the words of its two trees go to the front of the lent arrays; where it is refused, nothing does.
+// Reads a scene: its rows and the words of its two trees go to the front of the lent arrays; where it is refused,
+// nothing does.
 pub fn read_scene(
     bytes: &[u8],
     rows: &mut [i64; MOST_NUMBERS],
@@ -204,7 +188,7 @@ pub fn read_scene(
     let header = scene_header(bytes);
     let refusal = scene_refusal(bytes, header);
     if refusal != 0 {
-        return refused(refusal);
+        return Scene::refused(refusal);
     }
     let scene = header.scene;
     let counts = scene.counts;

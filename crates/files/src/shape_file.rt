@@ -3,17 +3,22 @@ ghost use mathlib.Core.Path.{_≡_};
 ghost use Prim.Native.Nat.{_≤_};
 ghost use lib.ListN.{length};
 ghost use Rattle.universe.specs.Universe.{universeRefusal};
-ghost use Rattle.files.specs.Shapes.{shapeHeaderLength, mostSymbols, symbolsRefusal, shapeHeaderBytes, writeAnswer, writeBuffer, isShape, refusedShape, shapeHeaderOf, shapeHeader, shapeRefusal, readAnswer, readBuffer};
+ghost use Rattle.files.specs.Shapes.{shapeHeaderLength, mostSymbols, symbolsRefusal, shapeHeaderBytes, isShape};
+ghost use Rattle.files.specs.Shapes.{shapeHeaderOf, shapeHeader, shapeRefusal};
+ghost use Rattle.files.specs.Shapes.{writeAnswer, writeBuffer, readAnswer, readBuffer};
 use crate::ShapeHeader;
 use crate::ShapeRead;
 use crate::decode::byte_at;
-use crate::decode::copy;
-use crate::decode::is_marked;
-use crate::decode::u16_at;
+use crate::decode::has_header;
 use crate::decode::u32_at;
 use bintree::Written;
+use bintree::copy;
 use bintree::merge;
 use universe::Universe;
+use universe::refusals;
+
+// With what a shape file begins: its mark and its version.
+const MARK: [u8; 5] = [b'B', b'N', b'T', 1, 0];
 
 // The length of a shape file's header.
 const HEADER_LENGTH: usize = 11;
@@ -21,19 +26,20 @@ const HEADER_LENGTH: usize = 11;
 // The most symbols that a shape file counts.
 const MOST_SYMBOLS: usize = 4_294_967_295;
 
-// 0 where an expression is merged, else 2, 7 or 8: merging it is measured, and leaves its length only where there is nothing to merge.
+// 0 where an expression is merged, else 2, 7 or 8: merging into no room tells the length needed, or none of what is no
+// expression, and leaves the expression's length only where there is nothing to merge.
 fn symbols_refusal(universe: Universe, expression: &[u8]) -> u64
     ensures { λ r. ⌜ r ≡ symbolsRefusal universe (now (expression .entry)) ⌝ }
 {
     let mut nothing = [0u8; 0];
     let measured = merge(universe, expression, &mut nothing);
-    if measured.refusal != 6 {
+    if measured.length == 0 {
         return measured.refusal;
     }
     if measured.length == expression.len() as u64 {
         return 0;
     }
-    8
+    refusals::NOT_MERGED
 }
 
 // The header of a shape file.
@@ -64,59 +70,30 @@ pub fn write_shape(universe: Universe, expression: &[u8], out: &mut [u8]) -> Wri
 {
     let refusal = symbols_refusal(universe, expression);
     if refusal != 0 {
-        return Written {
-            refusal: refusal,
-            length: 0,
-        };
+        return Written::refused(refusal);
     }
     let count = expression.len();
     let needed = HEADER_LENGTH + count;
     if MOST_SYMBOLS < count {
-        return Written {
-            refusal: 6,
-            length: needed as u64,
-        };
+        return Written::short(needed as u64);
     }
     if out.len() < needed {
-        return Written {
-            refusal: 6,
-            length: needed as u64,
-        };
+        return Written::short(needed as u64);
     }
     let header = header_bytes(universe, count);
     copy(&header, out, 0);
     copy(expression, out, HEADER_LENGTH);
-    Written {
-        refusal: 0,
-        length: needed as u64,
-    }
+    Written::done(needed as u64)
 }
 
 // Whether the bytes are a shape file by mark, version and length.
 fn is_shape(bytes: &[u8]) -> bool
     ensures { λ r. ⌜ r ≡ isShape (now (bytes .entry)) ⌝ }
 {
-    if bytes.len() < HEADER_LENGTH {
-        return false;
-    }
-    if !is_marked(bytes, b'B', b'N', b'T') {
-        return false;
-    }
-    if u16_at(bytes, 3) != 1 {
+    if !has_header(bytes, HEADER_LENGTH, &MARK) {
         return false;
     }
     bytes.len() == HEADER_LENGTH + u32_at(bytes, 7) as usize
-}
-
-// The answer of a refusal.
-fn refused(refusal: u64, needed: u64) -> ShapeRead
-    ensures { λ r. ⌜ r ≡ refusedShape refusal needed ⌝ }
-{
-    ShapeRead {
-        refusal: refusal,
-        universe: Universe { axes: 0, bits: 0 },
-        length: needed,
-    }
 }
 
 // What the header of a shape file says.
@@ -145,7 +122,7 @@ fn shape_header(bytes: &[u8]) -> ShapeHeader
         return header_of(bytes);
     }
     ShapeHeader {
-        shape: refused(1, 0),
+        shape: ShapeRead::refused(refusals::BAD_FILE),
         place: 0,
     }
 }
@@ -164,7 +141,8 @@ fn shape_refusal(bytes: &[u8], header: ShapeHeader) -> u64
     symbols_refusal(shape.universe, &bytes[start..end])
 }
 
-// Reads a shape file: its symbols go to the front of the lent room; where it is refused or they do not fit, nothing does.
+// Reads a shape file: its symbols go to the front of the lent room; where it is refused or they do not fit, nothing
+// does.
 pub fn read_shape(bytes: &[u8], out: &mut [u8]) -> ShapeRead
     ensures { λ r. ⌜ r ≡ readAnswer (now (bytes .entry)) (now (out .entry)) ⌝ }
     ensures { λ _. ⌜ now (out .exit) ≡ readBuffer (now (bytes .entry)) (now (out .entry)) ⌝ }
@@ -172,12 +150,12 @@ pub fn read_shape(bytes: &[u8], out: &mut [u8]) -> ShapeRead
     let header = shape_header(bytes);
     let refusal = shape_refusal(bytes, header);
     if refusal != 0 {
-        return refused(refusal, 0);
+        return ShapeRead::refused(refusal);
     }
     let shape = header.shape;
     let count = shape.length as usize;
     if out.len() < count {
-        return refused(6, shape.length);
+        return ShapeRead::short(shape.length);
     }
     let start = header.place;
     let end = start + count;

@@ -5,17 +5,17 @@
 use Prim.Native.Nat.{ℕ, zero, suc, _+_, _*_, _-_, _≤_, _<_, zero-le}
 use mathlib.Core.Path.{_≡_, refl, sym, ap, ap₂, _∙_, fun-ext}
 use mathlib.Core.Bool.{Bool, true, false, not, cond, _&&_}
-use mathlib.Core.List.{List, _∷_}
+use mathlib.Core.List.{List, [], _∷_, _++_}
 use native.Mathlib.Omega.{arith}
 use native.Mathlib.Nat.{le-refl, le-trans}
 use native.Mathlib.Decide.{ℕ-discrete}
 use lib.Dec.{eqb, ltb}
-use lib.ListN.{length, getD, set, replicate, length-set}
+use lib.ListN.{length, getD, set, drop, replicate, length-set}
 use lib.Seq.{ext-getD, getD-set-same, getD-set-other}
 use borrow.Author.Tests.{ltb-true, ltb-false, lt-ltb, le-ltb, eqb-true, eqb-false, eq-eqb, ne-eqb}
 use Rattle.lemmas.specs.Sums.{sum, product}
 use Rattle.lemmas.specs.Grid.{count, put, grid, corner, listed}
-use Rattle.lemmas.proofs.Sums.{sum-front, sum-mono, sum-cong, sum-add}
+use Rattle.lemmas.proofs.Sums.{sum-front, sum-mono, sum-cong, sum-add, sum-same}
 
 -- ---- points
 pub put-same : (a c : ℕ) (p : ℕ → ℕ) → put a c p a ≡ c
@@ -67,27 +67,41 @@ corner-put d c s p = fun-ext (λ i. go i (eqb d i) (ltb i d) (ltb i (suc d)) ref
     go i false true false e q r = absurd (omega (arith, ltb-true, ltb-false))
     go i false false true e q r = absurd (omega (arith, ltb-true, ltb-false, eqb-false))
 
--- ---- points listed
-pub listed-length : (n : ℕ) (p : ℕ → ℕ) → length (listed n p) ≡ n
-unfolding listed
-listed-length zero p = refl
-listed-length (suc n) p = ap suc (listed-length n (λ i. p (suc i)))
+-- ---- what a rule gives, listed
+module _ {A : Type 0} where
+  pub listed-length : (n : ℕ) (f : ℕ → A) → length (listed n f) ≡ n
+  unfolding listed
+  listed-length zero f = refl
+  listed-length (suc n) f = ap suc (listed-length n (λ i. f (suc i)))
+
+  pub listed-cong : (n : ℕ) (f g : ℕ → A) → ((i : ℕ) → i < n → f i ≡ g i) → listed n f ≡ listed n g
+  unfolding listed
+  listed-cong zero f g h = refl
+  listed-cong (suc n) f g h = ap₂ _∷_ (h 0 (omega arith)) (listed-cong n (λ i. f (suc i)) (λ i. g (suc i)) (λ i l. h (suc i) (omega arith)))
+
+  pub listed-same : (n : ℕ) (x : A) → listed n (λ i. x) ≡ replicate n x
+  unfolding listed
+  listed-same zero x = refl
+  listed-same (suc n) x = ap (λ (s : List A). x ∷ s) (listed-same n x)
+
+  -- one place more
+  pub listed-next : (n : ℕ) (f : ℕ → A) → listed (suc n) f ≡ listed n f ++ (f n ∷ [])
+  unfolding listed
+  listed-next zero f = refl
+  listed-next (suc n) f = ap (λ (s : List A). f 0 ∷ s) (listed-next n (λ i. f (suc i)))
+
+  -- a list is what stands at its first places, and the rest
+  pub listed-own : (n : ℕ) (f : ℕ → A) (l : List A) (d : A) → ((i : ℕ) → f i ≡ getD l i d) → n ≤ length l → listed n f ++ drop n l ≡ l
+  unfolding listed
+  listed-own zero f l d e h = refl
+  listed-own (suc n) f [] d e h = absurd (omega arith)
+  listed-own (suc n) f (x ∷ l) d e h = ap₂ _∷_ (e 0) (listed-own n (λ i. f (suc i)) l d (λ i. e (suc i)) (omega arith))
 
 pub listed-at : (n : ℕ) (p : ℕ → ℕ) (i : ℕ) → i < n → getD (listed n p) i 0 ≡ p i
 unfolding listed
 listed-at zero p i h = absurd (omega arith)
 listed-at (suc n) p zero h = refl
 listed-at (suc n) p (suc i) h = listed-at n (λ j. p (suc j)) i (omega arith)
-
-pub listed-cong : (n : ℕ) (p q : ℕ → ℕ) → ((i : ℕ) → i < n → p i ≡ q i) → listed n p ≡ listed n q
-unfolding listed
-listed-cong zero p q h = refl
-listed-cong (suc n) p q h = ap₂ _∷_ (h 0 (omega arith)) (listed-cong n (λ i. p (suc i)) (λ i. q (suc i)) (λ i l. h (suc i) (omega arith)))
-
-pub listed-same : (n c : ℕ) → listed n (λ i. c) ≡ replicate n c
-unfolding listed
-listed-same zero c = refl
-listed-same (suc n) c = ap (λ (s : List ℕ). c ∷ s) (listed-same n c)
 
 pub listed-put : (n : ℕ) (p : ℕ → ℕ) (a c : ℕ) → set (listed n p) a c ≡ listed n (put a c p)
 listed-put n p a c =
@@ -99,11 +113,6 @@ listed-put n p a c =
     go i h (no k) = getD-set-other (listed n p) a i c 0 (λ e. k (sym e)) ∙ listed-at n p i h ∙ sym (put-other a i c p k)
 
 -- ---- sums over a grid
-sum-same : (n a : ℕ) → sum n (λ i. a) ≡ n * a
-unfolding sum
-sum-same zero a = omega arith
-sum-same (suc n) a = omega (arith, sum-same n a)
-
 pub grid-mono : (d : ℕ) (n : ℕ → ℕ) (f g : (ℕ → ℕ) → ℕ) → ((p : ℕ → ℕ) → f p ≤ g p) → grid d n f ≤ grid d n g
 unfolding grid
 grid-mono zero n f g h = h (λ i. 0)

@@ -5,3 +5,4 @@ pub mod Machine
 pub mod Totals
 pub mod Grid
 pub mod Stores
+pub mod Lists

@@ -37,6 +37,12 @@ unfolding sum
 sum-zero zero f h = refl
 sum-zero (suc n) f h = omega (arith, sum-zero n f (below h), top h)
 
+-- every place alike
+pub sum-same : (n a : ℕ) → sum n (λ i. a) ≡ n * a
+unfolding sum
+sum-same zero a = omega arith
+sum-same (suc n) a = omega (arith, sum-same n a)
+
 -- the first place apart
 pub sum-front : (n : ℕ) (f : ℕ → ℕ) → sum (suc n) f ≡ f 0 + sum n (λ i. f (suc i))
 unfolding sum

@@ -68,7 +68,8 @@ centre-below zero u c high h = omega arith
 centre-below (suc n) u c high h = omega (arith, mul-le-mul-left (u n) (top h), centre-below n u c high (below h))
 
 -- twice the centre of a unit is its low end and its high end together
-pub centre-between : (n : ℕ) (u low high : ℕ → ℕ) → ((i : ℕ) → i < n → high i ≡ low i + 1) → sum n (λ i. u i * low i) + sum n (λ i. u i * high i) ≡ sum n (λ i. u i * (2 * low i + 1))
+pub centre-between : (n : ℕ) (u low high : ℕ → ℕ) → ((i : ℕ) → i < n → high i ≡ low i + 1)
+    → sum n (λ i. u i * low i) + sum n (λ i. u i * high i) ≡ sum n (λ i. u i * (2 * low i + 1))
 unfolding sum
 centre-between zero u low high h = refl
 centre-between (suc n) u low high h =

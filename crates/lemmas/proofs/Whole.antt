@@ -280,7 +280,8 @@ positive-size (pos n) e = refl
 positive-size (negsuc n) e = let z : _≡_ {A = ℕ} 0 1 = cc in absurd (omega arith)
 
 -- where b − a is twice d − c, one test is the other
-pub doubled-test : {a b c d : ℤ} {p n q m s t v w : ℕ} → Is a p n → Is b q m → Is c s t → Is d v w → p + m + 2 * (v + t) ≡ q + n + 2 * (s + w) → leZ a b ≡ leZ c d
+pub doubled-test : {a b c d : ℤ} {p n q m s t v w : ℕ} → Is a p n → Is b q m → Is c s t → Is d v w → p + m + 2 * (v + t) ≡ q + n + 2 * (s + w)
+    → leZ a b ≡ leZ c d
 doubled-test {a} {b} i j k l e =
     ⊎-elim
     (λ (h : a ≤ℤ b). le-leZ h ∙ sym (le-leZ (is-le k l (omega (arith, le-is i j h)))))

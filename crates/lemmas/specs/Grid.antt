@@ -1,5 +1,5 @@
--- Sums over a grid. A point has a place along each axis; a grid of d axes holds the points with a place below n i along each axis i < d, and 0
--- along the others.
+-- Sums over a grid. A point has a place along each axis; a grid of d axes holds the points with a place below n i along
+-- each axis i < d, and 0 along the others.
 use Prim.Native.Nat.{ℕ, zero, suc, _+_}
 use mathlib.Core.Bool.{Bool, cond, _&&_}
 use mathlib.Core.List.{List, [], _∷_}
@@ -23,7 +23,7 @@ grid (suc d) n f = sum (n d) (λ c. grid d n (λ p. f (put d c p)))
 unfoldable pub corner : ℕ → (ℕ → Bool) → (ℕ → ℕ) → ℕ → ℕ
 corner d s p i = p i + count (ltb i d && s i)
 
--- the places 0 to n − 1 of a point, listed
-unfoldable pub listed : ℕ → (ℕ → ℕ) → List ℕ
-listed zero p = []
-listed (suc n) p = p 0 ∷ listed n (λ i. p (suc i))
+-- what a rule gives at the places 0 to n − 1, listed: the places of a point, numbers that stand one after the other
+unfoldable pub listed : {A : Type 0} → ℕ → (ℕ → A) → List A
+listed zero f = []
+listed (suc n) f = f 0 ∷ listed n (λ i. f (suc i))

@@ -16,7 +16,7 @@ use Rattle.universe.specs.Universe.{universeRefusal}
 use Rattle.bintree.specs.declared.Colour.the-variants as colour
 use Rattle.bintree.specs.Shape.{Shape, leaf, halved, symbols}
 use Rattle.bintree.specs.Reading.{expressionRefusal}
-use Rattle.bintree.specs.Answers.{expressionChecks}
+use Rattle.bintree.specs.Answers.{wellFormedRefusal}
 use Rattle.bintree.proofs.Reading.{accepted-shape, read-is}
 use Rattle.reader.specs.declared.Symbol.{Symbol}
 use Rattle.reader.specs.declared.Symbol.the-variants.{Halved, Black, White, End}
@@ -65,7 +65,7 @@ last-accepts n e = go (ℕ-discrete n 0)
     go (yes h) = h
     go (no h) = rw (ne-eqb n 0 h) at e
 
-well-formed-symbols : (u : Universe) (s : List ℕ) → expressionChecks u s ≡ 0 → AllSymbols s
+well-formed-symbols : (u : Universe) (s : List ℕ) → wellFormedRefusal u s ≡ 0 → AllSymbols s
 well-formed-symbols u s e =
     let w = accepted-shape u s (last-accepts (expressionRefusal u s) (rest-accepts (universeRefusal u) (expressionRefusal u s ∷ []) e)) in
     rw (read-is u s (w .0) (w .1) .0) at (all-symbols (w .0))
@@ -105,7 +105,7 @@ module _ {u : Universe} {lent : RefT (List ℕ)} {readers : ℕ → Reader} (tur
   all-hold zero = turns .opened .0 .symbols
   all-hold (suc n) = ap (λ x. now x) (turns .advanced n .0) ∙ all-hold n
 
-  module _ (ok : expressionChecks u s ≡ 0) where
+  module _ (ok : wellFormedRefusal u s ≡ 0) where
     hold-it : (n : ℕ) → now (readers n .expression) ≡ s
     hold-it n = all-hold n ∙ holds-all u s ok
 
@@ -141,7 +141,7 @@ module _ {u : Universe} {lent : RefT (List ℕ)} {readers : ℕ → Reader} (tur
         rw (hold-it n, p) (sym (symbol-past s (length s) (omega arith)))
 
   -- THEOREM: opened with a refusal, a reader gives End at once, and each time
-  pub gives-nothing : (expressionChecks u (now lent) ≡ 0 → ⊥) → (n : ℕ) → told (readers n) ≡ End
+  pub gives-nothing : (wellFormedRefusal u (now lent) ≡ 0 → ⊥) → (n : ℕ) → told (readers n) ≡ End
   gives-nothing refused n =
       let e : now (readers n .expression) ≡ [] = all-hold n ∙ holds-nothing u s refused in
       rw e (sym (symbol-past [] (readers n .place) (omega arith)))

@@ -11,7 +11,7 @@ use borrow.Author.Tests.{ne-eqb}
 use denote.Ref.{RefT, now}
 use lib.ListN.{length, getD, List·getD-eq-default}
 use Rattle.universe.specs.declared.Universe.{Universe}
-use Rattle.bintree.specs.Answers.{expressionChecks}
+use Rattle.bintree.specs.Answers.{wellFormedRefusal}
 use Rattle.reader.specs.declared.Symbol.{Symbol}
 use Rattle.reader.specs.declared.Symbol.the-variants.{Halved, Black, White, End}
 use Rattle.reader.proofs.Symbol.{the-type}
@@ -80,15 +80,15 @@ pub ruleset place-laws = (needs, place-stays, place-moves)
 
 -- what is held of an expression, and the laws of `held`
 module _ (u : Universe) (s : List ℕ) where
-  pub holds-all : expressionChecks u s ≡ 0 → heldSymbols u s ≡ s
+  pub holds-all : wellFormedRefusal u s ≡ 0 → heldSymbols u s ≡ s
   unfolding heldSymbols
   holds-all e = rw e
 
-  pub holds-nothing : (expressionChecks u s ≡ 0 → ⊥) → heldSymbols u s ≡ []
+  pub holds-nothing : (wellFormedRefusal u s ≡ 0 → ⊥) → heldSymbols u s ≡ []
   unfolding heldSymbols
-  holds-nothing n = rw (ne-eqb (expressionChecks u s) 0 n)
+  holds-nothing n = rw (ne-eqb (wellFormedRefusal u s) 0 n)
 
-module _ (u : Universe) (lent : RefT (List ℕ)) (number : ℕ) (e : number ≡ expressionChecks u (now lent)) where
+module _ (u : Universe) (lent : RefT (List ℕ)) (number : ℕ) (e : number ≡ wellFormedRefusal u (now lent)) where
   pub held-itself : number ≡ 0 → Holds u lent lent
   held-itself z = record { symbols = sym (holds-all u (now lent) (sym e ∙ z)); itself = λ k. refl }
 

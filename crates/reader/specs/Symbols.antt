@@ -10,7 +10,7 @@ use lib.ListN.{getD}
 use Rattle.universe.specs.declared.Universe.{Universe}
 use Rattle.bintree.specs.declared.Colour.the-variants as colour
 use Rattle.bintree.specs.Shape.{openSymbol, symbolOf}
-use Rattle.bintree.specs.Answers.{expressionChecks}
+use Rattle.bintree.specs.Answers.{wellFormedRefusal}
 use Rattle.reader.specs.declared.Symbol.{Symbol}
 use Rattle.reader.specs.declared.Symbol.the-variants.{Halved, Black, White, End}
 
@@ -45,9 +45,9 @@ placeAfter s p = movedOn (symbolAt s p) p
 
 -- "Opened with d or k that is refused 2, or on an expression refused 7, it holds nothing"
 unfoldable pub heldSymbols : Universe → List ℕ → List ℕ
-heldSymbols u s = cond (eqb (expressionChecks u s) 0) s []
+heldSymbols u s = cond (eqb (wellFormedRefusal u s) 0) s []
 
 -- what a reader holds that was opened: those symbols, and where nothing is refused the lent expression itself
 pub record Holds (u : Universe) (lent held : RefT (List ℕ)) : Type 0 where
   pub symbols : now held ≡ heldSymbols u (now lent)
-  pub itself : expressionChecks u (now lent) ≡ 0 → held ≡ lent
+  pub itself : wellFormedRefusal u (now lent) ≡ 0 → held ≡ lent

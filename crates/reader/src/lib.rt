@@ -1,7 +1,7 @@
 // A reader over a lent expression: it holds the expression and its place, and can stop at any symbol and continue. The
 // functions over the struct are thin; the work is done on the slice and the place.
 ghost use mathlib.Core.Path.{_≡_};
-ghost use Rattle.bintree.specs.Answers.{expressionChecks};
+ghost use Rattle.bintree.specs.Answers.{wellFormedRefusal};
 ghost use Rattle.reader.specs.Symbols.{symbolAt, placeAfter, heldSymbols, Holds};
 use bintree::well_formed;
 use universe::Universe;
@@ -52,7 +52,7 @@ pub fn place_after(expression: &[u8], place: usize) -> usize
 
 // Why a reader that was opened holds nothing, 2 or 7; 0 where the expression is well-formed.
 pub fn refusal(universe: Universe, expression: &[u8]) -> u64
-    ensures { λ r. ⌜ r ≡ expressionChecks universe (now (expression .entry)) ⌝ }
+    ensures { λ r. ⌜ r ≡ wellFormedRefusal universe (now (expression .entry)) ⌝ }
 {
     well_formed(universe, expression)
 }

@@ -1,5 +1,5 @@
-// Shape files at both sides of every edge: a line for each answer, with every byte of the lent room, so that what was not to be written shows as the
-// `.` it was.
+// Shape files at both sides of every edge: a line for each answer, with every byte of the lent room, so that what was
+// not to be written shows as the `.` it was.
 use libc::STDOUT_FILENO;
 use universe::Universe;
 

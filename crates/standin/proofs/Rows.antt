@@ -8,7 +8,7 @@ use lib.IntN.{ℤ, pos, natAbs}
 use mir.Syntax.{w64}
 use mir.Val.{toZ, ofZ}
 use borrow.Author.Needs.{needs}
-use Rattle.universe.specs.Refusals.{unless}
+use Rattle.universe.specs.Refusals.{unless, badProxy}
 use Rattle.universe.specs.Universe.{offsetLimit, coefficientLimit}
 use Rattle.standin.specs.declared.Triple.{Triple}
 use Rattle.standin.specs.declared.Corners.{Corners}
@@ -51,7 +51,7 @@ cut-count-of : (s : Solid) (v : Triple) → cond (solidCut s v .taken) 1 0 ≡ s
 cut-count-of (Box c) v = refl
 cut-count-of (Cut p) v = rw (cut-taken p v)
 
-refusal-of : (s : Solid) (v : Triple) → cond (solidBox s v .taken) 0 (unless (solidCut s v .taken) 10) ≡ solidRefusal s v
+refusal-of : (s : Solid) (v : Triple) → cond (solidBox s v .taken) 0 (unless (solidCut s v .taken) badProxy) ≡ solidRefusal s v
 refusal-of (Box c) v = rw (box-taken c v)
 refusal-of (Cut p) v = rw (cut-taken p v)
 
@@ -173,7 +173,7 @@ module _ (p : Proxy) {b : ScaledBox} (gave : b ≡ heldBox p) where
     pub accepted-cut : a .taken ≡ true → 0 ≡ proxyRefusal p
     accepted-cut h = rw (box-test p gave no, cut-test p cut-gave h) at (refusal-of (p .solid) (p .displacement))
 
-    pub refused-proxy : a .taken ≡ false → 10 ≡ proxyRefusal p
+    pub refused-proxy : a .taken ≡ false → badProxy ≡ proxyRefusal p
     refused-proxy h = rw (box-test p gave no, cut-test p cut-gave h) at (refusal-of (p .solid) (p .displacement))
 
 -- the six rows of `rows_between`, by what its three tests gave

@@ -12,7 +12,7 @@ use lib.Ieee.{Float, nan, inf, fin, up, down}
 use lib.Ieee.Fits.{down-pos}
 use Rattle.lemmas.proofs.Whole.{ν, _⊗_ as _*ᴱ_, ⊝, eq-by, leZ-true, le-leZ}
 use Rattle.lemmas.proofs.Machine.{size-mul}
-use Rattle.universe.specs.Refusals.{unless}
+use Rattle.universe.specs.Refusals.{unless, badProxy}
 use Rattle.standin.specs.declared.Triple.{Triple}
 use Rattle.standin.specs.declared.Corners.{Corners}
 use Rattle.standin.specs.declared.Plane.{Plane}
@@ -138,11 +138,11 @@ cut-good a v = (
       rw (n, number-taken cornerLimit (a .offset) .1 (g .offset), triple-taken normalLimit v .1 (g .displacement)),
 )
 
--- 0 exactly if the test passes, 10 exactly if not
-pub accepts : (b : Bool) → (unless b 10 ≡ 0) ↔ (b ≡ true)
+-- 0 exactly if the test passes, the number exactly if not
+pub accepts : (b : Bool) → (unless b badProxy ≡ 0) ↔ (b ≡ true)
 accepts true = (λ e. refl, λ e. refl)
 accepts false = (λ e. absurd (omega arith), λ e. absurd (true≢false (sym e)))
 
-pub refuses : (b : Bool) (G : Type 0) → (b ≡ true) ↔ G → (unless b 10 ≡ 10) ↔ (G → ⊥)
+pub refuses : (b : Bool) (G : Type 0) → (b ≡ true) ↔ G → (unless b badProxy ≡ badProxy) ↔ (G → ⊥)
 refuses true G h = (λ e. absurd (omega arith), λ f. absurd (f (h .0 refl)))
 refuses false G h = (λ e g. true≢false (sym (h .1 g)), λ f. refl)

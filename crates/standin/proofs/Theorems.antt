@@ -7,6 +7,7 @@ use mathlib.Core.List.{List}
 use Prim.Native.Nat.{ℕ, _<_}
 use lib.Ieee.{Float}
 use Rattle.universe.specs.declared.Universe.{Universe}
+use Rattle.universe.specs.Refusals.{badProxy}
 use Rattle.universe.specs.Universe.{offsetLimit, coefficientLimit}
 use Rattle.bintree.specs.declared.Colour.the-variants.{Black}
 use Rattle.csg.specs.Halfspace.{rowAt, rowsRefusal, colourAtCentre}
@@ -36,18 +37,18 @@ cutProxy a v = record { solid = Cut a; displacement = v }
 pub taken-exactly : (limit : ℕ) (x : Float) → (isTaken limit x ≡ true) ↔ Multiple limit x
 taken-exactly = number-taken
 
--- a Box is accepted exactly if all its numbers are such and near ≤ far on each axis, and else refused 10
+-- a Box is accepted exactly if all its numbers are such and near ≤ far on each axis, and else refused with number 10
 pub box-accepted-exactly : (c : Corners) (v : Triple) → (proxyRefusal (boxProxy c v) ≡ 0) ↔ GoodBox c v
 box-accepted-exactly c v = Iff·trans (accepts (takesBox c v)) (box-good c v)
 
-pub box-refused-exactly : (c : Corners) (v : Triple) → (proxyRefusal (boxProxy c v) ≡ 10) ↔ (GoodBox c v → ⊥)
+pub box-refused-exactly : (c : Corners) (v : Triple) → (proxyRefusal (boxProxy c v) ≡ badProxy) ↔ (GoodBox c v → ⊥)
 box-refused-exactly c v = refuses (takesBox c v) (GoodBox c v) (box-good c v)
 
 -- the same for a Cut
 pub cut-accepted-exactly : (a : Plane) (v : Triple) → (proxyRefusal (cutProxy a v) ≡ 0) ↔ GoodCut a v
 cut-accepted-exactly a v = Iff·trans (accepts (takesCut a v)) (cut-good a v)
 
-pub cut-refused-exactly : (a : Plane) (v : Triple) → (proxyRefusal (cutProxy a v) ≡ 10) ↔ (GoodCut a v → ⊥)
+pub cut-refused-exactly : (a : Plane) (v : Triple) → (proxyRefusal (cutProxy a v) ≡ badProxy) ↔ (GoodCut a v → ⊥)
 cut-refused-exactly a v = refuses (takesCut a v) (GoodCut a v) (cut-good a v)
 
 -- a point lies in all six rows of an accepted Box exactly if the Box, displaced by t·v, holds it

@@ -4,7 +4,7 @@ use mathlib.Core.Bool.{Bool, cond, _&&_}
 use mathlib.Core.List.{List, [], _∷_}
 use lib.IntN.{ℤ, pos, negsuc, negℤ, _+ℤ_, _*ℤ_}
 use lib.Signed.{leZ}
-use Rattle.universe.specs.Refusals.{unless}
+use Rattle.universe.specs.Refusals.{unless, badProxy}
 use Rattle.universe.specs.Universe.{offsetLimit, coefficientLimit}
 use Rattle.standin.specs.declared.Triple.{Triple}
 use Rattle.standin.specs.declared.Corners.{Corners}
@@ -58,8 +58,8 @@ takesCut p v = takesTriple normalLimit (p .normal) && isTaken cornerLimit (p .of
 
 -- number 10: "proxy number not as above, or near > far"
 abbrev pub solidRefusal : Solid → Triple → ℕ
-solidRefusal (Box c) v = unless (takesBox c v) 10
-solidRefusal (Cut p) v = unless (takesCut p v) 10
+solidRefusal (Box c) v = unless (takesBox c v) badProxy
+solidRefusal (Cut p) v = unless (takesCut p v) badProxy
 
 abbrev pub proxyRefusal : Proxy → ℕ
 proxyRefusal p = solidRefusal (p .solid) (p .displacement)

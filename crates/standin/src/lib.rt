@@ -301,7 +301,7 @@ fn is_limited(numbers: Numbers, limit: i64) -> bool
     in_order(least, numbers) & in_order(numbers, most)
 }
 
-// 10 where a number is no finite multiple of 1/16 within its limit, or near > far; else 0.
+// BAD_PROXY where a number is no finite multiple of 1/16 within its limit, or near > far; else 0.
 pub fn refusal(proxy: Proxy) -> u64
     ensures { λ r. ⌜ r ≡ proxyRefusal proxy ⌝ }
 {
@@ -310,7 +310,11 @@ pub fn refusal(proxy: Proxy) -> u64
         return 0;
     }
     let of_cut = held_cut(proxy);
-    if of_cut.taken { 0 } else { 10 }
+    if of_cut.taken {
+        0
+    } else {
+        universe::refusals::BAD_PROXY
+    }
 }
 
 // How many rows `box_rows` gives: 6 for a Box that is not refused, else 0.

@@ -5,20 +5,22 @@ use standin::Plane;
 use standin::Proxy;
 use standin::Solid;
 use standin::Triple;
+use universe::Universe;
 
 fn triple(x: f64, y: f64, z: f64) -> Triple {
     Triple { x: x, y: y, z: z }
 }
 
-// A Box from (near, 0, 0) to (far, 0, 0) with the displacement (v, 0, 0).
-fn box_along_x(near: f64, far: f64, v: f64) -> Proxy {
-    let near = triple(near, 0.0, 0.0);
-    let far = triple(far, 0.0, 0.0);
+fn sixteenths(x: i64, y: i64, z: i64) -> Numbers {
+    Numbers { x: x, y: y, z: z }
+}
+
+// A Box and a Cut with a displacement.
+fn box_of(near: Triple, far: Triple, displacement: Triple) -> Proxy {
     let corners = Corners {
         near: near,
         far: far,
     };
-    let displacement = triple(v, 0.0, 0.0);
     let solid = Solid::Box(corners);
     Proxy {
         solid: solid,
@@ -26,19 +28,30 @@ fn box_along_x(near: f64, far: f64, v: f64) -> Proxy {
     }
 }
 
-// A Cut with the normal (n, 0, 0), the offset c and the displacement (v, 0, 0).
-fn cut_along_x(n: f64, c: f64, v: f64) -> Proxy {
-    let normal = triple(n, 0.0, 0.0);
+fn cut_of(normal: Triple, offset: f64, displacement: Triple) -> Proxy {
     let plane = Plane {
         normal: normal,
-        offset: c,
+        offset: offset,
     };
-    let displacement = triple(v, 0.0, 0.0);
     let solid = Solid::Cut(plane);
     Proxy {
         solid: solid,
         displacement: displacement,
     }
+}
+
+// A Box from (near, 0, 0) to (far, 0, 0) with the displacement (v, 0, 0).
+fn box_along_x(near: f64, far: f64, v: f64) -> Proxy {
+    box_of(
+        triple(near, 0.0, 0.0),
+        triple(far, 0.0, 0.0),
+        triple(v, 0.0, 0.0),
+    )
+}
+
+// A Cut with the normal (n, 0, 0), the offset c and the displacement (v, 0, 0).
+fn cut_along_x(n: f64, c: f64, v: f64) -> Proxy {
+    cut_of(triple(n, 0.0, 0.0), c, triple(v, 0.0, 0.0))
 }
 
 // x at the place asked for, 0 at the others.
@@ -50,31 +63,15 @@ fn only(place: u64, asked: u64, x: f64) -> f64 {
 fn box_with(place: u64, x: f64) -> Proxy {
     let near = triple(only(place, 0, x), only(place, 1, x), only(place, 2, x));
     let far = triple(only(place, 3, x), only(place, 4, x), only(place, 5, x));
-    let corners = Corners {
-        near: near,
-        far: far,
-    };
     let displacement = triple(only(place, 6, x), only(place, 7, x), only(place, 8, x));
-    let solid = Solid::Box(corners);
-    Proxy {
-        solid: solid,
-        displacement: displacement,
-    }
+    box_of(near, far, displacement)
 }
 
 // A Cut all of whose seven numbers are 0 but the one at a place.
 fn cut_with(place: u64, x: f64) -> Proxy {
     let normal = triple(only(place, 0, x), only(place, 1, x), only(place, 2, x));
-    let plane = Plane {
-        normal: normal,
-        offset: only(place, 3, x),
-    };
     let displacement = triple(only(place, 4, x), only(place, 5, x), only(place, 6, x));
-    let solid = Solid::Cut(plane);
-    Proxy {
-        solid: solid,
-        displacement: displacement,
-    }
+    cut_of(normal, only(place, 3, x), displacement)
 }
 
 // The size of a whole number.
@@ -257,16 +254,8 @@ fn rows() {
 // The largest numbers of a Cut.
 fn largest() {
     let normal = triple(64.0, -64.0, 64.0);
-    let plane = Plane {
-        normal: normal,
-        offset: 4096.0,
-    };
     let displacement = triple(-64.0, 64.0, -64.0);
-    let solid = Solid::Cut(plane);
-    let proxy = Proxy {
-        solid: solid,
-        displacement: displacement,
-    };
+    let proxy = cut_of(normal, 4096.0, displacement);
     io::write_all(1, b"Cut, every number at its limit");
     answer(proxy);
     print_row(standin::cut_row(proxy));
@@ -300,29 +289,26 @@ fn corners_in_sixteenths() {
 
 // The rows between (near, 0, 0) and (0, far, 0), with the displacement (0, 0, v), all in sixteenths.
 fn between(name: &[u8], near: i64, far: i64, v: i64) {
-    let low = Numbers {
-        x: near,
-        y: 0,
-        z: 0,
-    };
-    let high = Numbers { x: 0, y: far, z: 0 };
-    let step = Numbers { x: 0, y: 0, z: v };
     io::write_all(1, b"Between, ");
     io::write_all(1, name);
     io::write_all(1, b"\n");
-    print_six(standin::rows_between(low, high, step));
+    print_six(standin::rows_between(
+        sixteenths(near, 0, 0),
+        sixteenths(0, far, 0),
+        sixteenths(0, 0, v),
+    ));
 }
 
 fn rows_in_sixteenths() {
     between(
         b"each number at a halfspace's limit",
-        1099511627776,
-        -1099511627776,
-        16777216,
+        Universe::OFFSET_LIMIT,
+        -Universe::OFFSET_LIMIT,
+        Universe::COEFFICIENT_LIMIT,
     );
-    between(b"near past it", -1099511627777, 0, 0);
-    between(b"far past it", 0, 1099511627777, 0);
-    between(b"step past it", 0, 0, -16777217);
+    between(b"near past it", -Universe::OFFSET_LIMIT - 1, 0, 0);
+    between(b"far past it", 0, Universe::OFFSET_LIMIT + 1, 0);
+    between(b"step past it", 0, 0, -Universe::COEFFICIENT_LIMIT - 1);
     between(
         b"the least i64s",
         -9223372036854775808,

@@ -33,8 +33,20 @@ bintree-is-alike _ _ _ _ _ _ p q = (same p q, refl)
 pub bintree-note : TellsApart bintree.note.ended bintree.note.Reads.Learnt
 bintree-note _ _ _ _ _ _ p q = (refl, λ i. (same p q i, behind 2 tt))
 
-pub bintree-open : TellsApart bintree.open.ended bintree.open.Reads.Learnt
-bintree-open _ _ _ _ _ _ p q = (refl, λ i. (same p q i, behind 4 tt))
+pub bintree-copy : TellsApart bintree.copy.ended bintree.copy.Reads.Learnt
+bintree-copy _ _ _ _ _ _ p q = (refl, λ i. behind 1 (same p q i, behind 1 tt))
+
+pub bintree-join-halves : TellsApart bintree.join_halves.ended bintree.join_halves.Reads.Learnt
+bintree-join-halves _ _ _ _ _ _ p q = (refl, λ i. (same p q i, behind 4 tt))
+
+pub written-refused : TellsApart bintree.Written.refused.ended bintree.Written.refused.Reads.Learnt
+written-refused _ _ _ _ _ _ p q = (same p q, refl)
+
+pub written-short : TellsApart bintree.Written.short.ended bintree.Written.short.Reads.Learnt
+written-short _ _ _ _ _ _ p q = (same p q, refl)
+
+pub written-done : TellsApart bintree.Written.done.ended bintree.Written.done.Reads.Learnt
+written-done _ _ _ _ _ _ p q = (same p q, refl)
 
 pub bintree-merge : TellsApart bintree.merge.ended bintree.merge.Reads.Learnt
 bintree-merge _ _ _ _ _ _ p q = (same (p .0) (q .0), λ i. behind 2 (same (p .1) (q .1) i, tt))

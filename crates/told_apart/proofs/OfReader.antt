@@ -1,7 +1,7 @@
 -- Of each public function of `reader`: two answers that its contract allows are equal. The EXCEPTIONS, where a slice comes back, are marked.
 use mathlib.Core.Path.{_≡_, refl}
 use denote.Ref.{now}
-use Rattle.bintree.specs.Answers.{expressionChecks}
+use Rattle.bintree.specs.Answers.{wellFormedRefusal}
 use Rattle.reader.proofs as reader
 use Rattle.told_apart.specs.Answers.{Promise, TellsApart, AnswersAlike, SameContents}
 use Rattle.told_apart.proofs.Alike.{same, factOf}
@@ -24,7 +24,7 @@ pub reader-held : AnswersAlike reader.held.ended (λ lifetimes. SameContents) re
 reader-held _ _ _ _ _ _ p q = (same (p .symbols) (q .symbols), refl)
 
 pub reader-held-accepted : TellsApart reader.held.ended (λ lifetimes arguments answer exit.
-    (expressionChecks (arguments .0) (now (arguments .1 .0)) ≡ 0) × reader.held.Reads.Learnt lifetimes arguments answer exit)
+    (wellFormedRefusal (arguments .0) (now (arguments .1 .0)) ≡ 0) × reader.held.Reads.Learnt lifetimes arguments answer exit)
 reader-held-accepted _ _ _ _ _ _ p q = (same (p .1 .itself (p .0)) (q .1 .itself (q .0)), refl)
 
 -- `open`, `current` and `advanced` are proved by hand, and the toolchain makes no `Learnt` for them: here it is, the one fact of their contracts
@@ -52,6 +52,6 @@ pub reader-open : AnswersAlike reader.open.ended (λ lifetimes answer other.
 reader-open _ _ _ _ _ _ p q = ((same (p .0 .symbols) (q .0 .symbols), same (p .1) (q .1)), refl)
 
 pub reader-open-accepted : TellsApart reader.open.ended (λ lifetimes arguments answer exit.
-    (expressionChecks (arguments .0) (now (arguments .1 .0)) ≡ 0) × openLearnt lifetimes arguments answer exit)
+    (wellFormedRefusal (arguments .0) (now (arguments .1 .0)) ≡ 0) × openLearnt lifetimes arguments answer exit)
 reader-open-accepted _ _ _ _ _ _ p q =
     (λ i. record { expression = same (p .1 .0 .itself (p .0)) (q .1 .0 .itself (q .0)) i; place = same (p .1 .1) (q .1 .1) i }, refl)

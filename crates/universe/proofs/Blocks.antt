@@ -17,7 +17,8 @@ use Rattle.lemmas.proofs.Sums.{and-left, and-right, and-both, and-false, every-
 use Rattle.universe.specs.declared.Universe.{Universe}
 use Rattle.universe.specs.declared.Block.{Block}
 use Rattle.universe.specs.Universe.{universeRefusal, mostAxes, levels, axisAt, sideAlong, blocksAlong, blockSide}
-use Rattle.universe.specs.Block.{lowAlong, lengthAlong, wholeBlock, axisOf, low, high, Given, first, lower, upper, placedAlong, isGiven, lowHalf, highHalf}
+use Rattle.universe.specs.Block.{lowAlong, lengthAlong, wholeBlock, axisOf, low, high, Given, first, lower, upper}
+use Rattle.universe.specs.Block.{placedAlong, isGiven, lowHalf, highHalf}
 use Rattle.universe.proofs.Universes.{Accepted, accepted, is-accepted, axis-below, side-first, side-halved, side-kept, side-positive, blocks-sides}
 use Rattle.universe.proofs.Multiples.{low-multiple, high-multiple, middle-inside, low-or-middle}
 
@@ -242,7 +243,7 @@ placed-given : (l : ℕ) (u : Universe) (w : List ℕ) → length w ≡ mostAxes
 placed-given zero u w len p = subst (λ (v : List ℕ). Given (block u 0 v)) (sym (start u w len p)) (first u (is-accepted u (p .taken)))
 placed-given (suc l) u w len p = half-of u l w len p (placed-given l u)
 
-pub given-is : (b : Block) → length (b .low) ≡ 4 → isGiven b ≡ true → Given b
+pub given-is : (b : Block) → length (b .low) ≡ mostAxes → isGiven b ≡ true → Given b
 given-is b len h = placed-given (b .level) (b .universe) (b .low) len (test-placed b h)
 
 -- ---- the halves: of a given block above the last level, and of any other
@@ -277,7 +278,7 @@ pub stays-itself-last : (b : Block) → levels (b .universe) ≤ b .level → (l
 stays-itself-last b h = stays-is b (rw (le-ltb (b .level) (levels (b .universe)) h) (and-false (isGiven b)))
 
 -- and so does one that no halving of the first block gives
-pub stays-itself-other : (b : Block) → length (b .low) ≡ 4 → (Given b → ⊥) → (lowHalf b ≡ b) × (highHalf b ≡ b)
+pub stays-itself-other : (b : Block) → length (b .low) ≡ mostAxes → (Given b → ⊥) → (lowHalf b ≡ b) × (highHalf b ≡ b)
 stays-itself-other b len n = go (isGiven b) refl
   where
     go : (x : Bool) → isGiven b ≡ x → (lowHalf b ≡ b) × (highHalf b ≡ b)

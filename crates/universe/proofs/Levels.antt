@@ -1,7 +1,7 @@
 -- Room as the code finds it, level by level. The blocks along each axis are carried from level to level, those along the level's axis doubled. The
--- products over the axes fit because no axis has more than 1,024 blocks, that with the leaves because it is formed only where it is at most all blocks,
--- and the sum because it is below room.
-use mathlib.Core.Path.{_≡_, refl, sym, ap₂, _∙_}
+-- products over the axes fit because no axis has more blocks than the longest side has units, that with the leaves because it is formed only where it is
+-- at most all blocks, and the sum because it is below room.
+use mathlib.Core.Path.{_≡_, refl, sym, ap, ap₂, _∙_}
 use mathlib.Core.List.{List}
 use Prim.Native.Nat.{ℕ, zero, suc, _+_, _*_, _-_, _/_, _%_, _^_, _≤_, _<_, min}
 use native.Mathlib.Omega.{arith}
@@ -18,9 +18,12 @@ use mir.Val.{Fits}
 use Rattle.lemmas.specs.Sums.{sum, product}
 use Rattle.lemmas.proofs.Sums.{top, product-cong, product-mono, product-positive, product-power}
 use Rattle.universe.specs.declared.Universe.{Universe}
-use Rattle.universe.specs.Universe.{mostBits, universeRefusal, levels, axisAt, halvings, blocksAlong}
+use Rattle.universe.specs.Universe.{mostAxes, mostBits, mostLevels, longestSide, universeRefusal, levels, axisAt, halvings, blocksAlong}
+use Rattle.universe.specs.Questions.{levelsAnswer, axesLeft}
 use Rattle.universe.specs.Room.{blocksAt, innerBlocksAt, levelCount, room, roomAnswer, FewBlocks}
-use Rattle.universe.proofs.Universes.{accepted, levels-few, axis-below, halvings-most, blocks-positive, blocks-first, blocks-doubled, blocks-kept}
+use Rattle.universe.proofs.Universes.{accepted, levels-few, bits-few, axis-below, halvings-most}
+use Rattle.universe.proofs.Universes.{blocks-positive, blocks-first, blocks-doubled, blocks-kept}
+use Rattle.universe.proofs.Questions.{levels-told, axes-left-at}
 use Rattle.universe.proofs.Rooms.{room-small}
 
 -- ---- products
@@ -72,44 +75,56 @@ factor-less axes blocks less axis f l h = omega (arith, f .some axis h)
 pub product-fits : (axes : ℕ) (blocks : List ℕ) (less axis found : ℕ) → FewBlocks axes blocks → axis < axes → found ≡ product axis (λ i. getD blocks i 0 - less)
     → Fits w64 (found * (getD blocks axis 0 - less))
 product-fits axes blocks less axis found f h e =
-    let power : 1024 ^ (axis + 1) ≤ 1024 ^ 4 = pow-le-pow-right (omega arith) {i = axis + 1} {j = 4} (omega (arith, f .few)) in
-    let most : product (axis + 1) (λ i. getD blocks i 0 - less) ≤ 1024 ^ (axis + 1) = product-most (axis + 1) _ 1024 (λ i j. omega (arith, f .most i (omega arith))) in
+    let power : longestSide ^ (axis + 1) ≤ longestSide ^ mostAxes = pow-le-pow-right (omega arith) {i = axis + 1} {j = mostAxes} (omega (arith, f .few)) in
+    let most : product (axis + 1) (λ i. getD blocks i 0 - less) ≤ longestSide ^ (axis + 1) =
+    product-most (axis + 1) _ longestSide (λ i j. omega (arith, f .most i (omega arith))) in
     omega (arith, product-next axis (λ i. getD blocks i 0 - less) found e)
 
 -- ---- level by level
 
--- before a level: the blocks along each axis, and what the levels above it count
-pub record Counted (u : Universe) (leaves : ℕ) (blocks : List ℕ) (found level : ℕ) : Type 0 where
+-- with so many levels left: the blocks along each axis, and what the levels above count
+pub record Counted (u : Universe) (leaves : ℕ) (axes blocks : List ℕ) (found left : ℕ) : Type 0 where
   pub good : universeRefusal u ≡ 0
-  pub within : level ≤ levels u
-  pub four : length blocks ≡ 4
-  pub along : (i : ℕ) → i < u .axes → getD blocks i 0 ≡ blocksAlong u level i
-  pub so-far : found ≡ sum level (levelCount u leaves)
+  pub within : left ≤ levels u
+  pub order : axes ≡ axesLeft u
+  pub long : length blocks ≡ mostAxes
+  pub along : (i : ℕ) → i < u .axes → getD blocks i 0 ≡ blocksAlong u (levels u - left) i
+  pub so-far : found ≡ sum (levels u - left) (levelCount u leaves)
 
-pub counted-first : (u : Universe) (leaves : ℕ) → universeRefusal u ≡ 0 → Counted u leaves (replicate 4 1) 0 0
+pub counted-first : (u : Universe) (leaves : ℕ) {axes : List ℕ} {left : ℕ} → universeRefusal u ≡ 0 → axes ≡ axesLeft u → left ≡ levelsAnswer u
+    → Counted u leaves axes (replicate mostAxes 1) 0 left
 unfolding sum
-counted-first u leaves e = record {
-  good = e;
-  within = omega arith;
-  four = refl;
-  along = λ i h. getD-replicate 4 i 1 0 (omega (arith, accepted u e .few-axes)) ∙ sym (blocks-first u i);
-  so-far = refl;
-}
+counted-first u leaves {axes} {left} e f g =
+    let all : left ≡ levels u = levels-told u refl e g in
+    let none : levels u - left ≡ 0 = omega arith in
+    record {
+      good = e;
+      within = omega arith;
+      order = f;
+      long = refl;
+      along = λ i h. getD-replicate mostAxes i 1 0 (omega (arith, accepted u e .few-axes)) ∙ rw none (sym (blocks-first u i));
+      so-far = rw none;
+    }
 
 -- what is found is below room
-found-few : {u : Universe} {leaves : ℕ} {blocks : List ℕ} {found level : ℕ} → Counted u leaves blocks found level → 1 + 2 * found < 2 ^ 41
+found-few : {u : Universe} {leaves : ℕ} {axes blocks : List ℕ} {found left : ℕ} → Counted u leaves axes blocks found left → 1 + 2 * found < 2 ^ suc mostLevels
 unfolding room
-found-few {u} {leaves} {blocks} {found} {level} s =
-    omega (arith, s .so-far, sum-longer level (levels u) (levelCount u leaves) (s .within), room-small u (s .good) leaves)
+found-few {u} {leaves} {axes} {blocks} {found} {left} s =
+    omega (arith, s .so-far, sum-longer (levels u - left) (levels u) (levelCount u leaves) (omega arith), room-small u (s .good) leaves)
 
-module _ {u : Universe} {leaves : ℕ} {blocks : List ℕ} {found level : ℕ} (s : Counted u leaves blocks found level) where
+module _ {u : Universe} {leaves : ℕ} {axes blocks : List ℕ} {found left : ℕ} (s : Counted u leaves axes blocks found left) where
+  abbrev level : ℕ
+  level = levels u - left
+
   -- what the code asks before a level
   pub axes-some : 0 < u .axes
   axes-some = accepted u (s .good) .some-axes
 
-  along-most : (i : ℕ) → i < u .axes → blocksAlong u level i ≤ 2 ^ mostBits
+  along-most : (i : ℕ) → i < u .axes → blocksAlong u level i ≤ longestSide
   unfolding blocksAlong
-  along-most i h = let halved : halvings u level i ≤ mostBits = omega (arith, halvings-most u level i h (s .within), accepted u (s .good) .few-bits) in pow-mono halved
+  along-most i h =
+      let halved : halvings u level i ≤ mostBits = omega (arith, halvings-most u level i h (omega arith), bits-few u (accepted u (s .good)) i) in
+      pow-mono halved
 
   pub blocks-few : FewBlocks (u .axes) blocks
   blocks-few = record {
@@ -117,32 +132,6 @@ module _ {u : Universe} {leaves : ℕ} {blocks : List ℕ} {found level : ℕ} (
     some = λ i h. rw (s .along i h) (blocks-positive u level i);
     most = λ i h. rw (s .along i h) (along-most i h);
   }
-
-  pub levels-fit : Fits w64 (u .axes * u .bits)
-  levels-fit = omega (arith, levels-few u (accepted u (s .good)))
-
-  pub next-fits : level < u .axes * u .bits → Fits w64 (level + 1)
-  next-fits h = omega (arith, levels-few u (accepted u (s .good)))
-
-  -- the axis of the level, and its blocks doubled
-  pub axis-few : level % u .axes < 4
-  axis-few = omega (arith, axis-below u axes-some level, blocks-few .few)
-
-  pub place-fits : Fits w64 (level % u .axes * 8)
-  place-fits = omega (arith, axis-few)
-
-  pub doubled-fits : Fits w64 (getD blocks (level % u .axes) 0 * 2)
-  doubled-fits = omega (arith, blocks-few .most (level % u .axes) (axis-below u axes-some level))
-
-  along-next : (i : ℕ) → i < u .axes → getD (set blocks (level % u .axes) (getD blocks (level % u .axes) 0 * 2)) i 0 ≡ blocksAlong u (level + 1) i
-  along-next i h = rw (add-one level) (go (ℕ-discrete (axisAt u level) i))
-    where
-      go : Dec (axisAt u level ≡ i) → getD (set blocks (level % u .axes) (getD blocks (level % u .axes) 0 * 2)) i 0 ≡ blocksAlong u (suc level) i
-      go (yes q) =
-          rw (← q)
-          (getD-set-same blocks (axisAt u level) _ 0 (omega (arith, axis-few, s .four))
-          ∙ omega (arith, s .along (axisAt u level) (axis-below u axes-some level), blocks-doubled u level))
-      go (no n) = getD-set-other blocks (axisAt u level) i _ 0 (λ q. n (sym q)) ∙ s .along i h ∙ sym (blocks-kept u level i n)
 
   -- the sum doubled, and one more
   pub twice-fits : Fits w64 (2 * found)
@@ -152,9 +141,51 @@ module _ {u : Universe} {leaves : ℕ} {blocks : List ℕ} {found level : ℕ} (
   room-fits = omega (arith, found-few s)
 
   -- after the last level it is room
-  pub found-all : u .axes * u .bits ≤ level → 1 + 2 * found ≡ room u leaves
+  pub found-all : left ≤ 0 → 1 + 2 * found ≡ room u leaves
   unfolding room
-  found-all h = let last : level ≡ levels u = omega (arith, s .within) in omega (arith, rw last at (s .so-far))
+  found-all h = let last : levels u - left ≡ levels u = omega arith in omega (arith, rw last at (s .so-far))
+
+  module _ (h : 0 < left) where
+    -- the axis of the level, and its blocks doubled
+    abbrev axis : ℕ
+    axis = getD axes (left - 1) 0
+
+    pub place-few : left - 1 < mostLevels
+    place-few = omega (arith, s .within, levels-few u (accepted u (s .good)))
+
+    pub place-fits : Fits w64 ((left - 1) * 8)
+    place-fits = omega (arith, place-few)
+
+    axis-is : axis ≡ axisAt u level
+    axis-is =
+        let back : levels u - suc (left - 1) ≡ level = omega arith in
+        rw (s .order) (axes-left-at u (s .good) (left - 1) (omega (arith, s .within))) ∙ ap (axisAt u) back
+
+    axis-below-axes : axis < u .axes
+    axis-below-axes = rw axis-is (axis-below u axes-some level)
+
+    pub axis-few : axis < mostAxes
+    axis-few = omega (arith, axis-below-axes, blocks-few .few)
+
+    pub axis-fits : Fits w64 (axis * 8)
+    axis-fits = omega (arith, axis-few)
+
+    pub doubled-fits : Fits w64 (getD blocks axis 0 * 2)
+    doubled-fits = omega (arith, blocks-few .most axis axis-below-axes)
+
+    next-level : levels u - (left - 1) ≡ suc level
+    next-level = omega (arith, s .within)
+
+    along-next : (i : ℕ) → i < u .axes → getD (set blocks axis (getD blocks axis 0 * 2)) i 0 ≡ blocksAlong u (levels u - (left - 1)) i
+    along-next i k = rw next-level (go (ℕ-discrete axis i))
+      where
+        go : Dec (axis ≡ i) → getD (set blocks axis (getD blocks axis 0 * 2)) i 0 ≡ blocksAlong u (suc level) i
+        go (yes q) =
+            rw (← q)
+            (getD-set-same blocks axis _ 0 (omega (arith, axis-few, s .long))
+            ∙ ap (λ (x : ℕ). x * 2) (s .along axis axis-below-axes)
+            ∙ rw axis-is (omega (arith, blocks-doubled u level)))
+        go (no n) = getD-set-other blocks axis i _ 0 (λ q. n (sym q)) ∙ s .along i k ∙ sym (blocks-kept u level i (λ q. n (axis-is ∙ q)))
 
   module _ {all inner : ℕ} (a : all ≡ product (u .axes) (λ i. getD blocks i 0 - 0)) (b : inner ≡ product (u .axes) (λ i. getD blocks i 0 - 1)) where
     -- with the products of the level: it counts what it should, and the next level stands
@@ -169,29 +200,48 @@ module _ {u : Universe} {leaves : ℕ} {blocks : List ℕ} {found level : ℕ} (
         let some : inner ≡ innerBlocksAt u level = b ∙ product-cong (u .axes) _ _ (λ i h. omega (arith, s .along i h)) in
         c ∙ ap₂ (λ (x y : ℕ). min x (leaves * (x - y))) every some
 
-    pub counted-next : {count : ℕ} → count ≡ min all (leaves * (all - inner)) → level < u .axes * u .bits
-        → Counted u leaves (set blocks (level % u .axes) (getD blocks (level % u .axes) 0 * 2)) (found + count) (level + 1)
+    pub counted-next : {count : ℕ} → count ≡ min all (leaves * (all - inner)) → (h : 0 < left)
+        → Counted u leaves axes (set blocks (getD axes (left - 1) 0) (getD blocks (getD axes (left - 1) 0) 0 * 2)) (found + count) (left - 1)
     unfolding sum
     counted-next {count} c h = record {
       good = s .good;
-      within = omega arith;
-      four = simp length-set (s .four);
-      along = along-next;
-      so-far = rw (add-one level) (omega (arith, s .so-far, count-is c));
+      within = omega (arith, s .within);
+      order = s .order;
+      long = simp length-set (s .long);
+      along = along-next h;
+      so-far = rw (next-level h) (omega (arith, s .so-far, count-is c));
     }
 
-    pub more-fits : {count : ℕ} → count ≡ min all (leaves * (all - inner)) → level < u .axes * u .bits → Fits w64 (found + count)
+    pub more-fits : {count : ℕ} → count ≡ min all (leaves * (all - inner)) → 0 < left → Fits w64 (found + count)
     more-fits c h = omega (arith, found-few (counted-next c h))
 
 -- all that `room_accepted` asks
-pub ruleset counting = (needs, counted-first, counted-next, axes-some, blocks-few, levels-fit, next-fits, axis-few, place-fits, doubled-fits, twice-fits, room-fits, found-all, inner-less, more-fits)
+pub ruleset counting = (
+  needs,
+  counted-first,
+  counted-next,
+  axes-some,
+  blocks-few,
+  place-few,
+  place-fits,
+  axis-few,
+  axis-fits,
+  doubled-fits,
+  twice-fits,
+  room-fits,
+  found-all,
+  inner-less,
+  more-fits,
+)
 
 -- ---- the answer
 
-pub answer-refused : (u : Universe) (leaves : ℕ) {refusal : ℕ} → refusal ≡ universeRefusal u → (refusal ≡ 0 → ⊥) → record { refusal = refusal; symbols = 0 } ≡ roomAnswer u leaves
+pub answer-refused : (u : Universe) (leaves : ℕ) {refusal : ℕ} → refusal ≡ universeRefusal u → (refusal ≡ 0 → ⊥)
+    → record { refusal = refusal; symbols = 0 } ≡ roomAnswer u leaves
 unfolding roomAnswer
 answer-refused u leaves e n = rw (e, ne-eqb (universeRefusal u) 0 (λ z. n (e ∙ z)))
 
-pub answer-room : (u : Universe) (leaves : ℕ) {symbols : ℕ} → universeRefusal u ≡ 0 → symbols ≡ room u leaves → record { refusal = 0; symbols = symbols } ≡ roomAnswer u leaves
+pub answer-room : (u : Universe) (leaves : ℕ) {symbols : ℕ} → universeRefusal u ≡ 0 → symbols ≡ room u leaves
+    → record { refusal = 0; symbols = symbols } ≡ roomAnswer u leaves
 unfolding roomAnswer
 answer-room u leaves e r = rw (r, eq-eqb (universeRefusal u) 0 e)

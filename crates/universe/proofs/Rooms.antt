@@ -8,7 +8,7 @@ use lib.Pow.{pow-mono}
 use Rattle.lemmas.specs.Sums.{sum}
 use Rattle.lemmas.proofs.Sums.{sum-mono, product-mono, product-one, product-scaled}
 use Rattle.universe.specs.declared.Universe.{Universe}
-use Rattle.universe.specs.Universe.{universeRefusal, levels, axisAt, blocksAlong}
+use Rattle.universe.specs.Universe.{mostLevels, universeRefusal, levels, axisAt, blocksAlong}
 use Rattle.universe.specs.Room.{blocksAt, innerBlocksAt, levelCount, room}
 use Rattle.universe.proofs.Universes.{accepted, levels-few, axis-below, blocks-first, blocks-doubled, blocks-kept}
 
@@ -42,9 +42,9 @@ unfolding room
 room-most u h leaves =
     omega (arith, sum-mono (levels u) (levelCount u leaves) (λ l. 2 ^ l) (λ l k. level-most u h leaves l), powers (levels u), pow-succ' 2 (levels u))
 
--- no room of an accepted universe is more than 2^41 − 1
-pub room-small : (u : Universe) → universeRefusal u ≡ 0 → (leaves : ℕ) → room u leaves < 2 ^ 41
+-- no room of an accepted universe is more than that of the most levels
+pub room-small : (u : Universe) → universeRefusal u ≡ 0 → (leaves : ℕ) → room u leaves < 2 ^ suc mostLevels
 room-small u e leaves =
     let a = accepted u e in
-    let few : suc (levels u) ≤ 41 = omega (arith, levels-few u a) in
+    let few : suc (levels u) ≤ suc mostLevels = omega (arith, levels-few u a) in
     omega (arith, room-most u (a .some-axes) leaves, pow-mono few)

@@ -1,27 +1,34 @@
--- The universe: what acceptance gives, how often each axis is halved, and how long and how many blocks are along it. Only `axis-below`, the closed
--- form of `halvings` and `halvings-all` look at how the axes take turns, and only `levels-few` and `side-few` at how many bits there may be; every other
--- law follows from these, one halving at a time.
+-- The universe: what acceptance gives, the order of its axes, how often each axis is halved, and how long and how many blocks are along it. Only
+-- `bits-few` looks at how many bits an axis has. The order is that of Orders at these bits; halvings, a recursion over levels, are the occurrences in
+-- the order so far; every other law follows from these, one halving at a time.
 use mathlib.Core.Path.{_≡_, refl, sym, ap, _∙_}
 use mathlib.Core.Bool.{Bool, true, _&&_}
-use Prim.Native.Nat.{ℕ, zero, suc, _+_, _-_, _*_, _/_, _%_, _^_, _≤_, _<_}
+use mathlib.Core.List.{reverse}
+use Prim.Native.Nat.{ℕ, zero, suc, _+_, _-_, _*_, _^_, _≤_, _<_}
 use native.Mathlib.Omega.{arith}
-use native.Mathlib.Nat.{mod-lt, div-add-mod', div-eq-of-lt-le, pow-succ', sub-self, sub-zero, le-refl, mul-le-mul}
-use native.Mathlib.Decide.{ℕ-discrete, decLe}
+use native.Mathlib.Nat.{pow-succ', sub-self, sub-zero, le-refl, mul-le-mul}
+use native.Mathlib.Decide.{ℕ-discrete, decLt}
 use lib.Dec.{leb}
+use lib.ListN.{length, getD, take, List·getD-eq-default}
+use lib.Seq.{take-all}
 use lib.Pow.{pow-pos, pow-mono, pow-add}
 use borrow.Author.Tests.{leb-true, le-leb, eq-eqb, ne-eqb}
-use Rattle.lemmas.specs.Sums.{product}
-use Rattle.lemmas.proofs.Sums.{and-left, and-right, and-both, product-scaled, product-one}
-use Rattle.universe.proofs.Refusals.{unless-holds, holds-unless}
+use Rattle.lemmas.specs.Sums.{sum, product}
+use Rattle.lemmas.specs.Lists.{occurrences, Below}
+use Rattle.lemmas.proofs.Sums.{and-left, and-right, and-both, sum-cong, sum-mono, sum-same, sum-part, product-scaled, product-one}
+use Rattle.lemmas.proofs.Lists.{occurrences-next, below-at, reverse-at}
+use Rattle.universe.proofs.Refusing.{unless-holds, holds-unless}
+use Rattle.universe.proofs.Orders.{rounds-below, order-often, order-long, order-sum}
 use Rattle.universe.specs.declared.Universe.{Universe}
-use Rattle.universe.specs.Universe.{leastAxes, mostAxes, mostBits, universeRefusal, bitsAlong, sideAlong, levels, axisAt, halvings, blocksAlong, blockSide}
+use Rattle.universe.specs.Universe.{leastAxes, mostAxes, mostBits, mostLevels, longestSide, universeRefusal}
+use Rattle.universe.specs.Universe.{bitsAlong, sideAlong, levels, order, axisAt, halvings, blocksAlong, blockSide}
 
 -- ---- acceptance
 
 pub record Accepted (u : Universe) : Type 0 where
   pub some-axes : 1 ≤ u .axes
-  pub few-axes : u .axes ≤ 4
-  pub few-bits : u .bits ≤ 10
+  pub few-axes : u .axes ≤ mostAxes
+  pub few-bits : u .bits ≤ mostBits
 
 pub accepted : (u : Universe) → universeRefusal u ≡ 0 → Accepted u
 unfolding universeRefusal
@@ -40,41 +47,61 @@ unfolding universeRefusal
 is-accepted u a = holds-unless _ 2 (and-both (and-both (le-leb _ _ (a .some-axes)) (le-leb _ _ (a .few-axes))) (le-leb _ _ (a .few-bits)))
 
 -- so few that machine numbers hold them
-pub levels-few : (u : Universe) → Accepted u → levels u ≤ 40
-levels-few u a = mul-le-mul (a .few-axes) (a .few-bits)
+pub bits-few : (u : Universe) → Accepted u → (i : ℕ) → bitsAlong u i ≤ mostBits
+unfolding bitsAlong
+bits-few u a i = a .few-bits
 
-pub side-few : (u : Universe) → Accepted u → (i : ℕ) → sideAlong u i ≤ 1024
-side-few u a i = pow-mono (a .few-bits)
+pub levels-few : (u : Universe) → Accepted u → levels u ≤ mostLevels
+unfolding levels
+levels-few u a =
+    let most = sum-mono (u .axes) (bitsAlong u) (λ i. mostBits) (λ i h. bits-few u a i) in
+    omega (arith, most, sum-same (u .axes) mostBits, mul-le-mul (a .few-axes) (le-refl mostBits))
 
--- ---- the axes in turn
+pub side-few : (u : Universe) → Accepted u → (i : ℕ) → sideAlong u i ≤ longestSide
+side-few u a i = pow-mono (bits-few u a i)
+
+-- ---- the order of the axes
+
+-- no axis has more bits than there are levels
+pub bits-within : (u : Universe) (i : ℕ) → i < u .axes → bitsAlong u i ≤ levels u
+unfolding levels
+bits-within u i h = sum-part (u .axes) (bitsAlong u) i h
+
+-- where there is a level there is an axis
+pub some-axes : (u : Universe) (l : ℕ) → l < levels u → 0 < u .axes
+unfolding levels sum
+some-axes u l h = go (decLt 0 (u .axes))
+  where
+    go : Dec (0 < u .axes) → 0 < u .axes
+    go (yes p) = p
+    go (no n) = absurd (omega (arith, ap (λ d. sum d (bitsAlong u)) (let z : u .axes ≡ 0 = omega arith in z)))
+
+-- it has an entry for each level, and each is an axis
+pub order-length : (u : Universe) → length (order u) ≡ levels u
+unfolding order levels
+order-length u = order-long (bitsAlong u) (u .axes) (levels u) (bits-within u)
+
+pub order-below : (u : Universe) → Below (u .axes) (order u)
+unfolding order
+order-below u = rounds-below (bitsAlong u) (u .axes) (levels u)
+
+-- beyond the levels the axis is 0
+axis-past : (u : Universe) (l : ℕ) → levels u ≤ l → axisAt u l ≡ 0
+unfolding axisAt
+axis-past u l h = List·getD-eq-default (order u) 0 {n = l} (omega (arith, order-length u))
 
 pub axis-below : (u : Universe) → 0 < u .axes → (l : ℕ) → axisAt u l < u .axes
-axis-below u h l = mod-lt _ h
-
--- a quotient by its bounds
-quotient : {n : ℕ} (q d : ℕ) → q * d ≤ n → n < q * d + d → n / d ≡ q
-quotient q d h k = div-eq-of-lt-le d h (omega arith)
-
--- one halving more: along its axis, and along another
-turn-here : (d l : ℕ) → 0 < d → (suc l + (d - 1 - l % d)) / d ≡ suc ((l + (d - 1 - l % d)) / d)
-turn-here d l h =
-    let m = mod-lt l h in
-    let e = div-add-mod' l d in
-    let a : (l + (d - 1 - l % d)) / d ≡ l / d = quotient (l / d) d (omega arith) (omega arith) in
-    let b : (suc l + (d - 1 - l % d)) / d ≡ suc (l / d) = quotient (suc (l / d)) d (omega arith) (omega arith) in
-    omega arith
-
-turn-kept : (d l i : ℕ) → i < d → (l % d ≡ i → ⊥) → (suc l + (d - 1 - i)) / d ≡ (l + (d - 1 - i)) / d
-turn-kept d l i h n = go (decLe (suc (l % d)) i)
+unfolding axisAt
+axis-below u h l = go (decLt l (levels u))
   where
-    go : Dec (l % d < i) → (suc l + (d - 1 - i)) / d ≡ (l + (d - 1 - i)) / d
-    go (yes k) =
-        let e = div-add-mod' l d in
-        quotient (l / d) d (omega arith) (omega arith) ∙ sym (quotient (l / d) d (omega arith) (omega arith))
-    go (no k) =
-        let m : l % d < d = mod-lt l (omega arith) in
-        let e = div-add-mod' l d in
-        quotient (suc (l / d)) d (omega arith) (omega arith) ∙ sym (quotient (suc (l / d)) d (omega arith) (omega arith))
+    go : Dec (l < levels u) → axisAt u l < u .axes
+    go (yes k) = below-at l (order-below u) (omega (arith, order-length u))
+    go (no n) = omega (arith, axis-past u l (omega arith))
+
+-- turned round, the order goes by the levels that are left: at place n stands the axis of a block with n + 1 levels left
+pub axis-left : (u : Universe) (n : ℕ) → n < levels u → getD (reverse (order u)) n 0 ≡ axisAt u (levels u - suc n)
+unfolding axisAt
+axis-left u n h = reverse-at (order u) n (omega (arith, order-length u)) ∙ ap (λ m. getD (order u) (m - suc n) 0) (order-length u)
 
 -- ---- halvings
 
@@ -90,19 +117,27 @@ pub halvings-kept : (u : Universe) (l i : ℕ) → (axisAt u l ≡ i → ⊥) �
 unfolding halvings
 halvings-kept u l i n = rw (ne-eqb (axisAt u l) i n) (omega arith)
 
--- the closed form
-pub halvings-closed : (u : Universe) (l i : ℕ) → i < u .axes → halvings u l i ≡ (l + (u .axes - 1 - i)) / u .axes
-unfolding halvings
-halvings-closed u zero i h = sym (quotient 0 (u .axes) (omega arith) (omega arith))
-halvings-closed u (suc l) i h = go (ℕ-discrete (axisAt u l) i) (halvings-closed u l i h)
-  where
-    go : Dec (axisAt u l ≡ i) → halvings u l i ≡ (l + (u .axes - 1 - i)) / u .axes → halvings u (suc l) i ≡ (suc l + (u .axes - 1 - i)) / u .axes
-    go (yes e) ih = rw (← e) (halvings-here u l ∙ ap suc (rw (← e) at ih) ∙ sym (turn-here (u .axes) l (omega arith)))
-    go (no n) ih = halvings-kept u l i n ∙ ih ∙ sym (turn-kept (u .axes) l i h n)
+-- they are the occurrences in the order so far
+pub halvings-often : (u : Universe) (l i : ℕ) → l ≤ levels u → halvings u l i ≡ occurrences i (take l (order u))
+unfolding halvings occurrences axisAt
+halvings-often u zero i h = refl
+halvings-often u (suc l) i h =
+    omega (arith, halvings-often u l i (omega arith), occurrences-next i (order u) l (omega (arith, order-length u)))
+
+-- the bits before a level add up to the level
+pub halvings-sum : (u : Universe) (l : ℕ) → l ≤ levels u → sum (u .axes) (halvings u l) ≡ l
+unfolding order levels
+halvings-sum u l h =
+    sum-cong (u .axes) (halvings u l) (λ i. occurrences i (take l (order u))) (λ i k. halvings-often u l i h)
+    ∙ order-sum (bitsAlong u) (u .axes) (levels u) (bits-within u) l h
 
 -- at the last level each axis has all its halvings
 pub halvings-all : (u : Universe) (i : ℕ) → i < u .axes → halvings u (levels u) i ≡ bitsAlong u i
-halvings-all u i h = halvings-closed u (levels u) i h ∙ quotient (u .bits) (u .axes) (omega arith) (omega arith)
+unfolding order
+halvings-all u i h =
+    halvings-often u (levels u) i (le-refl (levels u))
+    ∙ ap (occurrences i) (take-all (levels u) (order u) (omega (arith, order-length u)))
+    ∙ order-often (bitsAlong u) (u .axes) (levels u) (bits-within u) i h
 
 pub halvings-mono : (u : Universe) (l m i : ℕ) → l ≤ m → halvings u l i ≤ halvings u m i
 unfolding halvings
@@ -119,6 +154,20 @@ halvings-most u l i h k = omega (arith, halvings-mono u l (levels u) i k, halvin
 -- the axis of a level that is not the last has a halving left
 pub halvings-next : (u : Universe) → 0 < u .axes → (l : ℕ) → l < levels u → halvings u l (axisAt u l) < bitsAlong u (axisAt u l)
 halvings-next u h l k = omega (arith, halvings-here u l, halvings-most u (suc l) (axisAt u l) (axis-below u h l) k)
+
+-- a level halves an axis once or not at all, so no axis has more halvings left than there are levels left
+halvings-grow : (u : Universe) (l m i : ℕ) → l ≤ m → halvings u m i ≤ halvings u l i + (m - l)
+unfolding halvings
+halvings-grow u l zero i h = omega arith
+halvings-grow u l (suc m) i h = go (ℕ-discrete l (suc m)) (ℕ-discrete (axisAt u m) i) (halvings-grow u l m i)
+  where
+    go : Dec (l ≡ suc m) → Dec (axisAt u m ≡ i) → (l ≤ m → halvings u m i ≤ halvings u l i + (m - l)) → halvings u (suc m) i ≤ halvings u l i + (suc m - l)
+    go (yes e) a ih = rw e (omega arith)
+    go (no n) (yes a) ih = rw (eq-eqb (axisAt u m) i a) (omega (arith, ih (omega arith)))
+    go (no n) (no a) ih = rw (ne-eqb (axisAt u m) i a) (omega (arith, ih (omega arith)))
+
+pub bits-left : (u : Universe) (l i : ℕ) → i < u .axes → l ≤ levels u → bitsAlong u i - halvings u l i ≤ levels u - l
+bits-left u l i h k = omega (arith, halvings-grow u l (levels u) i k, halvings-all u i h)
 
 -- ---- the lengths of blocks
 

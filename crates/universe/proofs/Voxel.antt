@@ -17,7 +17,7 @@ use Rattle.universe.specs.declared.Block.{Block}
 use Rattle.universe.specs.Universe.{mostAxes, levels, sideAlong}
 use Rattle.universe.specs.Block.{lowAlong, lengthAlong, wholeBlock, axisOf, low, high, Given}
 use Rattle.universe.specs.Voxel.{placeAlong, voxelRefusal, Within, halfAt, pathFrom}
-use Rattle.universe.proofs.Refusals.{unless-holds, holds-unless}
+use Rattle.universe.proofs.Refusing.{unless-holds, holds-unless}
 use Rattle.universe.proofs.Universes.{Accepted, side-first, side-last, side-kept, side-positive}
 use Rattle.universe.proofs.Multiples.{in-low, in-high}
 use Rattle.universe.proofs.Blocks.{Placed, given-placed, given-length, zero-low, halfLength, high-here, high-kept, axis-few, length-halved, low-even}
@@ -100,7 +100,8 @@ corner-within {b} g = record {
 }
 
 -- at the last level there is no other
-pub at-last : {b : Block} → Given b → b .level ≡ levels (b .universe) → (v : List ℕ) → Within b v → (i : ℕ) → i < b .universe .axes → placeAlong v i ≡ lowAlong b i
+pub at-last : {b : Block} → Given b → b .level ≡ levels (b .universe) → (v : List ℕ) → Within b v
+    → (i : ℕ) → i < b .universe .axes → placeAlong v i ≡ lowAlong b i
 at-last {b} g e v w i l =
     let one : lengthAlong b i ≡ 1 = rw e (side-last (b .universe) i l) in
     omega (arith, w .above i l, w .below i l)

@@ -30,7 +30,9 @@ abbrev pub low : Block → Block
 low b = record { universe = b .universe; level = suc (b .level); low = b .low }
 
 abbrev pub high : Block → Block
-high b = record { universe = b .universe; level = suc (b .level); low = set (b .low) (axisOf b) (lowAlong b (axisOf b) + blockSide (b .universe) (suc (b .level)) (axisOf b)) }
+high b =
+    let middle = lowAlong b (axisOf b) + blockSide (b .universe) (suc (b .level)) (axisOf b) in
+    record { universe = b .universe; level = suc (b .level); low = set (b .low) (axisOf b) middle }
 
 -- the blocks that halving the first block gives, itself among them
 pub data Given : Block → Type 0 where
@@ -47,7 +49,10 @@ placedAlong b i =
 
 -- whether a block is given: `given-is` of proofs/Blocks.antt shows this test equal to `Given`
 unfoldable pub isGiven : Block → Bool
-isGiven b = eqb (universeRefusal (b .universe)) 0 && leb (b .level) (levels (b .universe)) && every mostAxes (placedAlong b)
+isGiven b =
+    eqb (universeRefusal (b .universe)) 0
+    && leb (b .level) (levels (b .universe))
+    && every mostAxes (placedAlong b)
 
 -- "A block at level L, or one that no halving of the first block gives, yields itself."
 unfoldable pub lowHalf : Block → Block

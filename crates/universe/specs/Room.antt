@@ -1,5 +1,5 @@
 -- Document 01, "Expressions": room, for N halfspace words in all trees of the run.
-use Prim.Native.Nat.{ℕ, _+_, _*_, _-_, _^_, _≤_, _<_, min}
+use Prim.Native.Nat.{ℕ, _+_, _*_, _-_, _≤_, _<_, min}
 use mathlib.Core.Bool.{cond}
 use mathlib.Core.List.{List}
 use lib.Dec.{eqb}
@@ -7,7 +7,7 @@ use lib.ListN.{getD}
 use Rattle.lemmas.specs.Sums.{sum, product}
 use Rattle.universe.specs.declared.Universe.{Universe}
 use Rattle.universe.specs.declared.room.RoomAnswer.{RoomAnswer}
-use Rattle.universe.specs.Universe.{mostAxes, mostBits, universeRefusal, levels, blocksAlong}
+use Rattle.universe.specs.Universe.{mostAxes, longestSide, universeRefusal, levels, blocksAlong}
 
 -- "at level l let ni be the blocks along axis i": their number, and that of those that touch no low face
 unfoldable pub blocksAt : Universe → ℕ → ℕ
@@ -31,8 +31,8 @@ roomAnswer u leaves =
     (record { refusal = 0; symbols = room u leaves })
     (record { refusal = universeRefusal u; symbols = 0 })
 
--- what the code asks where it multiplies: few axes, and along each of them some blocks, no more than the longest side has units
+-- what the code asks where it multiplies: few axes, and along each some blocks, no more than the longest side has units
 pub record FewBlocks (axes : ℕ) (blocks : List ℕ) : Type 0 where
   pub few : axes ≤ mostAxes
   pub some : (i : ℕ) → i < axes → 0 < getD blocks i 0
-  pub most : (i : ℕ) → i < axes → getD blocks i 0 ≤ 2 ^ mostBits
+  pub most : (i : ℕ) → i < axes → getD blocks i 0 ≤ longestSide

@@ -7,7 +7,7 @@ use lib.ListN.{getD}
 use Rattle.lemmas.specs.Sums.{every}
 use Rattle.universe.specs.declared.Universe.{Universe}
 use Rattle.universe.specs.declared.Block.{Block}
-use Rattle.universe.specs.Refusals.{unless}
+use Rattle.universe.specs.Refusals.{unless, outside}
 use Rattle.universe.specs.Universe.{mostAxes, levels, axisAt, sideAlong, frameCount, blockSide}
 use Rattle.universe.specs.Block.{lowAlong, lengthAlong}
 
@@ -17,11 +17,14 @@ placeAlong v i = getD v i 0
 
 -- number 9 where a voxel is outside the universe or has a nonzero place above d
 unfoldable pub voxelRefusal : Universe → List ℕ → ℕ
-voxelRefusal u v = unless (every mostAxes (λ i. cond (ltb i (u .axes)) (ltb (placeAlong v i) (sideAlong u i)) (eqb (placeAlong v i) 0))) 9
+voxelRefusal u v =
+    unless
+    (every mostAxes (λ i. cond (ltb i (u .axes)) (ltb (placeAlong v i) (sideAlong u i)) (eqb (placeAlong v i) 0)))
+    outside
 
 -- number 9 where a window is outside the universe, or first > last; both ends are in
 unfoldable pub windowRefusal : Universe → ℕ → ℕ → ℕ
-windowRefusal u first last = unless (leb first last && ltb last (frameCount u)) 9
+windowRefusal u first last = unless (leb first last && ltb last (frameCount u)) outside
 
 -- the voxel v lies in the block b
 pub record Within (b : Block) (v : List ℕ) : Type 0 where

@@ -1,4 +1,6 @@
 // The universe of space and time, and its blocks.
+mod order;
+pub mod refusals;
 mod room;
 
 pub use room::RoomAnswer;
@@ -6,9 +8,9 @@ ghost use mathlib.Core.Path.{_≡_};
 ghost use mathlib.Core.Bool.{_&&_};
 ghost use Prim.Native.Nat.{_≤_, _<_};
 ghost use lib.Dec.{ltb};
-ghost use Rattle.universe.specs.Universe.{universeRefusal, mostAxes, levels, axisAt, blockSide};
+ghost use Rattle.universe.specs.Universe.{universeRefusal, mostAxes, levels, blockSide};
 ghost use Rattle.universe.specs.Voxel.{windowRefusal};
-ghost use Rattle.universe.specs.Block.{wholeBlock, placedAlong, isGiven, lowHalf, highHalf, bothHalves};
+ghost use Rattle.universe.specs.Block.{wholeBlock, axisOf, placedAlong, isGiven, lowHalf, highHalf, bothHalves};
 
 // Axes and bits, any numbers: `refusal` says whether they are a universe's.
 pub struct Universe {
@@ -38,6 +40,11 @@ impl Universe {
     // Bits k: 0 to 10.
     pub const MOST_BITS: u64 = 10;
 
+    // So no universe has more levels, and none a longer side.
+    pub const MOST_LEVELS: u64 = Universe::MOST_AXES * Universe::MOST_BITS;
+
+    pub const LONGEST_SIDE: u64 = 1 << Universe::MOST_BITS;
+
     // The size of a0 at the most, and that of the other coefficients.
     pub const OFFSET_LIMIT: i64 = 1_099_511_627_776;
 
@@ -48,13 +55,13 @@ impl Universe {
         ensures { λ r. ⌜ r ≡ universeRefusal self ⌝ }
     {
         if self.axes < Universe::LEAST_AXES {
-            return 2;
+            return refusals::BAD_UNIVERSE;
         }
         if Universe::MOST_AXES < self.axes {
-            return 2;
+            return refusals::BAD_UNIVERSE;
         }
         if Universe::MOST_BITS < self.bits {
-            return 2;
+            return refusals::BAD_UNIVERSE;
         }
         0
     }
@@ -63,9 +70,9 @@ impl Universe {
     pub fn window_refusal(self, first: u64, last: u64) -> u64
         ensures { λ r. ⌜ r ≡ windowRefusal self first last ⌝ }
     {
-        let bits = self.bits;
+        let bits = self.frame_bits();
         if last < first {
-            return 9;
+            return refusals::OUTSIDE;
         }
         if 63 < bits {
             return 0;
@@ -76,31 +83,24 @@ impl Universe {
         9
     }
 
-    // The levels of halving.
-    fn levels(self) -> u64
-        requires { ⌜ universeRefusal self ≡ 0 ⌝ }
-        ensures { λ r. ⌜ r ≡ levels self ⌝ }
-    {
-        self.axes * self.bits
-    }
-
-    // The axis across which a block of a level is halved.
-    fn axis_at(self, level: u64) -> u64
-        requires { ⌜ universeRefusal self ≡ 0 ⌝ }
-        ensures { λ r. ⌜ r ≡ axisAt self level ⌝ }
-    {
-        level % self.axes
-    }
-
-    // The length of a block of a level along an axis: the bits that its halvings leave.
+    // The length of a block of a level along an axis: twice as long for each halving of the axis that is still to come.
     fn block_side(self, level: u64, axis: u64) -> u64
         requires { ⌜ universeRefusal self ≡ 0 ⌝ }
         requires { ⌜ level ≤ levels self ⌝ }
         requires { ⌜ axis < self .axes ⌝ }
         ensures { λ r. ⌜ r ≡ blockSide self level axis ⌝ }
     {
-        let halvings = (level + (self.axes - 1 - axis)) / self.axes;
-        1u64 << (self.bits - halvings)
+        let axes = self.axes_left();
+        let left = self.levels() - level;
+        let mut side: u64 = 1;
+        let mut n: u64 = 0;
+        while n < left {
+            if axes[n as usize] == axis as usize {
+                side *= 2;
+            }
+            n += 1;
+        }
+        side
     }
 
     // The block of a whole universe.
@@ -116,7 +116,7 @@ impl Universe {
 }
 
 impl Block {
-    // Whether a block begins at a multiple of its length inside the universe along an axis, and at 0 above the universe's axes.
+    // Whether along an axis a block begins at a multiple of its length inside the universe; at 0 above its axes.
     fn is_placed(self, axis: u64) -> bool
         requires { ⌜ universeRefusal (self .universe) ≡ 0 ⌝ }
         requires { ⌜ self .level ≤ levels (self .universe) ⌝ }
@@ -174,15 +174,25 @@ impl Block {
         half
     }
 
-    // The high half: half the block's length further along the axis, one level on. A block with no halves of its own yields itself.
+    // The axis across which a block that has halves of its own is halved.
+    fn axis(self) -> usize
+        requires { ⌜ universeRefusal (self .universe) ≡ 0 ⌝ }
+        requires { ⌜ self .level < levels (self .universe) ⌝ }
+        ensures { λ r. ⌜ r ≡ axisOf self ⌝ }
+    {
+        let axes = self.universe.axes_left();
+        axes[(self.universe.levels() - 1 - self.level) as usize]
+    }
+
+    // The high half: half the block's length further along the axis, one level on. A block with no halves of its own
+    // yields itself.
     pub fn high_half(self) -> Block
         ensures { λ r. ⌜ r ≡ highHalf self ⌝ }
     {
         let mut half = self;
         if self.is_halved() {
-            let axis = self.universe.axis_at(self.level);
-            half.low[axis as usize] = self.low[axis as usize]
-                + self.universe.block_side(self.level + 1, axis);
+            let axis = self.axis();
+            half.low[axis] = self.low[axis] + self.universe.block_side(self.level + 1, axis as u64);
             half.level = self.level + 1;
         }
         half

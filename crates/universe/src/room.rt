@@ -14,7 +14,7 @@ pub struct RoomAnswer {
 }
 
 // The product over the axes of the blocks along each, less 0 or 1.
-fn product_less(axes: usize, blocks: [u64; 4], less: u64) -> u64
+fn product_less(axes: usize, blocks: [u64; Universe::MOST_AXES as usize], less: u64) -> u64
     requires { ⌜ FewBlocks axes blocks ⌝ }
     requires { ⌜ less ≤ 1 ⌝ }
     ensures { λ r. ⌜ r ≡ product axes (λ i. getD blocks i 0 - less) ⌝ }
@@ -28,7 +28,8 @@ fn product_less(axes: usize, blocks: [u64; 4], less: u64) -> u64
     found
 }
 
-// The smaller of all blocks of a level and of the leaves times the blocks that are not inner ones. Their product is not formed where it exceeds all.
+// The smaller of all blocks of a level and of the leaves times the blocks that are not inner ones. Their product is not
+// formed where it exceeds all.
 fn level_count(leaves: u64, all: u64, inner: u64) -> u64
     requires { ⌜ inner < all ⌝ }
     ensures { λ r. ⌜ r ≡ min all (leaves * (all - inner)) ⌝ }
@@ -45,15 +46,16 @@ fn room_accepted(universe: Universe, leaves: u64) -> u64
     requires { ⌜ universeRefusal universe ≡ 0 ⌝ }
     ensures { λ r. ⌜ r ≡ room universe leaves ⌝ }
 {
-    let mut blocks = [1u64; 4];
+    let axes = universe.axes_left();
+    let mut blocks = [1u64; Universe::MOST_AXES as usize];
     let mut sum: u64 = 0;
-    let mut level: u64 = 0;
-    while level < universe.axes * universe.bits {
+    let mut left = universe.levels() as usize;
+    while 0 < left {
         let all = product_less(universe.axes as usize, blocks, 0);
         let inner = product_less(universe.axes as usize, blocks, 1);
         sum += level_count(leaves, all, inner);
-        blocks[(level % universe.axes) as usize] *= 2;
-        level += 1;
+        left -= 1;
+        blocks[axes[left]] *= 2;
     }
     1 + 2 * sum
 }

@@ -6,21 +6,23 @@ use native.Mathlib.Omega.{arith}
 use borrow.Author.Needs.{needs}
 use borrow.Author.Tests.{not-true, not-false}
 use lib.ListN.{length}
-use Rattle.csg.proofs.Words.{Counting, too-long, counting-start, counting-few, counting-join, counting-unknown, counting-full, counting-push, counting-one, counting-not-one}
+use Rattle.csg.proofs.Words.{too-long}
+use Rattle.csg.proofs.Checking.{Counting, counting-start, counting-few, counting-join}
+use Rattle.csg.proofs.Checking.{counting-unknown, counting-full, counting-push, counting-one, counting-not-one}
 use Rattle.csg.proofs.check_tree.Statement.{statement}
 use Rattle.csg.proofs.check_tree.Tie as tie
 
 abbrev Inv-loop : tie.InvT-loop
-Inv-loop rows words pending₀ i₀ pending i = Counting rows words pending i
+Inv-loop rows words pending₀ i₀ pending i = Counting (record { halfspaces = rows }) words pending i
 
 abbrev μ-loop : tie.MeasureT-loop
 μ-loop rows words pending₀ i₀ pending i = length words - i
 
 returns : tie.Need-returns Inv-loop μ-loop
-returns c = let a = c .before .before .args in sym (too-long (a .rows) (a .words .now) (omega arith))
+returns c = let a = c .before .before .args in sym (too-long (record { halfspaces = a .rows }) (a .words .now) (omega arith))
 
 loop-holds : tie.Need-loop-holds Inv-loop μ-loop
-loop-holds c = let a = c .before .before .args in counting-start (a .rows) (a .words .now) (omega arith)
+loop-holds c = let a = c .before .before .args in counting-start (record { halfspaces = a .rows }) (a .words .now) (omega arith)
 
 mul-word : tie.Need-mul-word Inv-loop μ-loop
 mul-word c = search needs
@@ -48,14 +50,16 @@ returns-3 c =
     let g = c .before in
     let k = g .before .before in
     let l = k .before .before in
-    sym (counting-unknown (l .before .loop .inv) (l .loop-test .taken) (sym (k .is-operator .ensures) ∙ g .before .if2 .left) (sym (g .is-leaf .ensures) ∙ not-true _ (c .if4 .taken)))
+    let o = sym (k .is-operator .ensures) ∙ g .before .if2 .left in
+    sym (counting-unknown (l .before .loop .inv) (l .loop-test .taken) o (sym (g .is-leaf .ensures) ∙ not-true _ (c .if4 .taken)))
 
 returns-4 : tie.Need-returns-4 Inv-loop μ-loop
 returns-4 c =
     let g = c .before .before in
     let k = g .before .before in
     let l = k .before .before in
-    sym (counting-full (l .before .loop .inv) (l .loop-test .taken) (sym (k .is-operator .ensures) ∙ g .before .if2 .left) (sym (g .is-leaf .ensures) ∙ not-false _ (c .before .if4 .left)) (omega arith))
+    let o = sym (k .is-operator .ensures) ∙ g .before .if2 .left in
+    sym (counting-full (l .before .loop .inv) (l .loop-test .taken) o (sym (g .is-leaf .ensures) ∙ not-false _ (c .before .if4 .left)) (omega arith))
 
 add-pending : tie.Need-add-pending Inv-loop μ-loop
 add-pending c = search needs
@@ -71,9 +75,11 @@ loop-again c =
     let k = c .before in
     let l = k .before .before in
     let o = sym (k .is-operator .ensures) in
+    let m = l .before .loop .inv in
+    let h = l .loop-test .taken in
     ⊎-elim
-    (λ w. rw (w .2) (counting-join (l .before .loop .inv) (l .loop-test .taken) (o ∙ w .0 .taken) (omega arith)))
-    (λ w. rw (w .4) (counting-push (l .before .loop .inv) (l .loop-test .taken) (o ∙ w .0 .left) (sym (w .1 .ensures) ∙ not-false _ (w .2 .left)) (omega arith)))
+    (λ w. rw (w .2) (counting-join m h (o ∙ w .0 .taken) (omega arith)))
+    (λ w. rw (w .4) (counting-push m h (o ∙ w .0 .left) (sym (w .1 .ensures) ∙ not-false _ (w .2 .left)) (omega arith)))
     (c .if2 .came)
 
 returns-5 : tie.Need-returns-5 Inv-loop μ-loop

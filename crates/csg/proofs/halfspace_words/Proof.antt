@@ -4,18 +4,18 @@ use mathlib.Core.Path.{sym, _∙_}
 use mathlib.Core.Logic.{⊎-elim}
 use borrow.Author.Needs.{needs}
 use lib.ListN.{length}
-use Rattle.csg.proofs.Words.{Named, named-start, named-more, named-same, named-end}
+use Rattle.csg.proofs.Checking.{NamesSofar, names-start, names-more, names-same, names-end}
 use Rattle.csg.proofs.halfspace_words.Statement.{statement}
 use Rattle.csg.proofs.halfspace_words.Tie as tie
 
 abbrev Inv-loop : tie.InvT-loop
-Inv-loop words count₀ i₀ count i = Named words count i
+Inv-loop words count₀ i₀ count i = NamesSofar words count i
 
 abbrev μ-loop : tie.MeasureT-loop
 μ-loop words count₀ i₀ count i = length words - i
 
 loop-holds : tie.Need-loop-holds Inv-loop μ-loop
-loop-holds c = named-start _
+loop-holds c = names-start _
 
 mul-names-halfspace : tie.Need-mul-names-halfspace Inv-loop μ-loop
 mul-names-halfspace c = search needs
@@ -40,10 +40,10 @@ loop-again c =
     let f = sym (c .before .names-halfspace .ensures) in
     let l = c .before .before .before .before .loop in
     let h = c .before .before .before .loop-test .taken in
-    ⊎-elim (λ w. rw (w .1) (named-more (l .inv) h (f ∙ w .0 .taken))) (λ w. rw (w .1) (named-same (l .inv) h (f ∙ w .0 .left))) (c .if1 .came)
+    ⊎-elim (λ w. rw (w .1) (names-more (l .inv) h (f ∙ w .0 .taken))) (λ w. rw (w .1) (names-same (l .inv) h (f ∙ w .0 .left))) (c .if1 .came)
 
 returns : tie.Need-returns Inv-loop μ-loop
-returns c = named-end (c .before .loop .inv) (c .loop-test .left)
+returns c = names-end (c .before .loop .inv) (c .loop-test .left)
 
 pub halfspace-words-spec : {M : Type 1} → statement M
 halfspace-words-spec =

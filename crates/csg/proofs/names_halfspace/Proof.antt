@@ -1,7 +1,7 @@
 -- `names_halfspace` gives namesHalfspace: w − 256 < 256 exactly where w < 512.
 use borrow.Author.Needs.{needs}
 use borrow.Author.Tests.{lt-leb, le-leb}
-use Rattle.csg.proofs.Words.{below-shifted}
+use Rattle.csg.proofs.Checking.{below-shifted}
 use Rattle.csg.proofs.names_halfspace.Statement.{statement}
 use Rattle.csg.proofs.names_halfspace.Tie as tie
 

@@ -27,7 +27,10 @@ offset-within-requires : tie.Need-offset-within-requires Inv-loop μ-loop
 offset-within-requires c κs = search needs
 
 returns : tie.Need-returns Inv-loop μ-loop
-returns c = let a = c .before .before .before .args in sym (row-offset-off _ (a .rows .now) (a .row) (c .before .before .offset-within-arg .given) (c .before .offset-within .ensures) (not-true _ (c .if1 .taken)))
+returns c =
+    let a = c .before .before .before .args in
+    let k = c .before in
+    sym (row-offset-off _ (a .rows .now) (a .row) (k .before .offset-within-arg .given) (k .offset-within .ensures) (not-true _ (c .if1 .taken)))
 
 loop-holds : tie.Need-loop-holds Inv-loop μ-loop
 loop-holds c = row-start _ _ _ (c .before .before .offset-within-arg .given) (c .before .offset-within .ensures) (not-false _ (c .if1 .left))
@@ -52,7 +55,8 @@ returns-2 : tie.Need-returns-2 Inv-loop μ-loop
 returns-2 c =
     let k = c .before in
     let l = k .before .before in
-    sym (row-off (l .before .loop .inv) (l .loop-test .taken) (k .before .coefficient-within-arg .given) (k .coefficient-within .ensures) (not-true _ (c .if2 .taken)))
+    let g = k .before .coefficient-within-arg .given in
+    sym (row-off (l .before .loop .inv) (l .loop-test .taken) g (k .coefficient-within .ensures) (not-true _ (c .if2 .taken)))
 
 add-axis : tie.Need-add-axis Inv-loop μ-loop
 add-axis c = search needs
@@ -64,7 +68,8 @@ loop-again : tie.Need-loop-again Inv-loop μ-loop
 loop-again c =
     let k = c .before in
     let l = k .before .before in
-    row-next (l .before .loop .inv) (l .loop-test .taken) (k .before .coefficient-within-arg .given) (k .coefficient-within .ensures) (not-false _ (c .if2 .left))
+    let g = k .before .coefficient-within-arg .given in
+    row-next (l .before .loop .inv) (l .loop-test .taken) g (k .coefficient-within .ensures) (not-false _ (c .if2 .left))
 
 returns-3 : tie.Need-returns-3 Inv-loop μ-loop
 returns-3 c = sym (row-end (c .before .loop .inv) (c .loop-test .left))

@@ -1,4 +1,4 @@
--- `refusal` meets its contract: 0 or 10 by what is held of the Box or the Cut.
+-- `refusal` meets its contract: 0 or the number by what is held of the Box or the Cut.
 use Rattle.standin.proofs.Rows.{proxy-laws}
 use Rattle.standin.proofs.refusal.Statement.{statement}
 use Rattle.standin.proofs.refusal.Tie as tie

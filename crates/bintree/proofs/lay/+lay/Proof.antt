@@ -8,7 +8,7 @@ use Rattle.bintree.proofs.lay.lay.Reads as lay
 use Rattle.bintree.proofs.lay.lay.Kinds as lay-kinds
 use Rattle.bintree.proofs.lay.+lay.Lts-lay as lay-lts
 use Rattle.bintree.proofs.lay.is_alike.Reads as is-alike-reads
-use Rattle.bintree.proofs.lay.open.Reads as open-reads
+use Rattle.bintree.proofs.lay.join_halves.Reads as join-halves-reads
 use Rattle.bintree.proofs.lay.+lay.{statement}
 use Rattle.bintree.proofs.lay.+lay.Tie.{close}
 
@@ -27,8 +27,8 @@ pub +lay-spec : {M : Type 1} → statement M
   lay.Post,
   is-alike-reads.Asked,
   is-alike-reads.Learnt,
-  open-reads.Asked,
-  open-reads.Learnt,
+  join-halves-reads.Asked,
+  join-halves-reads.Learnt,
 )
     (lay-at t)
     lay.Post

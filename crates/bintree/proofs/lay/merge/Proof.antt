@@ -1,10 +1,14 @@
 -- `merge` gives mergeAnswer and leaves mergeBuffer: laying into no room measures, laying into `out` writes, and a merged tree that is one leaf is noted
--- last. Each answer is a law of proofs/Lays.antt.
-use Rattle.bintree.proofs.Lays.{merge-laws}
+-- last. Each answer is a law of proofs/Merges.antt.
+use Rattle.bintree.proofs.Merges.{merge-laws}
 use Rattle.bintree.proofs.lay.merge.Statement.{statement}
 use Rattle.bintree.proofs.lay.merge.Tie as tie
+use Rattle.bintree.proofs.Written.done.Reads as done-reads
+use Rattle.bintree.proofs.Written.refused.Reads as refused-reads
+use Rattle.bintree.proofs.Written.short.Reads as short-reads
 use Rattle.bintree.proofs.lay.lay.Reads as lay-reads
 use Rattle.bintree.proofs.lay.note.Reads as note-reads
+use Rattle.universe.proofs.Universe.levels.Reads as levels-reads
 use Rattle.universe.proofs.Universe.refusal.Reads as refusal-reads
 
 pub merge-spec : {M : Type 1} → statement M
@@ -12,15 +16,20 @@ merge-spec =
     tie.close
     (tie.spec
     (λ c κs. search merge-laws)
-    (λ c. search merge-laws)
-    (λ c. search merge-laws)
+    (λ c κs. search merge-laws)
     (λ c. search merge-laws)
     (λ c κs. search merge-laws)
     (λ c. search merge-laws)
+    (λ c κs. search merge-laws)
+    (λ c. search merge-laws)
+    (λ c κs. search merge-laws)
     (λ c. search merge-laws)
     (λ c κs. search merge-laws)
     (λ c κs. search merge-laws)
+    (λ c κs. search merge-laws)
+    (λ c κs. search merge-laws)
     (λ c. search merge-laws)
+    (λ c κs. search merge-laws)
     (λ c. search merge-laws)
     (λ c. search merge-laws)
     (λ c. search merge-laws)

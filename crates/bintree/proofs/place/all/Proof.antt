@@ -5,4 +5,6 @@ use Rattle.bintree.proofs.place.all.Tie as tie
 use Rattle.bintree.proofs.count.walk.Reads as walk-reads
 
 pub all-spec : {M : Type 1} → statement M
-all-spec = tie.close (tie.spec (λ c κs. search all-laws) (λ c. search all-laws) (λ c. search all-laws) (λ c. search all-laws) (λ c. search all-laws) (λ c. search all-laws))
+all-spec =
+    tie.close
+    (tie.spec (λ c κs. search all-laws) (λ c. search all-laws) (λ c. search all-laws) (λ c. search all-laws) (λ c. search all-laws) (λ c. search all-laws))

@@ -3,8 +3,10 @@
 use Rattle.bintree.proofs.Places.{place-laws}
 use Rattle.bintree.proofs.place.part_place.Statement.{statement}
 use Rattle.bintree.proofs.place.part_place.Tie as tie
-use Rattle.bintree.proofs.place.judged.Reads as judged-reads
+use Rattle.bintree.proofs.Placed.refused.Reads as refused-reads
+use Rattle.bintree.proofs.place.path_answer.Reads as path-answer-reads
 use Rattle.bintree.proofs.place.trace.Reads as trace-reads
+use Rattle.universe.proofs.Universe.levels.Reads as levels-reads
 use Rattle.universe.proofs.Universe.refusal.Reads as refusal-reads
 
 pub part-place-spec : {M : Type 1} → statement M
@@ -12,12 +14,15 @@ part-place-spec =
     tie.close
     (tie.spec
     (λ c κs. search place-laws)
-    (λ c. search place-laws)
-    (λ c. search place-laws)
     (λ c κs. search place-laws)
     (λ c. search place-laws)
     (λ c κs. search place-laws)
+    (λ c κs. search place-laws)
     (λ c. search place-laws)
+    (λ c κs. search place-laws)
+    (λ c κs. search place-laws)
+    (λ c. search place-laws)
+    (λ c κs. search place-laws)
     (λ c. search place-laws)
     (λ c. search place-laws)
     (λ c. search place-laws))

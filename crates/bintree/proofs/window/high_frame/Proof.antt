@@ -1,5 +1,5 @@
--- `high_frame` gives the first frame of a high half: with so few frames the shifts are powers of 2. Each answer is a law of proofs/Sweeps.antt.
-use Rattle.bintree.proofs.Sweeps.{high-laws}
+-- `high_frame` gives the first frame of a high half: with so few frames the shifts are powers of 2. Each answer is a law of proofs/Watches.antt.
+use Rattle.bintree.proofs.Watches.{high-laws}
 use Rattle.bintree.proofs.window.high_frame.Statement.{statement}
 use Rattle.bintree.proofs.window.high_frame.Tie as tie
 

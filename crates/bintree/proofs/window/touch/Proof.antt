@@ -1,6 +1,6 @@
 -- `touch` gives touched: the ends of the block's frames in the window, and nothing joined where they pass each other. Each answer is a law of
--- proofs/Sweeps.antt.
-use Rattle.bintree.proofs.Sweeps.{touch-laws}
+-- proofs/Watches.antt.
+use Rattle.bintree.proofs.Watches.{touch-laws}
 use Rattle.bintree.proofs.window.touch.Statement.{statement}
 use Rattle.bintree.proofs.window.touch.Tie as tie
 use Rattle.bintree.proofs.window.greater.Reads as greater-reads

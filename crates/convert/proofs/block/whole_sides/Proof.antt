@@ -1,15 +1,13 @@
--- `whole_sides` are 2^bits along each axis: bits are at most 10, so that the shift loses nothing.
-use native.Mathlib.Omega.{arith}
-use Rattle.universe.proofs.Universes.{accepted}
-use Rattle.lemmas.proofs.Machine.{shifted-one}
+-- `whole_sides` asks the universe for the side of each axis.
+use borrow.Author.Needs.{needs}
+use Rattle.lemmas.specs.Grid.{listed}
 use Rattle.convert.proofs.block.whole_sides.Statement.{statement}
 use Rattle.convert.proofs.block.whole_sides.Tie as tie
 
-shl-result : tie.Need-shl-result
-shl-result c = omega (arith, accepted (c .args .universe) (c .pre) .few-bits)
-
 returns : tie.Need-returns
-returns c = rw (shifted-one (c .args .universe .bits) (omega (arith, accepted (c .args .universe) (c .pre) .few-bits)))
+unfolding listed
+returns c = rw (c .before .before .before .side .ensures, c .before .before .side2 .ensures, c .before .side3 .ensures, c .side4 .ensures)
 
 pub whole-sides-spec : {M : Type 1} → statement M
-whole-sides-spec = tie.close (tie.spec shl-result returns)
+whole-sides-spec =
+    tie.close (tie.spec (λ c κs. search needs) (λ c κs. search needs) (λ c κs. search needs) (λ c κs. search needs) returns)

@@ -6,15 +6,16 @@ use mathlib.Core.Logic.{⊎-elim}
 use native.Mathlib.Omega.{arith}
 use borrow.Author.Needs.{needs}
 use lib.ListN.{length}
-use Rattle.csg.specs.Halfspace.{rowCount}
-use Rattle.csg.proofs.Evaluation.{Evaluating, evaluating-start, evaluating-leaf, evaluating-room, evaluating-push, evaluating-two, evaluating-join, evaluating-end}
+use Rattle.csg.specs.Surfaces.{surfacesOf, named}
+use Rattle.csg.proofs.Evaluation.{Evaluating, evaluating-start, evaluating-leaf, evaluating-room, evaluating-push, evaluating-two, evaluating-join}
+use Rattle.csg.proofs.Evaluation.{evaluating-end}
 use Rattle.convert.specs.Codes.{codeOfLeaf, codeOfTree, joinCode}
 use Rattle.convert.proofs.judge.code_of_tree.Statement.{statement}
 use Rattle.convert.proofs.judge.code_of_tree.Tie as tie
 
 abbrev Inv-loop : tie.InvT-loop
 Inv-loop axes rows words low side centre pending₀ top₀ n₀ i₀ pending top n i =
-    Evaluating (codeOfLeaf axes rows low side centre) joinCode (rowCount rows) words 0 pending top n i
+    Evaluating (codeOfLeaf axes (surfacesOf rows) low side centre) joinCode (named (surfacesOf rows)) words 0 pending top n i
 
 abbrev μ-loop : tie.MeasureT-loop
 μ-loop axes rows words low side centre pending₀ top₀ n₀ i₀ pending top n i = length words - i
@@ -53,7 +54,10 @@ array-write-pending c =
 code-of-word-requires : tie.Need-code-of-word-requires Inv-loop μ-loop
 code-of-word-requires c κs =
     let k = c .before in
-    (k .before .before .before .before .before .pre .0, evaluating-leaf (k .before .before .before .loop .inv) (k .before .before .loop-test .taken) (sym (k .is-operator .ensures) ∙ c .if1 .left))
+    let l = k .before .before .before in (
+      l .before .before .pre .0,
+      evaluating-leaf (l .loop .inv) (k .before .before .loop-test .taken) (sym (k .is-operator .ensures) ∙ c .if1 .left),
+    )
 
 add-n : tie.Need-add-n Inv-loop μ-loop
 add-n c = search needs

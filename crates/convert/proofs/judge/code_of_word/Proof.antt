@@ -6,6 +6,7 @@ use native.Mathlib.Omega.{arith}
 use native.Mathlib.Decide.{decLe}
 use borrow.Author.Needs.{needs}
 use borrow.Author.Tests.{eq-eqb, ne-eqb}
+use Rattle.csg.specs.Surfaces.{Named}
 use Rattle.csg.specs.Words.{isLeaf, firstHalfspace}
 use Rattle.csg.proofs.Words.{leaf-row}
 use Rattle.convert.specs.Codes.{codeOfLeaf}
@@ -14,11 +15,11 @@ use Rattle.convert.proofs.judge.code_of_word.Statement.{statement}
 use Rattle.convert.proofs.judge.code_of_word.Tie as tie
 
 -- a leaf's word that names no row and is not WHITE is BLACK
-black-word : (rows w : ℕ) → isLeaf rows w ≡ true → w < firstHalfspace → (w ≡ 0 → ⊥) → w ≡ 1
-black-word rows w l h n = by (decLe 2 w)
+black-word : (names : Named) (w : ℕ) → isLeaf names w ≡ true → w < firstHalfspace → (w ≡ 0 → ⊥) → w ≡ 1
+black-word names w l h n = by (decLe 2 w)
   where
     by : Dec (2 ≤ w) → w ≡ 1
-    by (yes m) = absurd (omega (arith, leaf-row rows w l m .0))
+    by (yes m) = absurd (omega (arith, leaf-row names w l m .0))
     by (no m) = omega arith
 
 cast-code-of-row : tie.Need-cast-code-of-row

@@ -3,31 +3,37 @@ use Rattle.convert.proofs.Judging.{judge-ready, first-white, second-whi
 use Rattle.convert.proofs.judge.judge.Statement.{statement}
 use Rattle.convert.proofs.judge.judge.Tie as tie
 
-code-of-tree-requires : tie.Need-code-of-tree-requires
-code-of-tree-requires c κs = let k = c .before .before .pre in (judge-ready (k .0) (k .1), k .0 .accepted-first)
-
 returns : tie.Need-returns
-returns c = let k = c .before .before .before .before in first-white (k .pre .0) (k .args .left) (k .pre .1) _ (c .before .code-of-tree .ensures) (c .if1 .taken)
-
-code-of-tree-requires-2 : tie.Need-code-of-tree-requires-2
-code-of-tree-requires-2 c κs = let k = c .before .before .before .before .pre in (judge-ready (k .0) (k .1), k .0 .accepted-second)
+returns c =
+    let k = c .before .before .before .before in
+    first-white (k .pre .0) _ (k .pre .1 .0) (k .pre .1 .1) _ (c .before .code-of-tree .ensures) (c .if1 .taken)
 
 returns-2 : tie.Need-returns-2
 returns-2 c =
-    let k = c .before .before .before .before .before .before in
-    second-white (k .pre .0) (k .args .left) (k .pre .1) _ (c .before .before .before .code-of-tree .ensures) _ (c .before .code-of-tree2 .ensures) (c .if2 .taken)
+    let t = c .before .before .before in
+    let k = t .before .before .before in
+    second-white (k .pre .0) _ (k .pre .1 .0) (k .pre .1 .1) _ (t .code-of-tree .ensures) _ (c .before .code-of-tree2 .ensures) (c .if2 .taken)
 
 returns-3 : tie.Need-returns-3
 returns-3 c =
-    let k = c .before .before .before .before .before .before .before in
-    first-black (k .pre .0) (k .args .left) (k .pre .1) _ (c .before .before .before .before .code-of-tree .ensures) _ (c .before .before .code-of-tree2 .ensures) (c .if3 .taken)
+    let t = c .before .before .before .before in
+    let k = t .before .before .before in
+    first-black (k .pre .0) _ (k .pre .1 .0) (k .pre .1 .1) _ (t .code-of-tree .ensures) _ (c .before .before .code-of-tree2 .ensures) (c .if3 .taken)
 
 returns-4 : tie.Need-returns-4
 returns-4 c =
-    let k = c .before .before .before .before .before .before .before in
-    first-open (k .pre .0) (k .args .left) (k .pre .1) _ (c .before .before .before .before .code-of-tree .ensures) _ (c .before .before .code-of-tree2 .ensures) (c .before .before .before .if1 .left) (c .before .if2 .left) (c .if3 .left)
+    let t = c .before .before .before .before in
+    let k = t .before .before .before in
+    first-open (k .pre .0) _ (k .pre .1 .0) (k .pre .1 .1) _ (t .code-of-tree .ensures) _ (c .before .before .code-of-tree2 .ensures)
+    (c .before .before .before .if1 .left) (c .before .if2 .left) (c .if3 .left)
 
 pub judge-spec : {M : Type 1} → statement M
 judge-spec =
     tie.close
-    (tie.spec code-of-tree-requires returns code-of-tree-requires-2 returns-2 returns-3 returns-4)
+    (tie.spec
+    (λ c κs. let k = c .before .before .pre in (judge-ready (k .0) (k .1 .0) (k .1 .1), k .0 .accepted-first))
+    returns
+    (λ c κs. let k = c .before .before .before .before .pre in (judge-ready (k .0) (k .1 .0) (k .1 .1), k .0 .accepted-second))
+    returns-2
+    returns-3
+    returns-4)

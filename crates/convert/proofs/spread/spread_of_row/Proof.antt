@@ -3,6 +3,7 @@ use mathlib.Core.Path.{_≡_}
 use native.Mathlib.Omega.{arith}
 use borrow.Author.Needs.{needs}
 use lib.Dec.{lit<}
+use Rattle.universe.specs.Universe.{mostAxes}
 use Rattle.convert.proofs.Spreads.{offset-fits, starts, asks, one, two, three, four}
 use Rattle.convert.proofs.spread.spread_of_row.Statement.{statement}
 use Rattle.convert.proofs.spread.spread_of_row.Tie as tie
@@ -64,7 +65,8 @@ with-axis-requires-2 c κs =
 returns-2 : tie.Need-returns-2
 returns-2 c =
     let w = c .before in
-    rw (c .if2 .taken) (two (w .before .before .before .before .before .before .before .before .before .before .pre) (w .before .before .before .before .before .with-axis .ensures) (w .with-axis2 .ensures))
+    let v = w .before .before .before .before .before in
+    rw (c .if2 .taken) (two (v .before .before .before .before .before .pre) (v .with-axis .ensures) (w .with-axis2 .ensures))
 
 add-with-axis-3 : tie.Need-add-with-axis-3
 add-with-axis-3 c = search needs
@@ -90,7 +92,9 @@ with-axis-requires-3 c κs =
 returns-3 : tie.Need-returns-3
 returns-3 c =
     let w = c .before in
-    rw (c .if3 .taken) (three (w .before .before .before .before .before .before .before .before .before .before .before .before .before .before .before .pre) (w .before .before .before .before .before .before .before .before .before .before .with-axis .ensures) (w .before .before .before .before .before .with-axis2 .ensures) (w .with-axis3 .ensures))
+    let v = w .before .before .before .before .before in
+    let x = v .before .before .before .before .before in
+    rw (c .if3 .taken) (three (x .before .before .before .before .before .pre) (x .with-axis .ensures) (v .with-axis2 .ensures) (w .with-axis3 .ensures))
 
 add-with-axis-4 : tie.Need-add-with-axis-4
 add-with-axis-4 c = search needs
@@ -110,14 +114,19 @@ element-copy-out-with-axis-8 c = search needs
 with-axis-requires-4 : tie.Need-with-axis-requires-4
 with-axis-requires-4 c κs =
     let w = c .before .before .before .before in
-    let k = w .before .before .before .before .before .before .before .before .before .before .before .before .before .before .before .pre in
-    asks k 3 (lit< tt) (three k (w .before .before .before .before .before .before .before .before .before .before .with-axis .ensures) (w .before .before .before .before .before .with-axis2 .ensures) (w .with-axis3 .ensures))
+    let v = w .before .before .before .before .before in
+    let x = v .before .before .before .before .before in
+    let k = x .before .before .before .before .before .pre in
+    asks k 3 (lit< tt) (three k (x .with-axis .ensures) (v .with-axis2 .ensures) (w .with-axis3 .ensures))
 
 returns-4 : tie.Need-returns-4
 returns-4 c =
-    let k = c .before .before .before .before .before .before .before .before .before .before .before .before .before .before .before .before .before .before .before .before in
-    let e : k .args .axes ≡ 4 = omega (arith, k .pre .some, k .pre .few, c .before .before .before .before .before .before .before .before .before .before .before .before .before .before .if1 .left, c .before .before .before .before .before .before .before .before .before .if2 .left, c .before .before .before .before .if3 .left) in
-    rw e (four (k .pre) (c .before .before .before .before .before .before .before .before .before .before .before .before .before .before .before .with-axis .ensures) (c .before .before .before .before .before .before .before .before .before .before .with-axis2 .ensures) (c .before .before .before .before .before .with-axis3 .ensures) (c .with-axis4 .ensures))
+    let w = c .before .before .before .before in
+    let v = w .before .before .before .before .before in
+    let x = v .before .before .before .before .before in
+    let k = x .before .before .before .before .before .before in
+    let e : k .args .axes ≡ mostAxes = omega (arith, k .pre .some, k .pre .few, x .if1 .left, v .if2 .left, w .if3 .left) in
+    rw e (four (k .pre) (x .before .with-axis .ensures) (v .before .with-axis2 .ensures) (w .before .with-axis3 .ensures) (c .with-axis4 .ensures))
 
 pub spread-of-row-spec : {M : Type 1} → statement M
 spread-of-row-spec =

@@ -4,14 +4,10 @@ use borrow.Author.Needs.{needs}
 use Rattle.files.proofs.decode.byte_at.Statement.{statement}
 use Rattle.files.proofs.decode.byte_at.Tie as tie
 
-shared-slice-read-result : tie.Need-shared-slice-read-result
-shared-slice-read-result c = search needs
-
-cast-result : tie.Need-cast-result
-cast-result c = omega (arith, c .shared-slice-known .given (c .before .args .at))
-
-returns : tie.Need-returns
-returns c = search needs
-
 pub byte-at-spec : {M : Type 1} → statement M
-byte-at-spec = tie.close (tie.spec shared-slice-read-result cast-result returns)
+byte-at-spec =
+    tie.close
+    (tie.spec
+    (λ c. search needs)
+    (λ c. omega (arith, c .shared-slice-known .given (c .before .args .at)))
+    (λ c. search needs))

@@ -1,23 +1,10 @@
--- `header_of` gives shapeHeaderOf: each number is read at its place.
-use borrow.Author.Needs.{needs}
+-- `header_of` gives shapeHeaderOf: each number is read at its place. Each answer is a law of proofs/Shapes.antt.
+use Rattle.files.proofs.Shapes.{shape-laws}
 use Rattle.files.proofs.shape_file.header_of.Statement.{statement}
 use Rattle.files.proofs.shape_file.header_of.Tie as tie
-
-byte-at-requires : tie.Need-byte-at-requires
-byte-at-requires c κs = search needs
-
-byte-at-requires-2 : tie.Need-byte-at-requires-2
-byte-at-requires-2 c κs = search needs
-
-u32-at-requires : tie.Need-u32-at-requires
-u32-at-requires c κs = search needs
-
-cast-t6 : tie.Need-cast-t6
-cast-t6 c = search needs
-
-returns : tie.Need-returns
-returns c = simp (c .u32-at .ensures, c .before .byte-at2 .ensures, c .before .before .byte-at .ensures)
+use Rattle.files.proofs.decode.byte_at.Reads as byte-at-reads
+use Rattle.files.proofs.decode.u32_at.Reads as u32-at-reads
 
 pub header-of-spec : {M : Type 1} → statement M
 header-of-spec =
-    tie.close (tie.spec byte-at-requires byte-at-requires-2 u32-at-requires cast-t6 returns)
+    tie.close (tie.spec (λ c κs. search shape-laws) (λ c κs. search shape-laws) (λ c κs. search shape-laws) (λ c. search shape-laws) (λ c. search shape-laws))

@@ -10,7 +10,7 @@ use lib.ListN.{set}
 use mir.Syntax.{w64}
 use mir.Val.{Fits}
 use Rattle.universe.specs.declared.Block.{Block}
-use Rattle.universe.specs.Universe.{universeRefusal, mostAxes, levels, axisAt, blockSide}
+use Rattle.universe.specs.Universe.{universeRefusal, mostAxes, mostLevels, levels, axisAt, blockSide}
 use Rattle.universe.specs.Block.{lowAlong, axisOf, isGiven, highHalf}
 use Rattle.universe.proofs.Universes.{is-accepted, levels-few, side-few}
 use Rattle.universe.proofs.Blocks.{axis-few, middle, halved-placed, halved-above, halved-is, stays-is}
@@ -28,7 +28,10 @@ module _ (b : Block) {r : Bool} (e : r ≡ (isGiven b && ltb (b .level) (levels 
   taken : universeRefusal (b .universe) ≡ 0
   taken = is-accepted (b .universe) (halved-placed b (sym e ∙ t) .taken)
 
-  level-few : b .level < 40
+  axis-asked : (universeRefusal (b .universe) ≡ 0) × (b .level < levels (b .universe))
+  axis-asked = (taken, halved-above b (sym e ∙ t))
+
+  level-few : b .level < mostLevels
   level-few = omega (arith, levels-few (b .universe) (halved-placed b (sym e ∙ t) .taken), halved-above b (sym e ∙ t))
 
   module _ {x : ℕ} (f : x ≡ axisAt (b .universe) (b .level)) where
@@ -50,55 +53,23 @@ module _ (b : Block) {r : Bool} (e : r ≡ (isGiven b && ltb (b .level) (levels 
       halved : at-level b (b .level + 1) (set (b .low) x (lowAlong b x + s)) ≡ highHalf b
       halved = ap₂ (at-level b) (add-one (b .level)) (ap₂ (set (b .low)) f place) ∙ sym (halved-is b (sym e ∙ t) .1)
 
-is-halved-requires : tie.Need-is-halved-requires
-is-halved-requires c κs = tt
-
-axis-at-requires : tie.Need-axis-at-requires
-axis-at-requires c κs = taken _ (c .before .before .is-halved .ensures) (c .before .if1 .taken)
-
-mul-half : tie.Need-mul-half
-mul-half c = omega (arith, in-array _ (c .before .before .before .is-halved .ensures) (c .before .before .if1 .taken) (c .axis-at .ensures))
-
-element-copy-out-half : tie.Need-element-copy-out-half
-element-copy-out-half c = in-array _ (c .before .before .before .is-halved .ensures) (c .before .before .if1 .taken) (c .axis-at .ensures)
-
-add-block-side : tie.Need-add-block-side
-add-block-side c = omega (arith, level-few _ (c .before .before .before .before .before .is-halved .ensures) (c .before .before .before .before .if1 .taken))
-
-block-side-requires : tie.Need-block-side-requires
-block-side-requires c κs = asked _ (c .before .before .before .before .before .is-halved .ensures) (c .before .before .before .before .if1 .taken) (c .before .before .axis-at .ensures)
-
-add-half : tie.Need-add-half
-add-half c = place-fits _ (c .before .before .before .before .before .before .is-halved .ensures) (c .before .before .before .before .before .if1 .taken) (c .before .before .before .axis-at .ensures) (c .block-side .ensures)
-
-mul-half-2 : tie.Need-mul-half-2
-mul-half-2 c = omega (arith, in-array _ (c .before .before .before .before .before .before .is-halved .ensures) (c .before .before .before .before .before .if1 .taken) (c .before .before .before .axis-at .ensures))
-
-element-write-half : tie.Need-element-write-half
-element-write-half c = in-array _ (c .before .before .before .before .before .before .is-halved .ensures) (c .before .before .before .before .before .if1 .taken) (c .before .before .before .axis-at .ensures)
-
-add-half-2 : tie.Need-add-half-2
-add-half-2 c = omega (arith, level-few _ (c .before .before .before .before .before .before .is-halved .ensures) (c .before .before .before .before .before .if1 .taken))
-
-returns : tie.Need-returns
-returns c = halved _ (c .before .before .before .before .before .before .is-halved .ensures) (c .before .before .before .before .before .if1 .taken) (c .before .before .before .axis-at .ensures) (c .block-side .ensures)
-
-returns-2 : tie.Need-returns-2
-returns-2 c = itself _ (c .before .is-halved .ensures) (c .if1 .left)
-
 pub high-half-spec : {M : Type 1} → statement M
 high-half-spec =
     tie.close
     (tie.spec
-    is-halved-requires
-    axis-at-requires
-    mul-half
-    element-copy-out-half
-    add-block-side
-    block-side-requires
-    add-half
-    mul-half-2
-    element-write-half
-    add-half-2
-    returns
-    returns-2)
+    (λ c κs. tt)
+    (λ c κs. axis-asked _ (c .before .is-halved .ensures) (c .if1 .taken))
+    (λ c. omega (arith, in-array _ (c .before .before .is-halved .ensures) (c .before .if1 .taken) (c .axis .ensures)))
+    (λ c. in-array _ (c .before .before .is-halved .ensures) (c .before .if1 .taken) (c .axis .ensures))
+    (λ c. omega (arith, level-few _ (c .before .before .before .before .is-halved .ensures) (c .before .before .before .if1 .taken)))
+    (λ c κs. let k = c .before .before in asked _ (k .before .before .is-halved .ensures) (k .before .if1 .taken) (k .axis .ensures))
+    (λ c.
+    let k = c .before .before .before in
+    place-fits _ (k .before .before .is-halved .ensures) (k .before .if1 .taken) (k .axis .ensures) (c .block-side .ensures))
+    (λ c. let k = c .before .before .before in omega (arith, in-array _ (k .before .before .is-halved .ensures) (k .before .if1 .taken) (k .axis .ensures)))
+    (λ c. let k = c .before .before .before in in-array _ (k .before .before .is-halved .ensures) (k .before .if1 .taken) (k .axis .ensures))
+    (λ c. let k = c .before .before .before in omega (arith, level-few _ (k .before .before .is-halved .ensures) (k .before .if1 .taken)))
+    (λ c.
+    let k = c .before .before .before in
+    halved _ (k .before .before .is-halved .ensures) (k .before .if1 .taken) (k .axis .ensures) (c .block-side .ensures))
+    (λ c. itself _ (c .before .is-halved .ensures) (c .if1 .left)))

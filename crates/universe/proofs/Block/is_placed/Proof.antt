@@ -19,7 +19,8 @@ module _ (b : Block) (i : ℕ) where
   between : {s : ℕ} → i < b .universe .axes → s ≡ lengthAlong b i → (lowAlong b i % s ≡ 0 → ⊥) → false ≡ placedAlong b i
   between l e n = rw (lt-ltb i (b .universe .axes) l, ← e, ne-eqb _ _ n)
 
-  along : {s t : ℕ} → i < b .universe .axes → s ≡ lengthAlong b i → lowAlong b i % s ≡ 0 → t ≡ blockSide (b .universe) 0 i → ltb (lowAlong b i) t ≡ placedAlong b i
+  along : {s t : ℕ} → i < b .universe .axes → s ≡ lengthAlong b i → lowAlong b i % s ≡ 0 → t ≡ blockSide (b .universe) 0 i
+      → ltb (lowAlong b i) t ≡ placedAlong b i
   along l e m f = rw (lt-ltb i (b .universe .axes) l, ← e, eq-eqb _ _ m, f, side-first (b .universe) i)
 
 mul-low : tie.Need-mul-low
@@ -38,13 +39,18 @@ rem-if2 : tie.Need-rem-if2
 rem-if2 c = rw (c .block-side .ensures) (side-positive _ _ _)
 
 returns-2 : tie.Need-returns-2
-returns-2 c = between (c .before .before .before .before .before .args .t1) _ (c .before .before .before .if1 .left) (c .before .block-side .ensures) (c .if2 .taken)
+returns-2 c =
+    let k = c .before .before .before in
+    between (k .before .before .args .t1) _ (k .if1 .left) (c .before .block-side .ensures) (c .if2 .taken)
 
 block-side-requires-2 : tie.Need-block-side-requires-2
 block-side-requires-2 c κs = search needs
 
 returns-3 : tie.Need-returns-3
-returns-3 c = along (c .before .before .before .before .before .before .before .args .t1) _ (c .before .before .before .before .before .if1 .left) (c .before .before .before .block-side .ensures) (c .before .before .if2 .left) (c .block-side2 .ensures)
+returns-3 c =
+    let k = c .before .before .before in
+    let j = k .before .before in
+    along (j .before .before .args .t1) _ (j .if1 .left) (k .block-side .ensures) (c .before .before .if2 .left) (c .block-side2 .ensures)
 
 pub is-placed-spec : {M : Type 1} → statement M
 is-placed-spec =

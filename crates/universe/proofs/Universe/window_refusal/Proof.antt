@@ -1,41 +1,51 @@
 -- `window_refusal` tests both ends of a window; with 64 bits or more every u64 is a frame.
-use Prim.Native.Nat.{_^_, _<_}
+use Prim.Native.Nat.{ℕ, _*_, _%_, _^_, _≤_, _<_}
+use mathlib.Core.Path.{_≡_, ap, _∙_}
 use native.Mathlib.Omega.{arith}
 use borrow.Author.Needs.{needs}
 use borrow.Author.Tests.{lt-leb, le-leb, lt-ltb, le-ltb}
 use lib.Pow.{pow-mono}
+use mir.Syntax.{w64}
+use mir.Val.{Fits}
 use Rattle.lemmas.proofs.Machine.{shifted-one}
+use Rattle.universe.specs.declared.Universe.{Universe}
+use Rattle.universe.specs.Refusals.{outside}
+use Rattle.universe.specs.Universe.{bitsAlong, frameAxis, frameCount}
 use Rattle.universe.specs.Voxel.{windowRefusal}
 use Rattle.universe.proofs.Universe.window_refusal.Statement.{statement}
 use Rattle.universe.proofs.Universe.window_refusal.Tie as tie
 
-returns : tie.Need-returns
-unfolding windowRefusal
-returns c = simp (lt-leb _ _ (c .if1 .taken))
+module _ (u : Universe) (first last : ℕ) where
+  turned : last < first → outside ≡ windowRefusal u first last
+  unfolding windowRefusal
+  turned h = rw (lt-leb _ _ h)
 
-returns-2 : tie.Need-returns-2
-unfolding windowRefusal
-returns-2 c =
-    let k = c .before .before in
-    let h : k .args .last < 2 ^ k .args .self .bits = omega (arith, pow-mono {i = 64} {j = k .args .self .bits} (omega arith)) in
-    simp (le-leb _ _ (c .before .if1 .left), lt-ltb _ _ h)
+  module _ (k : first ≤ last) {bits : ℕ} (e : bits ≡ bitsAlong u (frameAxis u)) where
+    inside : last < 2 ^ bits → 0 ≡ windowRefusal u first last
+    unfolding windowRefusal
+    inside h = rw (le-leb _ _ k, lt-ltb last (frameCount u) (rw e at h))
 
-shl-if3 : tie.Need-shl-if3
-shl-if3 c = search needs
+    every-frame : Fits w64 last → 63 < bits → 0 ≡ windowRefusal u first last
+    every-frame f h = inside (omega (arith, pow-mono {i = 64} {j = bits} (omega arith)))
 
-returns-3 : tie.Need-returns-3
-unfolding windowRefusal
-returns-3 c =
-    let k = c .before .before .before in
-    let e = shifted-one (k .args .self .bits) (omega arith) in
-    simp (le-leb _ _ (c .before .before .if1 .left), lt-ltb _ _ (rw e at (c .if3 .taken)))
+    before-end : bits ≤ 63 → last < 1 * 2 ^ bits % 18446744073709551616 → 0 ≡ windowRefusal u first last
+    before-end f h = inside (rw (shifted-one bits (omega arith)) at h)
 
-returns-4 : tie.Need-returns-4
-unfolding windowRefusal
-returns-4 c =
-    let k = c .before .before .before in
-    let e = shifted-one (k .args .self .bits) (omega arith) in
-    simp (le-leb _ _ (c .before .before .if1 .left), le-ltb _ _ (rw e at (c .if3 .left)))
+    past-end : bits ≤ 63 → 1 * 2 ^ bits % 18446744073709551616 ≤ last → outside ≡ windowRefusal u first last
+    unfolding windowRefusal
+    past-end f h =
+        let past : 2 ^ bits ≤ last = rw (shifted-one bits (omega arith)) at h in
+        rw (le-leb _ _ k, le-ltb last (frameCount u) (rw e at past))
+
+ruleset telling = (needs, turned, every-frame, before-end, past-end)
 
 pub window-refusal-spec : {M : Type 1} → statement M
-window-refusal-spec = tie.close (tie.spec returns returns-2 shl-if3 returns-3 returns-4)
+window-refusal-spec =
+    tie.close
+    (tie.spec
+    (λ c κs. search telling)
+    (λ c. search telling)
+    (λ c. search telling)
+    (λ c. search telling)
+    (λ c. search telling)
+    (λ c. search telling))

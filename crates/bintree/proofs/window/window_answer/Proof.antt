@@ -1,0 +1,19 @@
+-- `window_answer` gives windowAnswer: 9 where the window is refused, else Clear or Hit by the contact's count.
+use Rattle.bintree.proofs.WindowAnswers.{window-laws}
+use Rattle.bintree.proofs.window.window_answer.Statement.{statement}
+use Rattle.bintree.proofs.window.window_answer.Tie as tie
+use Rattle.bintree.proofs.VerdictAnswer.done.Reads as done-reads
+use Rattle.bintree.proofs.VerdictAnswer.refused.Reads as refused-reads
+use Rattle.universe.proofs.Universe.window_refusal.Reads as window-refusal-reads
+
+pub window-answer-spec : {M : Type 1} → statement M
+window-answer-spec =
+    tie.close
+    (tie.spec
+    (λ c κs. search window-laws)
+    (λ c κs. search window-laws)
+    (λ c. search window-laws)
+    (λ c κs. search window-laws)
+    (λ c. search window-laws)
+    (λ c κs. search window-laws)
+    (λ c. search window-laws))

@@ -1,0 +1,33 @@
+-- `room_of` asks the room question for the halfspace words of both trees, of which there are at most 510.
+use native.Mathlib.Omega.{arith}
+use Rattle.csg.proofs.Words.{halfspace-words-most}
+use Rattle.convert.proofs.Answers.{room-is}
+use borrow.Author.Needs.{needs}
+use Rattle.convert.proofs.scene.room_of.Statement.{statement}
+use Rattle.convert.proofs.scene.room_of.Tie as tie
+
+halfspace-words-requires : tie.Need-halfspace-words-requires
+halfspace-words-requires c κs = search needs
+
+halfspace-words-requires-2 : tie.Need-halfspace-words-requires-2
+halfspace-words-requires-2 c κs = search needs
+
+add-leaves : tie.Need-add-leaves
+add-leaves c =
+    let k = c .before .before .before .before in
+    let f = halfspace-words-most (k .args .first .now) in
+    let s = halfspace-words-most (k .args .second .now) in
+    record { fits = omega (arith, c .before .halfspace-words .ensures, c .halfspace-words2 .ensures, k .pre .first-few, k .pre .second-few, f, s) }
+
+room-requires : tie.Need-room-requires
+room-requires c κs = search needs
+
+returns : tie.Need-returns
+returns c =
+    let k = c .before .before in
+    room-is _ _ _ (k .before .before .before .pre .accepted-universe) (k .halfspace-words .ensures) (c .before .halfspace-words2 .ensures) (c .room .ensures)
+
+pub room-of-spec : {M : Type 1} → statement M
+room-of-spec =
+    tie.close
+    (tie.spec halfspace-words-requires halfspace-words-requires-2 add-leaves room-requires returns)

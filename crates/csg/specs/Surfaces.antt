@@ -1,0 +1,32 @@
+-- What the words of a tree name: the surfaces of a run, all kinds of them in one record. A kind has a field for what
+-- its surfaces are, a field for how many there are, and a constructor for one of them by its index.
+use Prim.Native.Nat.{ℕ, _<_}
+use mathlib.Core.List.{List}
+use lib.IntN.{ℤ}
+use Rattle.csg.specs.Halfspace.{rowCount}
+
+-- the surfaces themselves: the rows of the halfspaces
+pub record Surfaces : Type 0 where
+  pub rows : List ℤ
+
+abbrev pub surfacesOf : List ℤ → Surfaces
+surfacesOf rows = record { rows = rows }
+
+-- how many of each kind there are to name
+pub record Named : Type 0 where
+  pub halfspaces : ℕ
+
+abbrev pub named : Surfaces → Named
+named surfaces = record { halfspaces = rowCount (surfaces .rows) }
+
+-- one of them, by its index among those of its kind
+pub data Surface : Type 0 where
+  halfspace : ℕ → Surface
+
+-- it is one of those that there are
+pub data IsNamed (names : Named) : Surface → Type 0 where
+  halfspace-named : {i : ℕ} → i < names .halfspaces → IsNamed names (halfspace i)
+
+-- what it counts for room, "for N halfspace words in all trees of the run"
+abbrev pub countHalfspace : Surface → ℕ
+countHalfspace (halfspace i) = 1

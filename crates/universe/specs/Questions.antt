@@ -1,0 +1,30 @@
+-- What the universe answers when asked: its levels, the bits and the side of an axis, the axis of each level, the
+-- voxels of a block. Each answers for every number, with 0 where the universe is refused or has no such axis or level.
+use Prim.Native.Nat.{ℕ, suc, _-_, _^_}
+use mathlib.Core.Bool.{Bool, cond, _&&_}
+use mathlib.Core.List.{List}
+use lib.Dec.{ltb, leb, eqb}
+use Rattle.lemmas.specs.Grid.{listed}
+use Rattle.universe.specs.declared.Universe.{Universe}
+use Rattle.universe.specs.Universe.{universeRefusal, mostLevels, bitsAlong, sideAlong, levels, axisAt}
+
+unfoldable pub levelsAnswer : Universe → ℕ
+levelsAnswer u = cond (eqb (universeRefusal u) 0) (levels u) 0
+
+-- an axis of an accepted universe
+abbrev pub hasAxis : Universe → ℕ → Bool
+hasAxis u i = eqb (universeRefusal u) 0 && ltb i (u .axes)
+
+unfoldable pub bitsAnswer : Universe → ℕ → ℕ
+bitsAnswer u i = cond (hasAxis u i) (bitsAlong u i) 0
+
+unfoldable pub sideAnswer : Universe → ℕ → ℕ
+sideAnswer u i = cond (hasAxis u i) (sideAlong u i) 0
+
+-- the axes that the levels halve, the last level first: at place n that of a block with n + 1 levels left
+unfoldable pub axesLeft : Universe → List ℕ
+axesLeft u = listed mostLevels (λ n. cond (ltb n (levelsAnswer u)) (axisAt u (levels u - suc n)) 0)
+
+-- the voxels of a block with so many levels left
+unfoldable pub voxelsLeft : ℕ → ℕ
+voxelsLeft left = cond (leb left mostLevels) (2 ^ left) 0

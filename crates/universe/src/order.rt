@@ -1,0 +1,103 @@
+// The universe's shape, asked: how many levels, how long a side is, the axis of each level, the voxels of a block.
+use crate::Universe;
+ghost use mathlib.Core.Path.{_≡_};
+ghost use Rattle.universe.specs.Universe.{bitsAlong, frameAxis};
+ghost use Rattle.universe.specs.Questions.{levelsAnswer, bitsAnswer, sideAnswer, axesLeft, voxelsLeft};
+
+impl Universe {
+    // The bits of an axis: no other code says how many an axis has.
+    pub(crate) fn axis_bits(self, _axis: u64) -> u64
+        ensures { λ r. ⌜ r ≡ bitsAlong self «_axis» ⌝ }
+    {
+        self.bits
+    }
+
+    // The bits of the frame axis, the last one.
+    pub(crate) fn frame_bits(self) -> u64
+        ensures { λ r. ⌜ r ≡ bitsAlong self (frameAxis self) ⌝ }
+    {
+        if self.axes == 0 {
+            return self.axis_bits(0);
+        }
+        self.axis_bits(self.axes - 1)
+    }
+
+    // How many levels of halving there are; 0 where the universe is refused.
+    pub fn levels(self) -> u64
+        ensures { λ r. ⌜ r ≡ levelsAnswer self ⌝ }
+    {
+        if self.refusal() != 0 {
+            return 0;
+        }
+        let mut levels: u64 = 0;
+        let mut axis: u64 = 0;
+        while axis < self.axes {
+            levels += self.axis_bits(axis);
+            axis += 1;
+        }
+        levels
+    }
+
+    // How many bits an axis has; 0 where the universe is refused or has no such axis.
+    pub fn bits_along(self, axis: u64) -> u64
+        ensures { λ r. ⌜ r ≡ bitsAnswer self axis ⌝ }
+    {
+        if self.refusal() != 0 {
+            return 0;
+        }
+        if self.axes <= axis {
+            return 0;
+        }
+        self.axis_bits(axis)
+    }
+
+    // How long the universe is along an axis; 0 where it is refused or has no such axis.
+    pub fn side(self, axis: u64) -> u64
+        ensures { λ r. ⌜ r ≡ sideAnswer self axis ⌝ }
+    {
+        if self.refusal() != 0 {
+            return 0;
+        }
+        if self.axes <= axis {
+            return 0;
+        }
+        1u64 << self.axis_bits(axis)
+    }
+
+    // The axes that the levels halve, the last level first: at place n that of a block with n + 1 levels left. Past the
+    // levels stand zeros, and nothing else where the universe is refused. Each round goes over the axes with bits left.
+    pub fn axes_left(self) -> [usize; Universe::MOST_LEVELS as usize]
+        ensures { λ r. ⌜ r ≡ axesLeft self ⌝ }
+    {
+        let mut axes = [0usize; Universe::MOST_LEVELS as usize];
+        if self.refusal() != 0 {
+            return axes;
+        }
+        let mut left = self.levels();
+        let mut round: u64 = 0;
+        let mut axis: u64 = 0;
+        while 0 < left {
+            if axis == self.axes {
+                round += 1;
+                axis = 0;
+            } else {
+                if round < self.axis_bits(axis) {
+                    left -= 1;
+                    axes[left as usize] = axis as usize;
+                }
+                axis += 1;
+            }
+        }
+        axes
+    }
+
+    // How many voxels a block with so many levels left has; 0 past the most levels.
+    pub fn voxels_left(left: u64) -> u64
+        ensures { λ r. ⌜ r ≡ voxelsLeft left ⌝ }
+    {
+        if Universe::MOST_LEVELS < left {
+            return 0;
+        }
+        1u64 << left
+    }
+}

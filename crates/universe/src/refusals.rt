@@ -1,0 +1,31 @@
+// The numbers we say no with; 0 is no refusal.
+
+// A file: short of its header, mark, version, zero byte, or length wrong.
+pub const BAD_FILE: u64 = 1;
+
+// Axes or bits outside their range.
+pub const BAD_UNIVERSE: u64 = 2;
+
+// Rows not in fives, too many of them, or a coefficient outside its limit.
+pub const BAD_ROWS: u64 = 3;
+
+// Words that are no tree over the rows.
+pub const BAD_TREE: u64 = 4;
+
+// A tree of too many words, or with too many shapes pending.
+pub const OVERFULL_TREE: u64 = 5;
+
+// More symbols or bytes than the room lent holds.
+pub const NO_ROOM: u64 = 6;
+
+// An expression that is not well-formed.
+pub const BAD_EXPRESSION: u64 = 7;
+
+// A shape file's expression that is not merged.
+pub const NOT_MERGED: u64 = 8;
+
+// A voxel, path or window outside the universe.
+pub const OUTSIDE: u64 = 9;
+
+// A proxy's number that is not taken, or near > far.
+pub const BAD_PROXY: u64 = 10;
