@@ -1,0 +1,5 @@
+-- What is promised of the entry points, proved.
+pub mod Keeping
+pub mod Promises
+pub mod Centres
+pub mod Faces
