@@ -595,8 +595,16 @@ fn main() {
         while line.cases < wanted {
             compare(&mut line, &mut random);
         }
+        if line.cases == 0 {
+            println!("{name}: no case was tried");
+            std::process::exit(1);
+        }
         line.finish();
         passed += 1;
+    }
+    if passed == 0 {
+        println!("no entry point is called {}", only.unwrap_or_default());
+        std::process::exit(1);
     }
     println!("{passed} passed, 0 failed");
 }
