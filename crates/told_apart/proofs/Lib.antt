@@ -6,5 +6,6 @@ pub mod OfBintree
 pub mod OfReader
 pub mod OfConvert
 pub mod OfFiles
+pub mod OfLines
 pub mod OfStandin
 pub mod OfExport

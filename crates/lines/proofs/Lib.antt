@@ -1,0 +1,5 @@
+-- What the crate's proofs share.
+pub mod Decimal
+pub mod Appended
+pub mod Scenes
+pub mod Examples
