@@ -1,6 +1,7 @@
 /* Durbizhan: a clearance checker for animated shots. The face for C.
  *
- * Every function returns the number of its refusal, 0 where it accepts; durbizhan_leaves alone returns a count.
+ * Every function returns the number of its refusal, 0 where it accepts; durbizhan_leaves and durbizhan_lines alone
+ * return a count.
  * READ THE NUMBER FIRST. All other fields of a refused answer are zero: a refused verdict is Clear, a refused colour
  * is WHITE, and neither says anything about the shapes.
  * The numbers have names below, and DURBIZHAN_ is left off where one is named in a comment.
@@ -9,7 +10,7 @@
  * what is written where it is not; `answer`, and the rows of a proxy, are always written, whole. What the caller owes:
  * each pointer is aligned and points to as many elements as are said, no pointer is NULL, that of an empty buffer
  * neither, and what a call writes to overlaps nothing else of that call. No function keeps a pointer or allocates; a
- * conversion or a verdict takes up to 80 KiB of the stack.
+ * conversion or a verdict takes up to 80 KiB of the stack, durbizhan_lines up to 128 KiB.
  *
  * rows: five numbers a0 to a4 to a halfspace, which holds where a0 + a1*x1 + .. + a4*x4 >= 0.
  * words: a tree in postfix order: 0 WHITE, 1 BLACK, 2 UNION, 3 INTERSECTION, 4 MINUS, 256 + i halfspace i.
@@ -127,6 +128,12 @@ uint64_t durbizhan_merge(uint64_t axes, uint64_t bits,
 uint64_t durbizhan_scene(const uint8_t *bytes, size_t bytes_count,
                          int64_t rows[1280], uint16_t first[255], uint16_t second[255],
                          uint64_t answer[7]);
+
+/* The lines that the program prints for a scene file go to the front of out: 256 bytes are lent, no lines have more,
+ * and nothing behind them is written to. Returns how many bytes the lines have; this is a count, no refusal. READ THE
+ * LINE: a refusal is the one line "refused n", or "refused 6 needed n" where over 32,768 symbols are needed. A scene of
+ * over 65,536 bytes is refused BAD_FILE. Each line ends with a newline, and no zero byte follows the last. */
+uint64_t durbizhan_lines(const uint8_t *scene, size_t scene_count, uint8_t out[256]);
 
 /* Reads a shape file; its symbols go to the front of out. answer: axes, bits, length; on NO_ROOM axes and bits are 0
  * and the length is the one needed. */

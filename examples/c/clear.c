@@ -10,6 +10,8 @@
  *   axes 2 bits 2
  *   leaves 4 raw 13 room 31
  *   hit first 1 last 2 voxels 2
+ *
+ * and of a scene file, named behind it, the lines of that one: examples/program.scene has these.
  */
 #include <inttypes.h>
 #include <stdio.h>
@@ -36,8 +38,27 @@ static int refused(uint64_t number)
     return 1;
 }
 
-int main(void)
+/* The lines of a scene file, as the program prints them. A refusal is a line too. */
+static int lines_of(const char *name)
 {
+    static uint8_t scene[65537];
+    uint8_t out[256];
+
+    FILE *file = fopen(name, "rb");
+    size_t count = file == NULL ? 0 : fread(scene, 1, sizeof scene, file);
+    if (file == NULL || ferror(file)) {
+        perror(name);
+        return 1;
+    }
+    fclose(file);
+    fwrite(out, 1, durbizhan_lines(scene, count, out), stdout);
+    return 0;
+}
+
+int main(int count, char **words)
+{
+    if (count > 1) return lines_of(words[1]);
+
     uint8_t out[32];
     uint64_t room[1], verdict[5];
 

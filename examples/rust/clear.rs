@@ -14,8 +14,10 @@
 //! leaves 4 raw 13 room 31
 //! hit first 1 last 2 voxels 2
 //! ```
+//!
+//! and of a scene file, named behind it, the lines of that one: examples/program.scene has these.
 
-/// The safe face: each refusal is an `Err`, so no answer is read before its number.
+/// The safe face: each refusal is an `Err`, so no answer is read before its number; of `lines` it is a line.
 mod durbizhan {
     // A slice goes over as its pointer and its length, an array as its pointer.
     mod face {
@@ -39,6 +41,8 @@ mod durbizhan {
                 out_count: usize,
                 answer: *mut [u64; 5],
             ) -> u64;
+
+            pub fn durbizhan_lines(scene: *const u8, scene_count: usize, out: *mut [u8; 256]) -> u64;
         }
     }
 
@@ -125,6 +129,13 @@ mod durbizhan {
         let verdict = if hit == 0 { Verdict::Clear } else { Verdict::Hit { first, last, voxels } };
         Ok(Clearance { verdict, length: length as usize })
     }
+
+    /// The lines that the program prints for a scene file; a refusal is the one line `refused n`.
+    pub fn lines(scene: &[u8]) -> String {
+        let mut out = [0; 256];
+        let count = unsafe { face::durbizhan_lines(scene.as_ptr(), scene.len(), &mut out) };
+        out[..count as usize].iter().copied().map(char::from).collect()
+    }
 }
 
 use durbizhan::{Refused, Universe, Verdict, Window, NO_ROOM};
@@ -154,10 +165,15 @@ fn judged() -> Result<String, Refused> {
     Ok(format!("axes {axes} bits {bits}\nleaves {leaves} raw {raw} room {room}\n{last}"))
 }
 
-fn main() {
+fn main() -> std::io::Result<()> {
+    if let Some(name) = std::env::args_os().nth(1) {
+        print!("{}", durbizhan::lines(&std::fs::read(name)?));
+        return Ok(());
+    }
     match judged() {
         Ok(lines) => println!("{lines}"),
         Err(Refused { number: number @ NO_ROOM, needed }) => println!("refused {number} needed {needed}"),
         Err(Refused { number, .. }) => println!("refused {number}"),
     }
+    Ok(())
 }

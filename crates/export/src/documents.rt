@@ -1,10 +1,14 @@
-// Scene files are read, shape files are read and written.
+// Scene files are read and put into lines, shape files are read and written.
 use csg::MOST_WORDS;
 use files::MOST_NUMBERS;
+use lines::MOST_BYTES;
 use universe::Universe;
 ghost use mathlib.Core.Path.{_≡_};
+ghost use mathlib.Core.List.{_++_};
+ghost use lib.ListN.{length, drop};
 ghost use Rattle.files.specs.Scenes.{sceneAnswer, rowsAfter, firstWordsAfter, secondWordsAfter};
 ghost use Rattle.files.specs.Shapes.{readAnswer, readBuffer, writeAnswer, writeBuffer};
+ghost use Rattle.lines.specs.Program.{programLines};
 ghost use Rattle.export.specs.Arrays.{universeOf, lengthArray, sceneArray, shapeArray};
 
 // Reads a scene: its rows and the words of its two trees go to the front of the lent arrays.
@@ -36,6 +40,16 @@ pub extern "C" fn durbizhan_scene(
         window.last,
     ];
     scene.refusal
+}
+
+// The lines that the program prints for a scene go to the front of the lent array; returns how many bytes that is.
+#[no_mangle]
+pub extern "C" fn durbizhan_lines(scene: &[u8], out: &mut [u8; MOST_BYTES]) -> u64
+    ensures { λ r. ⌜ r ≡ length (programLines (now (scene .entry))) ⌝ }
+    ensures { λ _. let lines = programLines (now (scene .entry)) in
+        ⌜ now (out .exit) ≡ lines ++ drop (length lines) (now (out .entry)) ⌝ }
+{
+    lines::lines_of(scene, out)
 }
 
 // Reads a shape file: its symbols go to the front of the lent room.

@@ -33,6 +33,9 @@ durbizhan-scene _ _ _ _ _ _ p q =
     let second = same (p .1 .1 .1 .1) (q .1 .1 .1 .1) in
     (same (p .0) (q .0), λ i. (tt, (rows i, (first i, (second i, (answer i, tt))))))
 
+pub durbizhan-lines : TellsApart export.documents.durbizhan_lines.ended export.documents.durbizhan_lines.Reads.Learnt
+durbizhan-lines _ _ _ _ _ _ p q = (same (p .0) (q .0), λ i. behind 1 (same (p .1) (q .1) i, tt))
+
 pub durbizhan-shape-read : TellsApart export.documents.durbizhan_shape_read.ended export.documents.durbizhan_shape_read.Reads.Learnt
 durbizhan-shape-read _ _ _ _ _ _ p q = (same (p .0) (q .0), λ i. behind 1 (same (p .1 .1) (q .1 .1) i, (same (p .1 .0) (q .1 .0) i, tt)))
 

@@ -1,6 +1,6 @@
 //! The C face of the library (crate `export`), and safe wrappers with the parameters of `plain`'s entry points.
 //! A slice is a pointer and a length; an array is a pointer. Each function returns the refusal number, but for
-//! `durbizhan_leaves`, which returns a count.
+//! `durbizhan_leaves` and `durbizhan_lines`, which return a count.
 
 mod c {
     extern "C" {
@@ -47,6 +47,7 @@ mod c {
             bytes: *const u8, bytes_len: usize, rows: *mut i64, first: *mut u16, second: *mut u16,
             answer: *mut u64,
         ) -> u64;
+        pub fn durbizhan_lines(scene: *const u8, scene_len: usize, out: *mut u8) -> u64;
         pub fn durbizhan_shape_read(
             bytes: *const u8, bytes_len: usize, out: *mut u8, out_len: usize, answer: *mut u64,
         ) -> u64;
@@ -171,6 +172,10 @@ pub fn scene(
             answer.as_mut_ptr(),
         )
     }
+}
+
+pub fn lines(scene: &[u8], out: &mut [u8; 256]) -> u64 {
+    unsafe { c::durbizhan_lines(scene.as_ptr(), scene.len(), out.as_mut_ptr()) }
 }
 
 pub fn shape_read(bytes: &[u8], out: &mut [u8], answer: &mut [u64; 3]) -> u64 {

@@ -431,6 +431,33 @@ fn scenes(line: &mut Line, random: &mut Random) {
     line.compare(plain, library, || format!("bytes = {file:?}"));
 }
 
+/// A scene for the program that is not too long to be compared, its lines, and the number that they refuse with.
+fn program_case(random: &mut Random) -> Option<(Vec<u8>, String, u64)> {
+    let file = generate::program_file(random);
+    if let Ok(scene) = plain::scene_checked(&file) {
+        let run = Run::checked(scene.axes, scene.bits, &scene.rows, &[&scene.first, &scene.second]);
+        if run.is_ok_and(|run| run.blocks_within(LONG_BLOCKS[2]).is_none()) {
+            return None;
+        }
+    }
+    let text = plain::clearance(&file);
+    let number = text.strip_prefix("refused ").map_or(ACCEPTED, |rest| {
+        rest.split_whitespace().next().and_then(|number| number.parse().ok()).expect("a number")
+    });
+    Some((file, text, number))
+}
+
+fn lines(line: &mut Line, random: &mut Random) {
+    let Some((file, text, number)) = program_case(random) else { return };
+    let [mut plain, mut library] = [bytes(256), bytes(256)];
+    plain.lent()[..text.len()].copy_from_slice(text.as_bytes());
+    let counts = [text.len() as u64, face::lines(&file, library.array())];
+    let outcome = |count, out: Lent<u8>| {
+        Outcome { number, contents: vec![("count", Contents::Count(count)), ("out", out.into())] }
+    };
+    line.compare(outcome(counts[0], plain), outcome(counts[1], library), || format!("scene = {file:?}"));
+}
+
 fn shape_reads(line: &mut Line, random: &mut Random) {
     let file = generate::shape_file(random);
     let lent = generate::room(random, file.len().saturating_sub(11) as u64);
@@ -517,6 +544,7 @@ const ENTRY_POINTS: &[(&str, u64, &[u64], Compare)] = &[
     ("durbizhan_part", 2000, READING_AT, parts),
     ("durbizhan_merge", 2000, MERGING, |l, r| rewriting(l, r, plain::merge, face::merge)),
     ("durbizhan_scene", 1000, SCENE, scenes),
+    ("durbizhan_lines", 100, PROGRAM, lines),
     ("durbizhan_shape_read", 2000, SHAPE_READ, shape_reads),
     ("durbizhan_shape_write", 2000, SHAPE_WRITE, |l, r| rewriting(l, r, plain::shape_write, face::shape_write)),
     ("durbizhan_box", 2000, &[BAD_PROXY], boxes),
@@ -540,22 +568,12 @@ fn program(command: &str, seed: u64, rounds: u64) {
     let mut random = Random::new(seed);
     let mut line = Line::new("clearance", PROGRAM, seed);
     while line.cases < rounds {
-        let file = generate::program_file(&mut random);
-        if let Ok(scene) = plain::scene_checked(&file) {
-            let run = Run::checked(scene.axes, scene.bits, &scene.rows, &[&scene.first, &scene.second]);
-            if run.is_ok_and(|run| run.blocks_within(150_000).is_none()) {
-                continue;
-            }
-        }
-        let lines = plain::clearance(&file);
-        let number = lines.strip_prefix("refused ").map_or(ACCEPTED, |rest| {
-            rest.split_whitespace().next().and_then(|number| number.parse().ok()).expect("a number")
-        });
+        let Some((file, text, number)) = program_case(&mut random) else { continue };
         let outcome = |text| Outcome { number, contents: vec![("lines", Contents::Text(text))] };
         match written(command, &file) {
             Ok(output) => {
                 let case = || format!("standard input = {file:?}");
-                line.compare(outcome(lines.into_bytes()), outcome(output), case);
+                line.compare(outcome(text.into_bytes()), outcome(output), case);
             }
             Err(error) => {
                 println!("clearance: {command} was not run: {error}");
