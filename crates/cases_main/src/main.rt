@@ -1,5 +1,5 @@
-// Document 01's cases run through the entry points: a line for each answer, with the refusal first and every byte of the lent room, so that what was
-// not to be written shows as the `.` it was.
+// Document 01's cases run through the entry points: a line for each answer, with the refusal first and every byte of the
+// lent room, so that what was not to be written shows as the `.` it was.
 use bintree::Verdict;
 use bintree::Written;
 use convert::Clearance;
@@ -117,7 +117,7 @@ fn window(first_frame: u64, last_frame: u64, room: &mut [u8]) {
     verdict(answer, room);
 }
 
-// The questions over an expression: well-formed, volume, the colour at (3, 2) and at (3, 3), merged, the part for a path.
+// The questions over an expression: well-formed, volume, the colour at (3, 2) and (3, 3), merged, the part for a path.
 fn questions(expression: &[u8], path: &[u8]) {
     say(expression);
     say(b" well-formed ");

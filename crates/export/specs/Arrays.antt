@@ -1,5 +1,5 @@
--- What the face for C and Rust hands over as plain numbers: a universe and a proxy made of them, and an answer's fields in the order of its array.
--- An answer's refusal is the number that a function returns; the array holds the other fields.
+-- What the face for C and Rust hands over as plain numbers: a universe and a proxy made of them, and an answer's fields
+-- in the order of its array. An answer's refusal is the number that a function returns; the array holds the other fields.
 use Prim.Native.Nat.{ℕ}
 use mathlib.Core.List.{List, [], _∷_}
 use lib.Ieee.{Float}
@@ -32,7 +32,7 @@ roomArray a = a .symbols ∷ []
 abbrev pub lengthArray : Written → List ℕ
 lengthArray a = a .length ∷ []
 
--- a verdict as hit (0 Clear, 1 Hit), first frame, last frame and voxels; then the length of the raw expression, needed on 6
+-- a verdict as hit (0 Clear, 1 Hit), first frame, last frame and voxels; then the raw expression's length, needed on 6
 abbrev pub verdictArray : Verdict → ℕ → List ℕ
 verdictArray Clear length = 0 ∷ 0 ∷ 0 ∷ 0 ∷ length ∷ []
 verdictArray (Hit contact) length = 1 ∷ contact .first ∷ contact .last ∷ contact .voxels ∷ length ∷ []
@@ -76,4 +76,5 @@ abbrev pub boxOf : Triple → Triple → Triple → Proxy
 boxOf near far displacement = record { solid = Box (record { near = near; far = far }); displacement = displacement }
 
 abbrev pub cutOf : Triple → Float → Triple → Proxy
-cutOf normal offset displacement = record { solid = Cut (record { normal = normal; offset = offset }); displacement = displacement }
+cutOf normal offset displacement =
+    record { solid = Cut (record { normal = normal; offset = offset }); displacement = displacement }

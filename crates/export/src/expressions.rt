@@ -7,7 +7,8 @@ ghost use Rattle.bintree.specs.Answers.{wellFormedRefusal};
 ghost use Rattle.bintree.specs.Counts.{volumeAnswer};
 ghost use Rattle.bintree.specs.Parts.{colourAnswer, placeAnswer};
 ghost use Rattle.bintree.specs.Merging.{mergeAnswer, mergeBuffer};
-ghost use Rattle.export.specs.Arrays.{universeOf, lengthArray, voxelsArray, colourNumber, colourArray, placeArray};
+ghost use Rattle.export.specs.Arrays.{universeOf, lengthArray, voxelsArray};
+ghost use Rattle.export.specs.Arrays.{colourNumber, colourArray, placeArray};
 
 // Whether an expression is well-formed.
 #[no_mangle]

@@ -22,8 +22,14 @@ pub extern "C" fn durbizhan_box(
     displacement_z: f64,
     rows: &mut [[i64; 5]; 6],
 ) -> u64
-    ensures { λ r. ⌜ r ≡ proxyRefusal (boxOf (tripleOf «near_x» «near_y» «near_z») (tripleOf «far_x» «far_y» «far_z») (tripleOf «displacement_x» «displacement_y» «displacement_z»)) ⌝ }
-    ensures { λ _. ⌜ now (rows .exit) ≡ boxRows (boxOf (tripleOf «near_x» «near_y» «near_z») (tripleOf «far_x» «far_y» «far_z») (tripleOf «displacement_x» «displacement_y» «displacement_z»)) ⌝ }
+    ensures { λ r. let near = tripleOf «near_x» «near_y» «near_z» in
+        let far = tripleOf «far_x» «far_y» «far_z» in
+        let step = tripleOf «displacement_x» «displacement_y» «displacement_z» in
+        ⌜ r ≡ proxyRefusal (boxOf near far step) ⌝ }
+    ensures { λ _. let near = tripleOf «near_x» «near_y» «near_z» in
+        let far = tripleOf «far_x» «far_y» «far_z» in
+        let step = tripleOf «displacement_x» «displacement_y» «displacement_z» in
+        ⌜ now (rows .exit) ≡ boxRows (boxOf near far step) ⌝ }
 {
     let near = Triple {
         x: near_x,
@@ -64,8 +70,12 @@ pub extern "C" fn durbizhan_cut(
     displacement_z: f64,
     row: &mut [i64; 5],
 ) -> u64
-    ensures { λ r. ⌜ r ≡ proxyRefusal (cutOf (tripleOf «normal_x» «normal_y» «normal_z») offset (tripleOf «displacement_x» «displacement_y» «displacement_z»)) ⌝ }
-    ensures { λ _. ⌜ now (row .exit) ≡ cutRow (cutOf (tripleOf «normal_x» «normal_y» «normal_z») offset (tripleOf «displacement_x» «displacement_y» «displacement_z»)) ⌝ }
+    ensures { λ r. let normal = tripleOf «normal_x» «normal_y» «normal_z» in
+        let step = tripleOf «displacement_x» «displacement_y» «displacement_z» in
+        ⌜ r ≡ proxyRefusal (cutOf normal offset step) ⌝ }
+    ensures { λ _. let normal = tripleOf «normal_x» «normal_y» «normal_z» in
+        let step = tripleOf «displacement_x» «displacement_y» «displacement_z» in
+        ⌜ now (row .exit) ≡ cutRow (cutOf normal offset step) ⌝ }
 {
     let normal = Triple {
         x: normal_x,

@@ -75,7 +75,8 @@ module _ (u : Universe) (before leaves : ℕ) (colours : List ℕ → Colour) (o
         kept = λ f. absurd (f refl);
         behind = λ f. drop-append-seam written (drop (length written) out);
         coloured = λ f v w.
-            rw (take-append-seam written (drop (length written) out)) (colour-accepted u written v (s .shape) (s .accepted) (s .reads) w ∙ ap doneColour (s .shows v w));
+            rw (take-append-seam written (drop (length written) out))
+            (colour-accepted u written v (s .shape) (s .accepted) (s .reads) w ∙ ap doneColour (s .shows v w));
         suffices = λ f g. refl;
       }
 

@@ -1,5 +1,5 @@
--- What a caller is promised of a call that converts trees into lent room: in terms of what the call answers and leaves in
--- the room, and of what the other questions then answer.
+-- What a caller is promised of a call that converts trees into lent room: in terms of what the call answers and leaves
+-- in the room, and of what the other questions then answer.
 use Prim.Native.Nat.{ℕ, _≤_}
 use mathlib.Core.Path.{_≡_}
 use mathlib.Core.List.{List}
@@ -11,10 +11,11 @@ use Rattle.bintree.specs.declared.Colour.{Colour}
 use Rattle.bintree.specs.declared.Written.{Written}
 use Rattle.bintree.specs.Parts.{doneColour, colourAnswer}
 
--- The call lent `out` answered `answer` and left `left` there. `before` is the number of its checks before 6, `leaves` the
--- halfspace words of its trees, `colours` the colour that each voxel is to have.
+-- The call lent `out` answered `answer` and left `left` there. `before` is the number of its checks before 6, `leaves`
+-- the halfspace words of its trees, `colours` the colour that each voxel is to have.
 pub record Promised
-    (u : Universe) (before leaves : ℕ) (colours : List ℕ → Colour) (out : List ℕ) (answer : Written) (left : List ℕ) : Type 0 where
+    (u : Universe) (before leaves : ℕ) (colours : List ℕ → Colour)
+    (out : List ℕ) (answer : Written) (left : List ℕ) : Type 0 where
   -- whatever is refused, the room is as it was; and what is behind the symbols is, too
   pub kept : (answer .refusal ≡ 0 → ⊥) → left ≡ out
   pub behind : answer .refusal ≡ 0 → drop (answer .length) left ≡ drop (answer .length) out
