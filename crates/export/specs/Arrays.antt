@@ -1,5 +1,5 @@
 -- What the face for C and Rust hands over as plain numbers: a universe and a proxy made of them, and an answer's fields
--- in the order of its array. An answer's refusal is the number that a function returns; the array holds the other fields.
+-- in the order of its array. An answer's refusal is the number that a function returns; the array holds the rest.
 use Prim.Native.Nat.{ℕ}
 use mathlib.Core.List.{List, [], _∷_}
 use lib.Ieee.{Float}
