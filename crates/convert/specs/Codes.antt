@@ -74,14 +74,14 @@ abbrev pub mixed : ℕ → ℕ → ℕ → ℕ → ℕ
 mixed either both a b = bitOr (bitAnd (bitOr a b) either) (bitAnd (bitAnd a b) both)
 
 -- a shape's code from its reversal's
-abbrev pub exchanged : ℕ → ℕ
-exchanged a = a % reversalUnit * reversalUnit + a / reversalUnit
+abbrev pub reversedCode : ℕ → ℕ
+reversedCode a = a % reversalUnit * reversalUnit + a / reversalUnit
 
 -- UNION is BLACK where either shape is, and its reversal WHITE where either reversal is: the bits of BLACK's code
 unfoldable pub joinCode : Operator → ℕ → ℕ → ℕ
 joinCode union a b = mixed blackCode whiteCode a b
 joinCode intersection a b = mixed whiteCode blackCode a b
-joinCode minus a b = mixed whiteCode blackCode a (exchanged b)
+joinCode minus a b = mixed whiteCode blackCode a (reversedCode b)
 
 -- the code of a surface, of a leaf and of a tree over a block; `centre` where the block is a voxel that is judged at
 -- its centre

@@ -1,7 +1,7 @@
 // A pending shape's mark and its reversal's in four bits, and the joining of two such codes by an operator.
 ghost use mathlib.Core.Path.{_≡_};
 ghost use Rattle.csg.specs.Words.{operatorOf};
-ghost use Rattle.convert.specs.Codes.{mixed, exchanged, joinCode};
+ghost use Rattle.convert.specs.Codes.{mixed, reversedCode, joinCode};
 
 // A mark that is BLACK, and one that is WHITE; neither bit where it is undecided.
 pub(crate) const BLACK_BIT: u8 = 1;
@@ -28,8 +28,8 @@ fn mixed(either: u8, both: u8, a: u8, b: u8) -> u8
 }
 
 // A shape's code from its reversal's.
-fn exchanged(code: u8) -> u8
-    ensures { λ r. ⌜ r ≡ exchanged code ⌝ }
+fn reversed_code(code: u8) -> u8
+    ensures { λ r. ⌜ r ≡ reversedCode code ⌝ }
 {
     code % REVERSAL_UNIT * REVERSAL_UNIT + code / REVERSAL_UNIT
 }
@@ -44,5 +44,5 @@ pub(crate) fn join_code(word: u16, a: u8, b: u8) -> u8
     if word == csg::INTERSECTION {
         return mixed(WHITE_CODE, BLACK_CODE, a, b);
     }
-    mixed(WHITE_CODE, BLACK_CODE, a, exchanged(b))
+    mixed(WHITE_CODE, BLACK_CODE, a, reversed_code(b))
 }

@@ -8,11 +8,11 @@ use native.Mathlib.Omega.{arith}
 use lib.IntN.{ℤ, pos, negsuc}
 use lib.Signed.{_≤ℤ_, _<ℤ_, ltZ, nonNeg}
 use Rattle.lemmas.specs.Sums.{sum}
-use Rattle.lemmas.specs.Grid.{count, grid, corner}
+use Rattle.lemmas.specs.Grid.{count, grid, stepped}
 use Rattle.lemmas.proofs.Whole.{up, dn, is-eq, is-le, lt-ltZ, le-ltZ, ltZ-true, ltZ-false, le-in, le-out, lt-out}
 use Rattle.lemmas.proofs.Sums.{sum-cong}
 use Rattle.lemmas.proofs.Totals.{weighted-le}
-use Rattle.lemmas.proofs.Grid.{corner-along, crossed-cells}
+use Rattle.lemmas.proofs.Grid.{stepped-along, crossed-cells}
 use Rattle.universe.specs.declared.Universe.{Universe}
 use Rattle.universe.specs.declared.Block.{Block}
 use Rattle.universe.specs.Universe.{mostAxes, blocksAlong, blockSide}
@@ -62,27 +62,27 @@ module _ (u : Universe) (few-axes : u .axes ≤ mostAxes) (l : ℕ) (h : Halfspa
 
     -- a weight at an end of the block, and at a corner of a kind, axis by axis
     at-low : (s : ℕ → Bool) (v : ℕ → ℕ) → ((i : ℕ) → v i * (blockSide u l i * p i) ≡ v i * (blockSide u l i * (p i + count (s i)))) →
-        sum (u .axes) (λ i. v i * lowAlong block i) ≡ sum (u .axes) (λ i. v i * (blockSide u l i * corner (u .axes) s p i))
-    at-low s v e = sum-cong (u .axes) _ _ (λ i k. rw (low-along u l p i (omega arith), corner-along (u .axes) i s p k) (e i))
+        sum (u .axes) (λ i. v i * lowAlong block i) ≡ sum (u .axes) (λ i. v i * (blockSide u l i * stepped (u .axes) s p i))
+    at-low s v e = sum-cong (u .axes) _ _ (λ i k. rw (low-along u l p i (omega arith), stepped-along (u .axes) i s p k) (e i))
 
     at-end : (s : ℕ → Bool) (v : ℕ → ℕ) → ((i : ℕ) → v i * (blockSide u l i * p i + blockSide u l i) ≡ v i * (blockSide u l i * (p i + count (s i)))) →
-        sum (u .axes) (λ i. v i * endAlong block i) ≡ sum (u .axes) (λ i. v i * (blockSide u l i * corner (u .axes) s p i))
-    at-end s v e = sum-cong (u .axes) _ _ (λ i k. rw (low-along u l p i (omega arith), corner-along (u .axes) i s p k) (e i))
+        sum (u .axes) (λ i. v i * endAlong block i) ≡ sum (u .axes) (λ i. v i * (blockSide u l i * stepped (u .axes) s p i))
+    at-end s v e = sum-cong (u .axes) _ _ (λ i k. rw (low-along u l p i (omega arith), stepped-along (u .axes) i s p k) (e i))
 
-    greatest-on : greatest h block ≡ valueOn (corner (u .axes) rising p)
+    greatest-on : greatest h block ≡ valueOn (stepped (u .axes) rising p)
     unfolding valueOn rise fall
     greatest-on =
-        is-eq (greatest-is h block) (value-is u h (λ i. blockSide u l i * corner (u .axes) rising p i))
+        is-eq (greatest-is h block) (value-is u h (λ i. blockSide u l i * stepped (u .axes) rising p i))
         (omega (
           arith,
           at-end rising (λ i. up (h .coefficient i)) (λ i. greatest-end (h .coefficient i) (blockSide u l i) (p i) .0),
           at-low rising (λ i. dn (h .coefficient i)) (λ i. greatest-end (h .coefficient i) (blockSide u l i) (p i) .1),
         ))
 
-    least-on : least h block ≡ valueOn (corner (u .axes) (λ i. not (rising i)) p)
+    least-on : least h block ≡ valueOn (stepped (u .axes) (λ i. not (rising i)) p)
     unfolding valueOn rise fall
     least-on =
-        is-eq (least-is h block) (value-is u h (λ i. blockSide u l i * corner (u .axes) (λ j. not (rising j)) p i))
+        is-eq (least-is h block) (value-is u h (λ i. blockSide u l i * stepped (u .axes) (λ j. not (rising j)) p i))
         (omega (
           arith,
           at-low (λ i. not (rising i)) (λ i. up (h .coefficient i)) (λ i. least-end (h .coefficient i) (blockSide u l i) (p i) .0),

@@ -14,7 +14,7 @@ use lib.ListN.{length, getD, set, drop, replicate, length-set}
 use lib.Seq.{ext-getD, getD-set-same, getD-set-other}
 use borrow.Author.Tests.{ltb-true, ltb-false, lt-ltb, le-ltb, eqb-true, eqb-false, eq-eqb, ne-eqb}
 use Rattle.lemmas.specs.Sums.{sum, product}
-use Rattle.lemmas.specs.Grid.{count, put, grid, corner, listed}
+use Rattle.lemmas.specs.Grid.{count, put, grid, stepped, listed}
 use Rattle.lemmas.proofs.Sums.{sum-front, sum-mono, sum-cong, sum-add, sum-same}
 
 -- ---- points
@@ -46,17 +46,17 @@ put-swap a b c e p h = fun-ext (λ i. go i (eqb a i) (eqb b i) refl refl)
     go i false false q r = refl
 
 -- the corner's place along an axis; the corner of the cell of no axes; the corner with one axis more
-pub corner-along : (d i : ℕ) (s : ℕ → Bool) (p : ℕ → ℕ) → i < d → corner d s p i ≡ p i + count (s i)
-unfolding corner
-corner-along d i s p h = rw (lt-ltb i d h)
+pub stepped-along : (d i : ℕ) (s : ℕ → Bool) (p : ℕ → ℕ) → i < d → stepped d s p i ≡ p i + count (s i)
+unfolding stepped
+stepped-along d i s p h = rw (lt-ltb i d h)
 
-corner-none : (s : ℕ → Bool) (p : ℕ → ℕ) → corner 0 s p ≡ p
-unfolding corner
-corner-none s p = fun-ext (λ i. rw (le-ltb i 0 zero-le) (omega arith))
+stepped-none : (s : ℕ → Bool) (p : ℕ → ℕ) → stepped 0 s p ≡ p
+unfolding stepped
+stepped-none s p = fun-ext (λ i. rw (le-ltb i 0 zero-le) (omega arith))
 
-corner-put : (d c : ℕ) (s : ℕ → Bool) (p : ℕ → ℕ) → corner (suc d) s (put d c p) ≡ put d (c + count (s d)) (corner d s p)
-unfolding put corner
-corner-put d c s p = fun-ext (λ i. go i (eqb d i) (ltb i d) (ltb i (suc d)) refl refl refl)
+stepped-put : (d c : ℕ) (s : ℕ → Bool) (p : ℕ → ℕ) → stepped (suc d) s (put d c p) ≡ put d (c + count (s d)) (stepped d s p)
+unfolding put stepped
+stepped-put d c s p = fun-ext (λ i. go i (eqb d i) (ltb i d) (ltb i (suc d)) refl refl refl)
   where
     go : (i : ℕ) (t x y : Bool) → eqb d i ≡ t → ltb i d ≡ x → ltb i (suc d) ≡ y →
         cond t c (p i) + count (y && s i) ≡ cond t (c + count (s d)) (p i + count (x && s i))
@@ -215,14 +215,14 @@ inner-along false (suc n) g =
     let e : suc n - 1 ≡ n = omega arith in
     rw e (omega (arith, sum-front n (λ c. g (c + 0)), sum-cong n (λ c. g (suc c + 0)) (λ c. g (c + 1)) (λ c l. ap g (omega arith))))
 
-inner-corners : (s : ℕ → Bool) (d : ℕ) (n : ℕ → ℕ) (f : (ℕ → ℕ) → ℕ) →
-    grid d (λ i. n i - 1) (λ p. f (corner d everyAxis p)) ≤ grid d n (λ p. f (corner d s p))
+inner-stepped : (s : ℕ → Bool) (d : ℕ) (n : ℕ → ℕ) (f : (ℕ → ℕ) → ℕ) →
+    grid d (λ i. n i - 1) (λ p. f (stepped d everyAxis p)) ≤ grid d n (λ p. f (stepped d s p))
 unfolding grid
-inner-corners s zero n f = rw (corner-none everyAxis (λ i. 0), corner-none s (λ i. 0)) (le-refl _)
-inner-corners s (suc d) n f =
-    simp corner-put
-    (le-trans (sum-mono (n d - 1) _ _ (λ c l. inner-corners s d n (λ p. f (put d (c + 1) p))))
-    (inner-along (s d) (n d) (λ x. grid d n (λ p. f (put d x (corner d s p))))))
+inner-stepped s zero n f = rw (stepped-none everyAxis (λ i. 0), stepped-none s (λ i. 0)) (le-refl _)
+inner-stepped s (suc d) n f =
+    simp stepped-put
+    (le-trans (sum-mono (n d - 1) _ _ (λ c l. inner-stepped s d n (λ p. f (put d (c + 1) p))))
+    (inner-along (s d) (n d) (λ x. grid d n (λ p. f (put d x (stepped d s p))))))
 
 -- a test and its opposite together count every point
 test-or-not : (t : Bool) → count t + count (not t) ≡ 1
@@ -234,15 +234,15 @@ every-point d n r = sym (grid-add d n _ _) ∙ simp (test-or-not, grid-const) (o
 
 -- ---- what a test crosses: f counts at most one for a cell, and none where the test is the same at the corner of kind s and at the opposite one
 pub crossed-cells : (s : ℕ → Bool) (r : (ℕ → ℕ) → Bool) (f : (ℕ → ℕ) → ℕ) (d : ℕ) (n : ℕ → ℕ) →
-    ((p : ℕ → ℕ) → f p + count (r (corner d (λ i. not (s i)) p)) ≤ count (r (corner d s p))) →
+    ((p : ℕ → ℕ) → f p + count (r (stepped d (λ i. not (s i)) p)) ≤ count (r (stepped d s p))) →
     grid d n f + product d (λ i. n i - 1) ≤ product d n
 crossed-cells s r f d n h =
     omega (
       arith,
-      grid-mono d n (λ p. f p + count (r (corner d (λ i. not (s i)) p))) (λ p. count (r (corner d s p))) h,
-      grid-add d n f (λ p. count (r (corner d (λ i. not (s i)) p))),
-      inner-corners (λ i. not (s i)) d n (λ p. count (r p)),
-      inner-corners s d n (λ p. count (not (r p))),
-      every-point d n (λ p. r (corner d s p)),
-      every-point d (λ i. n i - 1) (λ p. r (corner d everyAxis p)),
+      grid-mono d n (λ p. f p + count (r (stepped d (λ i. not (s i)) p))) (λ p. count (r (stepped d s p))) h,
+      grid-add d n f (λ p. count (r (stepped d (λ i. not (s i)) p))),
+      inner-stepped (λ i. not (s i)) d n (λ p. count (r p)),
+      inner-stepped s d n (λ p. count (not (r p))),
+      every-point d n (λ p. r (stepped d s p)),
+      every-point d (λ i. n i - 1) (λ p. r (stepped d everyAxis p)),
     )

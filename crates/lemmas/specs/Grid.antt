@@ -20,8 +20,8 @@ grid zero n f = f (λ i. 0)
 grid (suc d) n f = sum (n d) (λ c. grid d n (λ p. f (put d c p)))
 
 -- of the cell of d axes that begins at the point p, the corner that is one further along the axes which s names
-unfoldable pub corner : ℕ → (ℕ → Bool) → (ℕ → ℕ) → ℕ → ℕ
-corner d s p i = p i + count (ltb i d && s i)
+unfoldable pub stepped : ℕ → (ℕ → Bool) → (ℕ → ℕ) → ℕ → ℕ
+stepped d s p i = p i + count (ltb i d && s i)
 
 -- what a rule gives at the places 0 to n − 1, listed: the places of a point, numbers that stand one after the other
 unfoldable pub listed : {A : Type 0} → ℕ → (ℕ → A) → List A

@@ -91,10 +91,10 @@ module _ {b : Block} (g : Given b) (h : b .level < levels (b .universe)) (v : Li
       below i l (yes q) = rw (← q, here) (omega (arith, w .below (axisOf b) (axis-few b p h), length-halved b p h))
       below i l (no n) = rw (side-kept (b .universe) (b .level) i n, high-kept b i n) (w .below i l)
 
--- ---- corners, and the last level
+-- ---- where a block begins, and the last level
 
-pub corner-within : {b : Block} → Given b → Within b (b .low)
-corner-within {b} g = record {
+pub begins-within : {b : Block} → Given b → Within b (b .low)
+begins-within {b} g = record {
   above = λ i l. le-refl (lowAlong b i);
   below = λ i l. omega (arith, side-positive (b .universe) (b .level) i);
 }
