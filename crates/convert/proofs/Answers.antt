@@ -15,10 +15,10 @@ use Rattle.universe.specs.declared.room.RoomAnswer.{RoomAnswer}
 use Rattle.universe.specs.Room.{room, roomAnswer}
 use Rattle.universe.proofs.Refusing.{last-check}
 use Rattle.universe.proofs.Questions.{levels-told, levels-answered}
-use Rattle.bintree.specs.Shape.{Shape, symbols, size}
+use Rattle.bintree.specs.Shape.{Shape, symbols}
 use Rattle.bintree.specs.Walks.{noted, laid}
 use Rattle.bintree.specs.declared.Written.{Written}
-use Rattle.bintree.specs.Answers.{refusedWriting, shortWriting, doneWriting}
+use Rattle.bintree.specs.Answers.{refusedWriting, shortWriting, doneWriting, writtenAnswer, writtenBuffer}
 use Rattle.bintree.proofs.Shape.{length-symbols}
 use Rattle.bintree.proofs.Lays.{laid-noted}
 use Rattle.bintree.proofs.Answers.{written-refused, kept-refused, written-short, kept-short, written-all, left-all}
@@ -33,7 +33,7 @@ use Rattle.demands.proofs.Room.{raw-room}
 use Rattle.convert.specs.declared.lay.Piece.{Piece}
 use Rattle.convert.specs.Blocks.{Ready, RoomReady, Standing, treesOf, wholeSides, axisLeft}
 use Rattle.convert.specs.Shapes.{shapeOf, shaped, laidShape, pieceOf, Laying}
-use Rattle.convert.specs.Answers.{twoTreesChecks, twoTreesRefusal, rawOfTwo, mergedOfTwo, writtenOfTwo, conversionAnswer, conversionBuffer}
+use Rattle.convert.specs.Answers.{twoTreesChecks, twoTreesRefusal, rawOfTwo, mergedOfTwo, writtenOfTwo}
 use Rattle.convert.specs.Answers.{rawOfTwoAnswer, rawOfTwoBuffer, mergedOfTwoAnswer, mergedOfTwoBuffer}
 use Rattle.convert.proofs.Blocks.{whole-standing, whole-is}
 use Rattle.convert.proofs.Shapes.{shape-small, shaped-size}
@@ -129,7 +129,7 @@ room-is u first second {x} {y} z p q e =
 module _ (out written : List ℕ) where
   -- its answer and the room as it leaves it, where the checks before 6 give n
   abbrev pub Ends : ℕ → Written → List ℕ → Type 0
-  Ends n answer now = (answer ≡ conversionAnswer n written out) × (now ≡ conversionBuffer n written out)
+  Ends n answer now = (answer ≡ writtenAnswer n out written) × (now ≡ writtenBuffer n out written)
 
   -- a refusal by the checks, which gave m
   pub ends-refused : {m n : ℕ} → m ≡ n → (m ≡ 0 → ⊥) → {answer : Written} → answer ≡ refusedWriting m → Ends n answer out

@@ -1,13 +1,12 @@
 -- The block that the arrays hold. Halving the side along the axis of the levels left gives both halves: the low one has the block's own low places, the high
 -- one lies half a side further along that axis.
-use Prim.Native.Nat.{ℕ, zero, suc, _+_, _-_, _*_, _/_, _^_, _≤_, _<_}
-use mathlib.Core.Path.{_≡_, refl, sym, ap, _∙_}
+use Prim.Native.Nat.{ℕ, zero, suc, _+_, _-_, _*_, _^_, _≤_, _<_}
+use mathlib.Core.Path.{_≡_, refl, sym, _∙_}
 use mathlib.Core.List.{List}
 use native.Mathlib.Omega.{arith}
 use native.Mathlib.Decide.{ℕ-discrete, decLt}
-use lib.ListN.{length, getD, replicate, length-set, List·getD-eq-default}
+use lib.ListN.{getD, replicate, length-set, List·getD-eq-default}
 use lib.Seq.{getD-set-same, getD-set-other}
-use Rattle.lemmas.specs.Grid.{listed}
 use Rattle.lemmas.proofs.Grid.{listed-length, listed-at}
 use Rattle.universe.specs.declared.Universe.{Universe}
 use Rattle.universe.specs.Universe.{mostAxes, longestSide, universeRefusal, levels, axisAt, blockSide}

@@ -1,6 +1,6 @@
 -- The verdict of two trees: the checks of their conversion, then the window, then room; where all accept, the front of the room holds the raw expression,
 -- which reads as the raw shape, and its verdict is the answer's.
-use Prim.Native.Nat.{ℕ, _≤_, _<_}
+use Prim.Native.Nat.{ℕ, _≤_}
 use mathlib.Core.Path.{_≡_, refl, sym, ap, _∙_}
 use mathlib.Core.Bool.{false}
 use mathlib.Core.List.{List, _++_}

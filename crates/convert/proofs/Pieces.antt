@@ -1,6 +1,6 @@
 -- Laying the shape of a block, merged or as it is: a leaf is held back; halves that are leaves of one colour are held back as one where shapes are merged, else
 -- `(` and what was held back of the halves is written.
-use Prim.Native.Nat.{ℕ, suc, _+_, _-_, _^_, _≤_, _<_}
+use Prim.Native.Nat.{ℕ, suc, _+_, _-_}
 use mathlib.Core.Path.{_≡_, refl, sym, ap, _∙_}
 use mathlib.Core.Bool.{Bool, true, false, cond}
 use mathlib.Core.List.{List}

@@ -1,14 +1,14 @@
 -- What the recursion meets at a block: judged BLACK or WHITE it is one leaf, undecided it is halved, and both halves can be laid one level on. A shape of n
 -- levels has fewer than 2^(n+1) symbols, so that lengths fit.
 use Prim.Native.Nat.{ℕ, zero, suc, _+_, _-_, _^_, _≤_, _<_, max}
-use mathlib.Core.Path.{_≡_, refl, sym, ap, ap₂, _∙_}
+use mathlib.Core.Path.{_≡_, refl, ap, ap₂, _∙_}
 use mathlib.Core.Bool.{Bool, true, false, _&&_}
 use mathlib.Core.List.{List}
 use native.Mathlib.Nat.{le-max-left, le-max-right, two-pow-succ, le-trans, le-refl}
 use native.Mathlib.Omega.{arith}
 use lib.Pow.{pow-mono}
 use Rattle.universe.specs.declared.Universe.{Universe}
-use Rattle.universe.specs.Universe.{mostLevels, levels}
+use Rattle.universe.specs.Universe.{mostLevels}
 use Rattle.universe.proofs.Universes.{accepted, levels-few}
 use Rattle.bintree.specs.declared.Colour.{Colour}
 use Rattle.bintree.specs.declared.Colour.the-variants.{White, Black}

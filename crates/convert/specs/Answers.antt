@@ -60,42 +60,36 @@ mergedOfTwo u surfaces first second = symbols (merged (raw u surfaces (treesOf s
 unfoldable pub writtenOfTwo : Bool → Universe → Surfaces → List ℕ → List ℕ → List ℕ
 writtenOfTwo merging u surfaces first second = symbols (shaped merging (raw u surfaces (treesOf surfaces first second)))
 
--- what a conversion answers, and what it leaves of the room lent, where its checks before 6 give this number
-abbrev pub conversionAnswer : ℕ → List ℕ → List ℕ → Written
-conversionAnswer refusal written out = writtenAnswer refusal out written
-
-abbrev pub conversionBuffer : ℕ → List ℕ → List ℕ → List ℕ
-conversionBuffer refusal written out = writtenBuffer refusal out written
-
+-- what a conversion answers, and what it leaves of the room lent
 unfoldable pub rawOfOneAnswer : Universe → Surfaces → List ℕ → List ℕ → Written
-rawOfOneAnswer u surfaces words out = conversionAnswer (oneTreeRefusal u surfaces words) (rawOfOne u surfaces words) out
+rawOfOneAnswer u surfaces words out = writtenAnswer (oneTreeRefusal u surfaces words) out (rawOfOne u surfaces words)
 
 unfoldable pub rawOfOneBuffer : Universe → Surfaces → List ℕ → List ℕ → List ℕ
-rawOfOneBuffer u surfaces words out = conversionBuffer (oneTreeRefusal u surfaces words) (rawOfOne u surfaces words) out
+rawOfOneBuffer u surfaces words out = writtenBuffer (oneTreeRefusal u surfaces words) out (rawOfOne u surfaces words)
 
 unfoldable pub mergedOfOneAnswer : Universe → Surfaces → List ℕ → List ℕ → Written
 mergedOfOneAnswer u surfaces words out =
-    conversionAnswer (oneTreeRefusal u surfaces words) (mergedOfOne u surfaces words) out
+    writtenAnswer (oneTreeRefusal u surfaces words) out (mergedOfOne u surfaces words)
 
 unfoldable pub mergedOfOneBuffer : Universe → Surfaces → List ℕ → List ℕ → List ℕ
 mergedOfOneBuffer u surfaces words out =
-    conversionBuffer (oneTreeRefusal u surfaces words) (mergedOfOne u surfaces words) out
+    writtenBuffer (oneTreeRefusal u surfaces words) out (mergedOfOne u surfaces words)
 
 unfoldable pub rawOfTwoAnswer : Universe → Surfaces → List ℕ → List ℕ → List ℕ → Written
 rawOfTwoAnswer u surfaces first second out =
-    conversionAnswer (twoTreesRefusal u surfaces first second) (rawOfTwo u surfaces first second) out
+    writtenAnswer (twoTreesRefusal u surfaces first second) out (rawOfTwo u surfaces first second)
 
 unfoldable pub rawOfTwoBuffer : Universe → Surfaces → List ℕ → List ℕ → List ℕ → List ℕ
 rawOfTwoBuffer u surfaces first second out =
-    conversionBuffer (twoTreesRefusal u surfaces first second) (rawOfTwo u surfaces first second) out
+    writtenBuffer (twoTreesRefusal u surfaces first second) out (rawOfTwo u surfaces first second)
 
 unfoldable pub mergedOfTwoAnswer : Universe → Surfaces → List ℕ → List ℕ → List ℕ → Written
 mergedOfTwoAnswer u surfaces first second out =
-    conversionAnswer (twoTreesRefusal u surfaces first second) (mergedOfTwo u surfaces first second) out
+    writtenAnswer (twoTreesRefusal u surfaces first second) out (mergedOfTwo u surfaces first second)
 
 unfoldable pub mergedOfTwoBuffer : Universe → Surfaces → List ℕ → List ℕ → List ℕ → List ℕ
 mergedOfTwoBuffer u surfaces first second out =
-    conversionBuffer (twoTreesRefusal u surfaces first second) (mergedOfTwo u surfaces first second) out
+    writtenBuffer (twoTreesRefusal u surfaces first second) out (mergedOfTwo u surfaces first second)
 
 -- the checks before 6 of a verdict of two trees: those of their conversion, then 9
 unfoldable pub clearanceChecks : Universe → Surfaces → List ℕ → List ℕ → ℕ → ℕ → List ℕ
@@ -121,9 +115,9 @@ clearanceOf written v =
 unfoldable pub clearanceAnswer : Universe → Surfaces → List ℕ → List ℕ → ℕ → ℕ → List ℕ → Clearance
 clearanceAnswer u surfaces first second from to out =
     clearanceOf
-    (conversionAnswer (clearanceRefusal u surfaces first second from to) (rawOfTwo u surfaces first second) out)
+    (writtenAnswer (clearanceRefusal u surfaces first second from to) out (rawOfTwo u surfaces first second))
     (verdict u (raw u surfaces (treesOf surfaces first second)) from to)
 
 unfoldable pub clearanceBuffer : Universe → Surfaces → List ℕ → List ℕ → ℕ → ℕ → List ℕ → List ℕ
 clearanceBuffer u surfaces first second from to out =
-    conversionBuffer (clearanceRefusal u surfaces first second from to) (rawOfTwo u surfaces first second) out
+    writtenBuffer (clearanceRefusal u surfaces first second from to) out (rawOfTwo u surfaces first second)

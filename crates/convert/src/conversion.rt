@@ -8,12 +8,11 @@ use crate::scratch::short;
 use bintree::Written;
 use universe::Universe;
 ghost use mathlib.Core.Path.{_≡_};
+ghost use Rattle.bintree.specs.Answers.{writtenAnswer, writtenBuffer};
 ghost use Rattle.csg.specs.Surfaces.{surfacesOf};
 ghost use Rattle.convert.specs.Blocks.{Ready};
 ghost use Rattle.convert.specs.Answers.{
   writtenOfTwo,
-  conversionAnswer,
-  conversionBuffer,
   twoTreesRefusal,
   rawOfOneAnswer,
   rawOfOneBuffer,
@@ -37,10 +36,10 @@ pub(crate) fn written_of_two(
     requires { ⌜ Ready universe (surfacesOf (now rows)) (now first) (now second) ⌝ }
     ensures { λ r. let surfaces = surfacesOf (now (rows .entry)) in
         let written = writtenOfTwo merging universe surfaces (now (first .entry)) (now (second .entry)) in
-        ⌜ r ≡ conversionAnswer 0 written (now (out .entry)) ⌝ }
+        ⌜ r ≡ writtenAnswer 0 (now (out .entry)) written ⌝ }
     ensures { λ _. let surfaces = surfacesOf (now (rows .entry)) in
         let written = writtenOfTwo merging universe surfaces (now (first .entry)) (now (second .entry)) in
-        ⌜ now (out .exit) ≡ conversionBuffer 0 written (now (out .entry)) ⌝ }
+        ⌜ now (out .exit) ≡ writtenBuffer 0 (now (out .entry)) written ⌝ }
 {
     if room_of(universe, first, second) <= out.len() as u64 {
         let length = write_whole(universe, rows, first, second, merging, out);
@@ -65,13 +64,13 @@ fn of_two(
         let first = now (first .entry) in
         let second = now (second .entry) in
         let written = writtenOfTwo merging universe surfaces first second in
-        ⌜ r ≡ conversionAnswer (twoTreesRefusal universe surfaces first second) written (now (out .entry)) ⌝ }
+        ⌜ r ≡ writtenAnswer (twoTreesRefusal universe surfaces first second) (now (out .entry)) written ⌝ }
     ensures { λ _. let surfaces = surfacesOf (now (rows .entry)) in
         let first = now (first .entry) in
         let second = now (second .entry) in
         let written = writtenOfTwo merging universe surfaces first second in
         ⌜ now (out .exit)
-        ≡ conversionBuffer (twoTreesRefusal universe surfaces first second) written (now (out .entry)) ⌝ }
+        ≡ writtenBuffer (twoTreesRefusal universe surfaces first second) (now (out .entry)) written ⌝ }
 {
     let refusal = checked(universe, rows, first, second);
     if refusal != 0 {

@@ -5,7 +5,8 @@ use bintree::Written;
 use universe::Universe;
 ghost use mathlib.Core.Path.{_≡_};
 ghost use Rattle.csg.specs.Surfaces.{surfacesOf};
-ghost use Rattle.convert.specs.Answers.{writtenOfTwo, conversionAnswer, conversionBuffer};
+ghost use Rattle.bintree.specs.Answers.{writtenAnswer, writtenBuffer};
+ghost use Rattle.convert.specs.Answers.{writtenOfTwo};
 ghost use Rattle.convert.specs.Blocks.{Ready};
 
 // Scratch room for where no more than this is lent.
@@ -27,10 +28,10 @@ fn through(
     requires { ⌜ Ready universe (surfacesOf (now rows)) (now first) (now second) ⌝ }
     ensures { λ r. let surfaces = surfacesOf (now (rows .entry)) in
         let written = writtenOfTwo merging universe surfaces (now (first .entry)) (now (second .entry)) in
-        ⌜ r ≡ conversionAnswer 0 written (now (out .entry)) ⌝ }
+        ⌜ r ≡ writtenAnswer 0 (now (out .entry)) written ⌝ }
     ensures { λ _. let surfaces = surfacesOf (now (rows .entry)) in
         let written = writtenOfTwo merging universe surfaces (now (first .entry)) (now (second .entry)) in
-        ⌜ now (out .exit) ≡ conversionBuffer 0 written (now (out .entry)) ⌝ }
+        ⌜ now (out .exit) ≡ writtenBuffer 0 (now (out .entry)) written ⌝ }
 {
     let length = write_whole(universe, rows, first, second, merging, scratch);
     if out.len() < length {
@@ -56,10 +57,10 @@ pub(crate) fn short(
     requires { ⌜ Ready universe (surfacesOf (now rows)) (now first) (now second) ⌝ }
     ensures { λ r. let surfaces = surfacesOf (now (rows .entry)) in
         let written = writtenOfTwo merging universe surfaces (now (first .entry)) (now (second .entry)) in
-        ⌜ r ≡ conversionAnswer 0 written (now (out .entry)) ⌝ }
+        ⌜ r ≡ writtenAnswer 0 (now (out .entry)) written ⌝ }
     ensures { λ _. let surfaces = surfacesOf (now (rows .entry)) in
         let written = writtenOfTwo merging universe surfaces (now (first .entry)) (now (second .entry)) in
-        ⌜ now (out .exit) ≡ conversionBuffer 0 written (now (out .entry)) ⌝ }
+        ⌜ now (out .exit) ≡ writtenBuffer 0 (now (out .entry)) written ⌝ }
 {
     let mut scratch = [0u8; SHORT];
     through(universe, rows, first, second, merging, &mut scratch, out)
@@ -77,10 +78,10 @@ pub(crate) fn long(
     requires { ⌜ Ready universe (surfacesOf (now rows)) (now first) (now second) ⌝ }
     ensures { λ r. let surfaces = surfacesOf (now (rows .entry)) in
         let written = writtenOfTwo merging universe surfaces (now (first .entry)) (now (second .entry)) in
-        ⌜ r ≡ conversionAnswer 0 written (now (out .entry)) ⌝ }
+        ⌜ r ≡ writtenAnswer 0 (now (out .entry)) written ⌝ }
     ensures { λ _. let surfaces = surfacesOf (now (rows .entry)) in
         let written = writtenOfTwo merging universe surfaces (now (first .entry)) (now (second .entry)) in
-        ⌜ now (out .exit) ≡ conversionBuffer 0 written (now (out .entry)) ⌝ }
+        ⌜ now (out .exit) ≡ writtenBuffer 0 (now (out .entry)) written ⌝ }
 {
     let mut scratch = [0u8; LONG];
     through(universe, rows, first, second, merging, &mut scratch, out)

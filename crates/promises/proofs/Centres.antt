@@ -1,7 +1,7 @@
 -- A voxel is judged at its centre: what is tested is the value at c + 1/2 along each axis, doubled, for every number of axes. That `valueOver` is the value
 -- at a fraction follows from two laws: it does not depend on how the fraction is written, and at whole points it is the value there.
 use Prim.Native.Nat.{ℕ, zero, suc, _+_, _*_}
-use mathlib.Core.Path.{_≡_, refl, ap, ap₂, _∙_}
+use mathlib.Core.Path.{_≡_, refl, ap, _∙_}
 use mathlib.Core.List.{List}
 use native.Mathlib.Omega.{arith}
 use lib.IntN.{ℤ, pos, _+ℤ_, _*ℤ_}

@@ -15,7 +15,7 @@ use Rattle.universe.specs.Voxel.{voxelRefusal}
 use Rattle.universe.specs.Room.{room, roomAnswer}
 use Rattle.bintree.specs.declared.Colour.{Colour}
 use Rattle.bintree.specs.declared.Written.{Written}
-use Rattle.bintree.specs.Shape.{Shape, symbols}
+use Rattle.bintree.specs.Shape.{Shape}
 use Rattle.bintree.specs.Reading.{read, expression}
 use Rattle.bintree.specs.Answers.{refusedWriting, shortWriting, doneWriting, writtenAnswer, writtenBuffer}
 use Rattle.bintree.specs.Parts.{colourAt, refusedColour, doneColour, colourAnswer}

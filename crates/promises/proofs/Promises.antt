@@ -33,7 +33,7 @@ use Rattle.demands.proofs.Theorems.{demand-2, demand-3, verdict-of-trees}
 use Rattle.demands.proofs.Colours.{both-colour}
 use Rattle.convert.specs.declared.verdict.Clearance.{Clearance}
 use Rattle.convert.specs.Answers.{oneTreeChecks, twoTreesChecks, oneTreeRefusal, twoTreesRefusal, clearanceChecks, clearanceRefusal}
-use Rattle.convert.specs.Answers.{conversionAnswer, clearanceOf, rawOfOne, rawOfTwo, mergedOfOne, mergedOfTwo}
+use Rattle.convert.specs.Answers.{clearanceOf, rawOfOne, rawOfTwo, mergedOfOne, mergedOfTwo}
 use Rattle.convert.specs.Answers.{rawOfOneAnswer, rawOfOneBuffer, mergedOfOneAnswer, mergedOfOneBuffer}
 use Rattle.convert.specs.Answers.{rawOfTwoAnswer, rawOfTwoBuffer, mergedOfTwoAnswer, mergedOfTwoBuffer, clearanceAnswer, clearanceBuffer}
 use Rattle.promises.specs.Promises.{Promised}
@@ -235,7 +235,7 @@ module _ (u : Universe) (surfaces : Surfaces) (first second : List ℕ) where
           (a .0, first-accepts (windowRefusal u from to) [] (a .1) .0)
 
       abbrev written : Written
-      written = conversionAnswer (clearanceRefusal u surfaces first second from to) (rawOfTwo u surfaces first second) out
+      written = writtenAnswer (clearanceRefusal u surfaces first second from to) out (rawOfTwo u surfaces first second)
 
       -- of the room lent, all that is promised of the raw conversion
       pub verdict-of-two : Promised u (clearanceRefusal u surfaces first second from to) words shared out

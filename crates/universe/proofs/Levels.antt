@@ -3,7 +3,7 @@
 -- at most all blocks, and the sum because it is below room.
 use mathlib.Core.Path.{_≡_, refl, sym, ap, ap₂, _∙_}
 use mathlib.Core.List.{List}
-use Prim.Native.Nat.{ℕ, zero, suc, _+_, _*_, _-_, _/_, _%_, _^_, _≤_, _<_, min}
+use Prim.Native.Nat.{ℕ, zero, suc, _+_, _*_, _-_, _/_, _^_, _≤_, _<_, min}
 use native.Mathlib.Omega.{arith}
 use native.Mathlib.Numerals.{add-one}
 use native.Mathlib.Nat.{min-eq-left, le-div-iff-mul-le, div-lt-iff-lt-mul, mul-le-mul, not-suc-le-zero, le-refl, pow-le-pow-right}

@@ -1,14 +1,14 @@
 -- What the universe's questions answer, by whether the universe is accepted and the axis or level is there; and that each answer is as small as the
 -- limits say.
-use Prim.Native.Nat.{ℕ, suc, _+_, _-_, _^_, _≤_, _<_}
+use Prim.Native.Nat.{ℕ, suc, _-_, _^_, _≤_, _<_}
 use mathlib.Core.Path.{_≡_, refl, sym, _∙_}
 use mathlib.Core.Bool.{cond}
 use native.Mathlib.Omega.{arith}
 use native.Mathlib.Decide.{ℕ-discrete}
-use lib.Dec.{ltb, eqb}
-use lib.ListN.{length, getD}
+use lib.Dec.{eqb}
+use lib.ListN.{getD}
 use borrow.Author.Tests.{eq-eqb, ne-eqb, lt-ltb, le-ltb, le-leb, lt-leb}
-use Rattle.lemmas.proofs.Grid.{listed-length, listed-at}
+use Rattle.lemmas.proofs.Grid.{listed-at}
 use Rattle.universe.specs.declared.Universe.{Universe}
 use Rattle.universe.specs.Universe.{mostLevels, universeRefusal, bitsAlong, sideAlong, levels, axisAt}
 use Rattle.universe.specs.Questions.{levelsAnswer, bitsAnswer, sideAnswer, axesLeft, voxelsLeft}
@@ -72,10 +72,6 @@ levels-answered u = go (ℕ-discrete (universeRefusal u) 0)
     go (no n) = rw (ne-eqb (universeRefusal u) 0 n) (omega arith)
 
 -- ---- the axes by levels left
-
-pub axes-left-length : (u : Universe) → length (axesLeft u) ≡ mostLevels
-unfolding axesLeft
-axes-left-length u = listed-length mostLevels _
 
 module _ (u : Universe) (z : universeRefusal u ≡ 0) (n : ℕ) (h : n < levels u) where
   -- at place n the axis of a block with n + 1 levels left

@@ -1,12 +1,11 @@
--- Voxels: an accepted voxel lies in the whole block; a voxel of a block lies in the half that `halfAt` names; a block at the last level holds the voxel
--- at its own low corner and no other. Along the axis of a halving this is arithmetic of multiples, along the others nothing changes.
+-- Voxels: an accepted voxel lies in the whole block; a voxel of a block lies in the half that `halfAt` names; a block at the last level holds no voxel
+-- but that at its own low corner. Along the axis of a halving this is arithmetic of multiples, along the others nothing changes.
 use mathlib.Core.Path.{_≡_, refl, ap}
 use mathlib.Core.Bool.{Bool, true, cond}
 use mathlib.Core.Logic.{_⊎_, inl, inr}
 use mathlib.Core.List.{List}
 use Prim.Native.Nat.{ℕ, zero, suc, _+_, _≤_, _<_}
 use native.Mathlib.Omega.{arith}
-use native.Mathlib.Nat.{le-refl}
 use native.Mathlib.Decide.{ℕ-discrete, decLt}
 use lib.Dec.{ltb, eqb}
 use lib.ListN.{length}
@@ -18,7 +17,7 @@ use Rattle.universe.specs.Universe.{mostAxes, levels, sideAlong}
 use Rattle.universe.specs.Block.{lowAlong, lengthAlong, wholeBlock, axisOf, low, high, Given}
 use Rattle.universe.specs.Voxel.{placeAlong, voxelRefusal, Within, halfAt, pathFrom}
 use Rattle.universe.proofs.Refusing.{unless-holds, holds-unless}
-use Rattle.universe.proofs.Universes.{Accepted, side-first, side-last, side-kept, side-positive}
+use Rattle.universe.proofs.Universes.{Accepted, side-first, side-last, side-kept}
 use Rattle.universe.proofs.Multiples.{in-low, in-high}
 use Rattle.universe.proofs.Blocks.{Placed, given-placed, given-length, zero-low, halfLength, high-here, high-kept, axis-few, length-halved, low-even}
 
@@ -91,15 +90,9 @@ module _ {b : Block} (g : Given b) (h : b .level < levels (b .universe)) (v : Li
       below i l (yes q) = rw (← q, here) (omega (arith, w .below (axisOf b) (axis-few b p h), length-halved b p h))
       below i l (no n) = rw (side-kept (b .universe) (b .level) i n, high-kept b i n) (w .below i l)
 
--- ---- where a block begins, and the last level
+-- ---- the last level
 
-pub begins-within : {b : Block} → Given b → Within b (b .low)
-begins-within {b} g = record {
-  above = λ i l. le-refl (lowAlong b i);
-  below = λ i l. omega (arith, side-positive (b .universe) (b .level) i);
-}
-
--- at the last level there is no other
+-- there a voxel of a block has the block's own low places
 pub at-last : {b : Block} → Given b → b .level ≡ levels (b .universe) → (v : List ℕ) → Within b v
     → (i : ℕ) → i < b .universe .axes → placeAlong v i ≡ lowAlong b i
 at-last {b} g e v w i l =

@@ -80,7 +80,7 @@ impl Universe {
         if last < 1u64 << bits {
             return 0;
         }
-        9
+        refusals::OUTSIDE
     }
 
     // The length of a block of a level along an axis: twice as long for each halving of the axis that is still to come.

@@ -3,11 +3,6 @@
 use Rattle.bintree.proofs.Walks.{volume-laws}
 use Rattle.bintree.proofs.count.volume.Statement.{statement}
 use Rattle.bintree.proofs.count.volume.Tie as tie
-use Rattle.bintree.proofs.Counted.done.Reads as done-reads
-use Rattle.bintree.proofs.Counted.refused.Reads as refused-reads
-use Rattle.bintree.proofs.count.walk.Reads as walk-reads
-use Rattle.universe.proofs.Universe.levels.Reads as levels-reads
-use Rattle.universe.proofs.Universe.refusal.Reads as refusal-reads
 
 pub volume-spec : {M : Type 1} → statement M
 volume-spec =

@@ -4,7 +4,6 @@ use Rattle.lemmas.proofs.Stores.{Copying}
 use Rattle.bintree.proofs.Lays.{copy-laws}
 use Rattle.bintree.proofs.lay.copy.Statement.{statement}
 use Rattle.bintree.proofs.lay.copy.Tie as tie
-use Rattle.bintree.proofs.window.lesser.Reads as lesser-reads
 
 abbrev Inv-loop : tie.InvT-loop
 Inv-loop symbols out₀ at room count i₀ out i = Copying symbols out₀ at count i out

@@ -3,13 +3,6 @@
 use Rattle.bintree.proofs.Merges.{merge-laws}
 use Rattle.bintree.proofs.lay.merge.Statement.{statement}
 use Rattle.bintree.proofs.lay.merge.Tie as tie
-use Rattle.bintree.proofs.Written.done.Reads as done-reads
-use Rattle.bintree.proofs.Written.refused.Reads as refused-reads
-use Rattle.bintree.proofs.Written.short.Reads as short-reads
-use Rattle.bintree.proofs.lay.lay.Reads as lay-reads
-use Rattle.bintree.proofs.lay.note.Reads as note-reads
-use Rattle.universe.proofs.Universe.levels.Reads as levels-reads
-use Rattle.universe.proofs.Universe.refusal.Reads as refusal-reads
 
 pub merge-spec : {M : Type 1} → statement M
 merge-spec =

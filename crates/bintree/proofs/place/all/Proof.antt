@@ -2,7 +2,6 @@
 use Rattle.bintree.proofs.Places.{all-laws}
 use Rattle.bintree.proofs.place.all.Statement.{statement}
 use Rattle.bintree.proofs.place.all.Tie as tie
-use Rattle.bintree.proofs.count.walk.Reads as walk-reads
 
 pub all-spec : {M : Type 1} → statement M
 all-spec =

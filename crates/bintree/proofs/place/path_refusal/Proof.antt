@@ -4,7 +4,6 @@ use lib.ListN.{length}
 use Rattle.bintree.proofs.Places.{Halves, path-refusal-laws}
 use Rattle.bintree.proofs.place.path_refusal.Statement.{statement}
 use Rattle.bintree.proofs.place.path_refusal.Tie as tie
-use Rattle.universe.proofs.Universe.levels.Reads as levels-reads
 
 abbrev Inv-loop : tie.InvT-loop
 Inv-loop path step₀ step = Halves path step

@@ -3,13 +3,6 @@
 use Rattle.bintree.proofs.Voxels.{colour-laws}
 use Rattle.bintree.proofs.voxel.colour_at.Statement.{statement}
 use Rattle.bintree.proofs.voxel.colour_at.Tie as tie
-use Rattle.bintree.proofs.Coloured.refused.Reads as refused-reads
-use Rattle.bintree.proofs.place.trace.Reads as trace-reads
-use Rattle.bintree.proofs.voxel.colour_of.Reads as colour-of-reads
-use Rattle.bintree.proofs.voxel.path_to.Reads as path-to-reads
-use Rattle.bintree.proofs.voxel.voxel_answer.Reads as voxel-answer-reads
-use Rattle.universe.proofs.Universe.levels.Reads as levels-reads
-use Rattle.universe.proofs.Universe.refusal.Reads as refusal-reads
 
 pub colour-at-spec : {M : Type 1} → statement M
 colour-at-spec =

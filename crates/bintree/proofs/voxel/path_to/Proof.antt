@@ -4,8 +4,6 @@ use Prim.Native.Nat.{_-_}
 use Rattle.bintree.proofs.Voxels.{Leads, leading-laws}
 use Rattle.bintree.proofs.voxel.path_to.Statement.{statement}
 use Rattle.bintree.proofs.voxel.path_to.Tie as tie
-use Rattle.universe.proofs.Universe.axes_left.Reads as axes-left-reads
-use Rattle.universe.proofs.Universe.levels.Reads as levels-reads
 
 abbrev Inv-loop : tie.InvT-loop
 Inv-loop axes levels path₀ rest₀ left₀ path rest left = Leads axes levels rest₀ path rest left

@@ -2,9 +2,6 @@
 use Rattle.bintree.proofs.Voxels.{voxel-laws}
 use Rattle.bintree.proofs.voxel.voxel_answer.Statement.{statement}
 use Rattle.bintree.proofs.voxel.voxel_answer.Tie as tie
-use Rattle.bintree.proofs.Coloured.done.Reads as done-reads
-use Rattle.bintree.proofs.Coloured.refused.Reads as refused-reads
-use Rattle.bintree.proofs.voxel.voxel_refusal.Reads as voxel-refusal-reads
 
 pub voxel-answer-spec : {M : Type 1} → statement M
 voxel-answer-spec =

@@ -4,7 +4,6 @@ use Rattle.bintree.proofs.Voxels.{Inside, voxel-refusal-laws}
 use Rattle.universe.specs.Universe.{mostAxes}
 use Rattle.bintree.proofs.voxel.voxel_refusal.Statement.{statement}
 use Rattle.bintree.proofs.voxel.voxel_refusal.Tie as tie
-use Rattle.bintree.proofs.voxel.is_inside.Reads as is-inside-reads
 
 abbrev Inv-loop : tie.InvT-loop
 Inv-loop universe voxel axis₀ axis = Inside universe voxel axis

@@ -4,9 +4,6 @@ use Prim.Native.Nat.{_-_}
 use Rattle.bintree.proofs.Watches.{Tabled, table-laws}
 use Rattle.bintree.proofs.window.frame_bits.Statement.{statement}
 use Rattle.bintree.proofs.window.frame_bits.Tie as tie
-use Rattle.bintree.proofs.window.frame_halvings.Reads as frame-halvings-reads
-use Rattle.universe.proofs.Universe.axes_left.Reads as axes-left-reads
-use Rattle.universe.proofs.Universe.levels.Reads as levels-reads
 
 abbrev Inv-loop : tie.InvT-loop
 Inv-loop universe axes levels table₀ left₀ table left = Tabled universe table left

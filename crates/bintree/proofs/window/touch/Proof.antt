@@ -3,8 +3,6 @@
 use Rattle.bintree.proofs.Watches.{touch-laws}
 use Rattle.bintree.proofs.window.touch.Statement.{statement}
 use Rattle.bintree.proofs.window.touch.Tie as tie
-use Rattle.bintree.proofs.window.greater.Reads as greater-reads
-use Rattle.bintree.proofs.window.lesser.Reads as lesser-reads
 
 pub touch-spec : {M : Type 1} → statement M
 touch-spec =

@@ -3,11 +3,6 @@
 use Rattle.bintree.proofs.WindowAnswers.{verdict-laws}
 use Rattle.bintree.proofs.window.verdict_of.Statement.{statement}
 use Rattle.bintree.proofs.window.verdict_of.Tie as tie
-use Rattle.bintree.proofs.VerdictAnswer.refused.Reads as refused-reads
-use Rattle.bintree.proofs.window.watch.Reads as watch-reads
-use Rattle.bintree.proofs.window.window_answer.Reads as window-answer-reads
-use Rattle.universe.proofs.Universe.levels.Reads as levels-reads
-use Rattle.universe.proofs.Universe.refusal.Reads as refusal-reads
 
 pub verdict-of-spec : {M : Type 1} → statement M
 verdict-of-spec =

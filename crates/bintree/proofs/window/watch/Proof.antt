@@ -7,11 +7,6 @@ use lib.ListN.{length}
 use Rattle.bintree.proofs.Watching.{one, Watching, watching-start, Leafed, leafed-black, leafed-white, watching-last, watching-next, watching-laws}
 use Rattle.bintree.proofs.window.watch.Statement.{statement}
 use Rattle.bintree.proofs.window.watch.Tie as tie
-use Rattle.bintree.proofs.count.levels_of.Reads as levels-of-reads
-use Rattle.bintree.proofs.window.frame_bits.Reads as frame-bits-reads
-use Rattle.bintree.proofs.window.high_frame.Reads as high-frame-reads
-use Rattle.bintree.proofs.window.touch.Reads as touch-reads
-use Rattle.bintree.proofs.count.voxels_of.Reads as voxels-of-reads
 
 abbrev Inv-loop : tie.InvT-loop
 Inv-loop window expression at left frame bits first-frames₀ place₀ levels₀ from₀ owed₀ found₀ first-frames place levels from owed found =

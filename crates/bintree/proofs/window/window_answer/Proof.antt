@@ -2,9 +2,6 @@
 use Rattle.bintree.proofs.WindowAnswers.{window-laws}
 use Rattle.bintree.proofs.window.window_answer.Statement.{statement}
 use Rattle.bintree.proofs.window.window_answer.Tie as tie
-use Rattle.bintree.proofs.VerdictAnswer.done.Reads as done-reads
-use Rattle.bintree.proofs.VerdictAnswer.refused.Reads as refused-reads
-use Rattle.universe.proofs.Universe.window_refusal.Reads as window-refusal-reads
 
 pub window-answer-spec : {M : Type 1} → statement M
 window-answer-spec =

@@ -4,8 +4,6 @@ use Rattle.files.specs.Numbers.{fromBits, u64At, numberBytes}
 use Rattle.files.proofs.Numbers.{Filling, filling-laws}
 use Rattle.files.proofs.decode.read_numbers.Statement.{statement}
 use Rattle.files.proofs.decode.read_numbers.Tie as tie
-use Rattle.files.proofs.decode.from_bits.Reads as from-bits-reads
-use Rattle.files.proofs.decode.u64_at.Reads as u64-at-reads
 
 abbrev Inv-loop : tie.InvT-loop
 Inv-loop bytes at count out₀ i₀ out i = Filling count (λ k. fromBits (u64At bytes (at + numberBytes * k))) out₀ i out

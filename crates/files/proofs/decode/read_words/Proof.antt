@@ -4,7 +4,6 @@ use Rattle.files.specs.Numbers.{u16At, wordBytes}
 use Rattle.files.proofs.Numbers.{Filling, filling-laws}
 use Rattle.files.proofs.decode.read_words.Statement.{statement}
 use Rattle.files.proofs.decode.read_words.Tie as tie
-use Rattle.files.proofs.decode.u16_at.Reads as u16-at-reads
 
 abbrev Inv-loop : tie.InvT-loop
 Inv-loop bytes at count out₀ i₀ out i = Filling count (λ k. u16At bytes (at + wordBytes * k)) out₀ i out

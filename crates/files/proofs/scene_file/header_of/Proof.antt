@@ -2,8 +2,6 @@
 use Rattle.files.proofs.Scenes.{scene-laws}
 use Rattle.files.proofs.scene_file.header_of.Statement.{statement}
 use Rattle.files.proofs.scene_file.header_of.Tie as tie
-use Rattle.files.proofs.decode.byte_at.Reads as byte-at-reads
-use Rattle.files.proofs.decode.u16_at.Reads as u16-at-reads
 
 pub header-of-spec : {M : Type 1} → statement M
 header-of-spec =

@@ -2,9 +2,6 @@
 use Rattle.files.proofs.Scenes.{scene-laws}
 use Rattle.files.proofs.scene_file.is_scene.Statement.{statement}
 use Rattle.files.proofs.scene_file.is_scene.Tie as tie
-use Rattle.files.proofs.decode.byte_at.Reads as byte-at-reads
-use Rattle.files.proofs.decode.has_header.Reads as has-header-reads
-use Rattle.files.proofs.scene_file.is_whole.Reads as is-whole-reads
 
 pub is-scene-spec : {M : Type 1} → statement M
 is-scene-spec =

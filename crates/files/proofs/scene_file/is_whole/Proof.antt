@@ -2,7 +2,6 @@
 use Rattle.files.proofs.Scenes.{scene-laws}
 use Rattle.files.proofs.scene_file.is_whole.Statement.{statement}
 use Rattle.files.proofs.scene_file.is_whole.Tie as tie
-use Rattle.files.proofs.decode.u16_at.Reads as u16-at-reads
 
 pub is-whole-spec : {M : Type 1} → statement M
 is-whole-spec =

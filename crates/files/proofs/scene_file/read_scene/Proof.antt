@@ -3,11 +3,6 @@
 use Rattle.files.proofs.Scenes.{read-laws}
 use Rattle.files.proofs.scene_file.read_scene.Statement.{statement}
 use Rattle.files.proofs.scene_file.read_scene.Tie as tie
-use Rattle.files.proofs.Scene.refused.Reads as refused-reads
-use Rattle.files.proofs.decode.read_numbers.Reads as read-numbers-reads
-use Rattle.files.proofs.decode.read_words.Reads as read-words-reads
-use Rattle.files.proofs.scene_file.scene_header.Reads as scene-header-reads
-use Rattle.files.proofs.scene_file.scene_refusal.Reads as scene-refusal-reads
 
 pub read-scene-spec : {M : Type 1} → statement M
 read-scene-spec =

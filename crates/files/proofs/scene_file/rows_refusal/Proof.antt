@@ -3,8 +3,6 @@
 use Rattle.files.proofs.Scenes.{array-laws}
 use Rattle.files.proofs.scene_file.rows_refusal.Statement.{statement}
 use Rattle.files.proofs.scene_file.rows_refusal.Tie as tie
-use Rattle.csg.proofs.check_rows.Reads as check-rows-reads
-use Rattle.files.proofs.decode.read_numbers.Reads as read-numbers-reads
 
 pub rows-refusal-spec : {M : Type 1} → statement M
 rows-refusal-spec =

@@ -2,9 +2,6 @@
 use Rattle.files.proofs.Scenes.{scene-laws}
 use Rattle.files.proofs.scene_file.scene_header.Statement.{statement}
 use Rattle.files.proofs.scene_file.scene_header.Tie as tie
-use Rattle.files.proofs.Scene.refused.Reads as refused-reads
-use Rattle.files.proofs.scene_file.header_of.Reads as header-of-reads
-use Rattle.files.proofs.scene_file.is_scene.Reads as is-scene-reads
 
 pub scene-header-spec : {M : Type 1} → statement M
 scene-header-spec =

@@ -3,10 +3,6 @@
 use Rattle.files.proofs.Scenes.{refusal-laws}
 use Rattle.files.proofs.scene_file.scene_refusal.Statement.{statement}
 use Rattle.files.proofs.scene_file.scene_refusal.Tie as tie
-use Rattle.files.proofs.scene_file.rows_refusal.Reads as rows-refusal-reads
-use Rattle.files.proofs.scene_file.words_refusal.Reads as words-refusal-reads
-use Rattle.universe.proofs.Universe.refusal.Reads as refusal-reads
-use Rattle.universe.proofs.Universe.window_refusal.Reads as window-refusal-reads
 
 pub scene-refusal-spec : {M : Type 1} → statement M
 scene-refusal-spec =

@@ -3,8 +3,6 @@
 use Rattle.files.proofs.Scenes.{array-laws}
 use Rattle.files.proofs.scene_file.words_refusal.Statement.{statement}
 use Rattle.files.proofs.scene_file.words_refusal.Tie as tie
-use Rattle.csg.proofs.check_tree.Reads as check-tree-reads
-use Rattle.files.proofs.decode.read_words.Reads as read-words-reads
 
 pub words-refusal-spec : {M : Type 1} → statement M
 words-refusal-spec =

@@ -2,8 +2,6 @@
 use Rattle.files.proofs.Shapes.{shape-laws}
 use Rattle.files.proofs.shape_file.is_shape.Statement.{statement}
 use Rattle.files.proofs.shape_file.is_shape.Tie as tie
-use Rattle.files.proofs.decode.has_header.Reads as has-header-reads
-use Rattle.files.proofs.decode.u32_at.Reads as u32-at-reads
 
 pub is-shape-spec : {M : Type 1} → statement M
 is-shape-spec =

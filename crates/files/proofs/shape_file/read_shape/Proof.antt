@@ -3,11 +3,6 @@
 use Rattle.files.proofs.Shapes.{read-laws}
 use Rattle.files.proofs.shape_file.read_shape.Statement.{statement}
 use Rattle.files.proofs.shape_file.read_shape.Tie as tie
-use Rattle.files.proofs.ShapeRead.refused.Reads as refused-reads
-use Rattle.files.proofs.ShapeRead.short.Reads as short-reads
-use Rattle.bintree.proofs.copy.Reads as copy-reads
-use Rattle.files.proofs.shape_file.shape_header.Reads as shape-header-reads
-use Rattle.files.proofs.shape_file.shape_refusal.Reads as shape-refusal-reads
 
 pub read-shape-spec : {M : Type 1} → statement M
 read-shape-spec =

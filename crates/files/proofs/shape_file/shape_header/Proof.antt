@@ -2,9 +2,6 @@
 use Rattle.files.proofs.Shapes.{shape-laws}
 use Rattle.files.proofs.shape_file.shape_header.Statement.{statement}
 use Rattle.files.proofs.shape_file.shape_header.Tie as tie
-use Rattle.files.proofs.ShapeRead.refused.Reads as refused-reads
-use Rattle.files.proofs.shape_file.header_of.Reads as header-of-reads
-use Rattle.files.proofs.shape_file.is_shape.Reads as is-shape-reads
 
 pub shape-header-spec : {M : Type 1} → statement M
 shape-header-spec =

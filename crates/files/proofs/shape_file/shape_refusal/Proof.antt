@@ -2,7 +2,6 @@
 use Rattle.files.proofs.Shapes.{shape-refusal-laws}
 use Rattle.files.proofs.shape_file.shape_refusal.Statement.{statement}
 use Rattle.files.proofs.shape_file.shape_refusal.Tie as tie
-use Rattle.files.proofs.shape_file.symbols_refusal.Reads as symbols-refusal-reads
 
 pub shape-refusal-spec : {M : Type 1} → statement M
 shape-refusal-spec =

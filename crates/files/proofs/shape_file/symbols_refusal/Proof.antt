@@ -2,7 +2,6 @@
 use Rattle.files.proofs.Measuring.{measuring-laws}
 use Rattle.files.proofs.shape_file.symbols_refusal.Statement.{statement}
 use Rattle.files.proofs.shape_file.symbols_refusal.Tie as tie
-use Rattle.bintree.proofs.merge.Reads as merge-reads
 
 pub symbols-refusal-spec : {M : Type 1} → statement M
 symbols-refusal-spec =

@@ -7,12 +7,6 @@ use Rattle.files.specs.Shapes.{shapeLength}
 use Rattle.files.proofs.Shapes.{write-laws}
 use Rattle.files.proofs.shape_file.write_shape.Statement.{statement}
 use Rattle.files.proofs.shape_file.write_shape.Tie as tie
-use Rattle.bintree.proofs.Written.done.Reads as done-reads
-use Rattle.bintree.proofs.Written.refused.Reads as refused-reads
-use Rattle.bintree.proofs.Written.short.Reads as short-reads
-use Rattle.bintree.proofs.copy.Reads as copy-reads
-use Rattle.files.proofs.shape_file.header_bytes.Reads as header-bytes-reads
-use Rattle.files.proofs.shape_file.symbols_refusal.Reads as symbols-refusal-reads
 
 pub write-shape-spec : {M : Type 1} → statement M
 write-shape-spec =

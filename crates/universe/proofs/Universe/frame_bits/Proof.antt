@@ -1,6 +1,6 @@
 -- `Universe::frame_bits` gives the bits of the last axis; without axes it is axis 0 that stands for it.
-use mathlib.Core.Path.{_≡_, sym, ap, _∙_}
-use Prim.Native.Nat.{ℕ, _-_}
+use mathlib.Core.Path.{_≡_, ap, _∙_}
+use Prim.Native.Nat.{ℕ}
 use native.Mathlib.Omega.{arith}
 use borrow.Author.Needs.{needs}
 use Rattle.universe.specs.declared.Universe.{Universe}
