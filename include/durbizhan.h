@@ -2,8 +2,8 @@
  *
  * Every function returns the number of its refusal, 0 where it accepts; durbizhan_leaves and durbizhan_lines alone
  * return a count.
- * READ THE NUMBER FIRST. All other fields of a refused answer are zero: a refused verdict is Clear, a refused colour
- * is WHITE, and neither says anything about the shapes.
+ * READ THE NUMBER FIRST. The rest of a refused answer is zeros: a refused verdict is Clear, a refused colour is WHITE,
+ * and neither says anything about the shapes.
  * The numbers have names below, and DURBIZHAN_ is left off where one is named in a comment.
  *
  * A lent buffer is a pointer and the number of its elements. It is not written to where the call is refused, nor past
@@ -13,7 +13,8 @@
  * conversion or a verdict takes up to 80 KiB of the stack, durbizhan_lines up to 128 KiB.
  *
  * rows: five numbers a0 to a4 to a halfspace, which holds where a0 + a1*x1 + .. + a4*x4 >= 0.
- * words: a tree in postfix order: 0 WHITE, 1 BLACK, 2 UNION, 3 INTERSECTION, 4 MINUS, 256 + i halfspace i.
+ * words: a tree in postfix order. 0 is WHITE, 1 BLACK; 2 joins by UNION, 3 by INTERSECTION, 4 by MINUS; 256 + i is
+ * halfspace i.
  * expressions: one byte a symbol, '(' then the low and the high half, 'B' or 'W'.
  */
 #ifndef DURBIZHAN_H
@@ -24,25 +25,26 @@
 
 /* Nothing is refused. */
 #define DURBIZHAN_ACCEPTED 0
-/* file: short of its header, mark, version, zero byte, or length wrong */
+/* no scene or no shape: its mark, its version, its zero byte or its length */
 #define DURBIZHAN_BAD_FILE 1
-/* axes or bits outside their range (axes 1 to 4, bits 0 to 10) */
+/* axes not 1 to 4, or bits over 10 */
 #define DURBIZHAN_BAD_UNIVERSE 2
-/* rows not in fives, over 256 of them, a coefficient outside its limit, or nonzero above the axes */
+/* a row that is not five numbers, over 256 rows, a number past its limit, or not 0 for an axis that is not there */
 #define DURBIZHAN_BAD_ROWS 3
-/* tree empty, unknown word, index past the rows, operator with under two pending, not one left */
+/* words that do not make one shape: none, one that means nothing or names no row, too few shapes for an operator, or
+ * too many left */
 #define DURBIZHAN_BAD_TREE 4
-/* over 255 words, or a 33rd shape pending */
+/* more than 255 words, or more than 32 shapes pending */
 #define DURBIZHAN_OVERFULL_TREE 5
-/* symbols (or file bytes) needed exceed the room lent; the length needed is in the answer */
+/* more symbols (of a file: bytes) than are lent; how many it takes is in the answer */
 #define DURBIZHAN_NO_ROOM 6
 /* expression not well-formed */
 #define DURBIZHAN_BAD_EXPRESSION 7
-/* shape file's expression not merged */
+/* an expression for a shape file, or from one, that is not merged */
 #define DURBIZHAN_NOT_MERGED 8
-/* voxel, path or window outside the universe, a nonzero place above the axes, or first > last */
+/* a voxel, path or window that the universe does not hold, or a window that ends before it begins */
 #define DURBIZHAN_OUTSIDE 9
-/* proxy number not a finite multiple of 1/16 within its limit, or near > far */
+/* a number of a proxy that is no whole number of sixteenths or is past its limit, or near over far */
 #define DURBIZHAN_BAD_PROXY 10
 
 #ifdef __cplusplus
@@ -105,13 +107,14 @@ uint64_t durbizhan_volume(uint64_t axes, uint64_t bits,
                           const uint8_t *expression, size_t expression_count,
                           uint64_t answer[1]);
 
-/* answer[0]: the colour at a voxel, 0 WHITE or 1 BLACK. Places above the axes are 0; the last axis is the frame. */
+/* answer[0]: the colour at a voxel, 0 WHITE or 1 BLACK. Places above the axes are 0; the last is the frame. */
 uint64_t durbizhan_colour(uint64_t axes, uint64_t bits,
                           const uint8_t *expression, size_t expression_count,
                           uint64_t x, uint64_t y, uint64_t z, uint64_t t,
                           uint64_t answer[1]);
 
-/* The part of an expression for one block, by a path of bytes, 0 low and 1 high. answer: start, length. */
+/* Where a block's part of an expression stands; its path has a byte for each half, 0 low or 1 high. answer: start,
+ * length. */
 uint64_t durbizhan_part(uint64_t axes, uint64_t bits,
                         const uint8_t *expression, size_t expression_count,
                         const uint8_t *path, size_t path_count,
@@ -147,7 +150,7 @@ uint64_t durbizhan_shape_write(uint64_t axes, uint64_t bits,
                                uint8_t *out, size_t out_count,
                                uint64_t answer[1]);
 
-/* The six rows of a stand-in Box for axes 4, x near, x far, then y, then z; the displacement is per frame. ACCEPTED or
+/* The six rows of a stand-in Box for axes 4, near and far of x, of y, of z; the displacement is per frame. ACCEPTED or
  * BAD_PROXY; on BAD_PROXY all rows are zero. */
 uint64_t durbizhan_box(double near_x, double near_y, double near_z,
                        double far_x, double far_y, double far_z,

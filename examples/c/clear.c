@@ -1,4 +1,4 @@
-/* Document 01's example scene, converted and judged from C. At the repository's top, on x86-64 (on another processor
+/* The scene of examples/program.txt, converted and judged from C. At the repository's top, on x86-64 (on another processor
  * `tests/native` builds the archive, as target/native/libexport.a):
  *
  *   rt staticlib export

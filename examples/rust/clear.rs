@@ -1,4 +1,4 @@
-//! Document 01's example scene, converted and judged from Rust, through a safe wrapper. At the repository's top, on
+//! The scene of examples/program.txt, converted and judged from Rust, through a safe wrapper. At the repository's top, on
 //! x86-64 (on another processor `tests/native` builds the archive, as target/native/libexport.a):
 //!
 //! ```sh
@@ -50,7 +50,7 @@ mod durbizhan {
     pub const ACCEPTED: u64 = 0;
     pub const NO_ROOM: u64 = 6;
 
-    /// Why a call was refused: document 01's number, and on NO_ROOM the length needed.
+    /// Why a call was refused: the number of rule 8.1, and on NO_ROOM the length needed.
     #[derive(Debug, PartialEq)]
     pub struct Refused {
         pub number: u64,

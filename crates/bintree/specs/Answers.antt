@@ -1,6 +1,6 @@
--- Document 01, "Numbers we say no with": what all questions over an expression have in common. The first of the checks,
--- in the order 2, 7, 9, that refuses is the answer's number, with all other fields zero; a call that writes symbols (or
--- bytes) into lent room then asks for room, 6.
+-- Rules 8.3 to 8.5: what all questions over an expression have in common. The first of the checks, in the order 2, 7,
+-- 9, that refuses is the answer's number, and the rest of the answer is zero; a call that writes symbols (or bytes)
+-- into lent room then asks for room, 6.
 use Prim.Native.Nat.{ℕ}
 use mathlib.Core.Bool.{cond}
 use mathlib.Core.List.{List, [], _∷_}
@@ -23,15 +23,15 @@ ofShape (read a) other of = of a
 abbrev pub unlessRefused : {A : Type 0} → ℕ → (ℕ → A) → A → A
 unlessRefused number refused done = cond (eqb number 0) done (refused number)
 
--- the checks of an expression: 2, then 7
+-- rule 8.5: the checks of an expression, 2 and then 7
 abbrev pub expressionChecks : Universe → List ℕ → List ℕ
 expressionChecks u s = universeRefusal u ∷ expressionRefusal u s ∷ []
 
 abbrev pub wellFormedRefusal : Universe → List ℕ → ℕ
 wellFormedRefusal u s = firstRefusal (expressionChecks u s)
 
--- a call that writes is refused, has too little room, or is done: "Number 6 also returns the length needed. All other
--- fields of a refused answer are zero."
+-- a call that writes is refused, has too little room, or is done; rule 8.3: with 6 comes the length that is needed, and
+-- with another number 0
 abbrev pub refusedWriting : ℕ → Written
 refusedWriting number = record { refusal = number; length = 0 }
 
@@ -48,6 +48,6 @@ writtenAnswer refusal out symbols =
     (unlessRefused (roomRefusal (length out) (length symbols)) (λ six. shortWriting (length symbols))
     (doneWriting (length symbols)))
 
--- and what it leaves there
+-- and what it leaves there (rule 8.4)
 unfoldable pub writtenBuffer : ℕ → List ℕ → List ℕ → List ℕ
 writtenBuffer refusal out symbols = overwritten (writtenAnswer refusal out symbols .refusal) symbols out

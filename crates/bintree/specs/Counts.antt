@@ -1,5 +1,5 @@
--- Black voxels of a shape: all of them (its volume), and those of one frame; and what the question for the volume
--- answers. A shape stands for a block of level l.
+-- Rules 4.8 and 5.2: black voxels of a shape, all of them (its volume) and those of one frame; and what the question
+-- for the volume answers. A shape stands for a block of level l.
 use Prim.Native.Nat.{ℕ, suc, _+_}
 use mathlib.Core.Bool.{Bool, true, false}
 use mathlib.Core.List.{List}
@@ -14,7 +14,7 @@ use Rattle.bintree.specs.Shape.{Shape, leaf, halved}
 use Rattle.bintree.specs.Reading.{expression}
 use Rattle.bintree.specs.Answers.{ofShape, unlessRefused, wellFormedRefusal}
 
--- a black block of level l counts the voxels in it: the product of its lengths
+-- rule 4.8: a black block of level l counts the voxels in it, the product of its lengths
 unfoldable pub volumeFrom : Universe → ℕ → Shape → ℕ
 volumeFrom u l (leaf Black) = product (u .axes) (blockSide u l)
 volumeFrom u l (leaf White) = 0

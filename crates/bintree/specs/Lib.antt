@@ -1,5 +1,5 @@
--- Document 01, "Expressions" and "Verdicts": shapes and their symbols, reading, merging, parts and colours, counts,
--- verdicts, and what each question answers.
+-- Expressions and verdicts (rules, sections 4 and 5): shapes and their symbols, reading, merging, parts and colours,
+-- counts, verdicts, and what each question answers.
 pub mod Shape
 pub mod Reading
 pub mod Answers

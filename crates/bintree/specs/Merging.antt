@@ -1,5 +1,5 @@
--- Document 01, "Expressions": merged is "what remains when each `(BB` becomes `B` and each `(WW` becomes `W`, until
--- none is left"; and what merging answers and writes.
+-- Rules 4.3 and 4.10: merged is what is left once every halved block whose parts are two leaves of one colour has been
+-- replaced by that leaf, again and again; and what merging answers and writes.
 use Prim.Native.Nat.{ℕ}
 use mathlib.Core.Bool.{Bool, true, false, not, _&&_}
 use mathlib.Core.List.{List, []}
@@ -21,7 +21,7 @@ join (leaf White) (leaf Black) = halved (leaf White) (leaf Black)
 join (leaf c) (halved a b) = halved (leaf c) (halved a b)
 join (halved a b) s = halved (halved a b) s
 
--- the merged shape
+-- rule 4.3: the merged shape
 unfoldable pub merged : Shape → Shape
 merged (leaf c) = leaf c
 merged (halved a b) = join (merged a) (merged b)
@@ -48,7 +48,7 @@ unfoldable pub isMerged : Shape → Bool
 isMerged (leaf c) = true
 isMerged (halved a b) = not (isPair a b) && isMerged a && isMerged b
 
--- merging writes the merged expression
+-- rule 4.10: merging writes the merged expression
 abbrev pub mergedSymbols : Universe → List ℕ → List ℕ
 mergedSymbols u s = ofShape (expression u s) [] (λ a. symbols (merged a))
 

@@ -1,5 +1,5 @@
--- Document 01, "Expressions": the part for a block, asked by a path; the colour at a voxel, that of the part for the
--- voxel's own block; and what the two questions answer.
+-- Rules 4.6 and 4.9: the part for a block, found by a path; the colour at a voxel, that of the part for the voxel's own
+-- block; and what the two questions answer.
 use Prim.Native.Nat.{ℕ, suc, _+_}
 use mathlib.Core.Bool.{cond, _&&_}
 use mathlib.Core.List.{List, [], _∷_}
@@ -18,11 +18,11 @@ use Rattle.bintree.specs.Shape.{Shape, leaf, halved, size}
 use Rattle.bintree.specs.Reading.{expression, expressionRefusal}
 use Rattle.bintree.specs.Answers.{ofShape, unlessRefused}
 
--- number 9: "a path of at most L bytes, 0 low and 1 high; a longer path or another byte is refused 9"
+-- rule 8.1, number 9: a path that is longer than L, or has a byte that is neither 0 nor 1
 unfoldable pub pathRefusal : Universe → List ℕ → ℕ
 pathRefusal u path = unless (leb (length path) (levels u) && every (length path) (λ i. ltb (getD path i 0) 2)) outside
 
--- the part for the block at the end of a path; "where the path runs below a leaf, it is that one symbol"
+-- rule 4.6: the part for the block at the end of a path; one that goes on below a leaf ends at that leaf
 unfoldable pub part : Shape → List ℕ → Shape
 part (leaf c) path = leaf c
 part (halved a b) [] = halved a b
@@ -53,14 +53,14 @@ placeAnswer u s path =
     unlessRefused (partRefusal u s path) refusedPlace
     (ofShape (expression u s) (donePlace 0 0) (λ a. donePlace (partStart a path) (size (part a path))))
 
--- "It is a part of the caller's own expression", cut there; "A refusal hands back the empty part"
+-- rule 4.6: the part is cut there from the bytes that were lent; a refusal has length 0, and so the empty part
 abbrev pub cutAt : List ℕ → Placed → List ℕ
 cutAt s place = take (place .length) (drop (place .start) s)
 
 unfoldable pub partAnswer : Universe → List ℕ → List ℕ → List ℕ
 partAnswer u s path = cutAt s (placeAnswer u s path)
 
--- the colour of a part that is one; a voxel's own block is never halved
+-- rule 4.9: the colour of a part that is one; a voxel's own block is never halved
 abbrev pub colourOf : Shape → Colour
 colourOf (leaf c) = c
 colourOf (halved a b) = White

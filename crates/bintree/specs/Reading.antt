@@ -1,4 +1,4 @@
--- Document 01, "Expressions": "A well-formed expression is exactly one tree, with no `(` at level L."
+-- Rule 4.4: bytes are well-formed where they are one tree, whole and alone, that is never halved at level L.
 use Prim.Native.Nat.{ℕ, zero, suc, _+_}
 use mathlib.Core.Bool.{true, false, cond}
 use mathlib.Core.List.{List}
@@ -46,7 +46,7 @@ exactly n (read a) = cond (eqb (size a) n) (read a) none
 unfoldable pub expression : Universe → List ℕ → Reading
 expression u s = exactly (length s) (readAt s (levels u) 0)
 
--- number 7 exactly where it is not
+-- rule 8.1, number 7: exactly where it is not
 abbrev pub readingRefusal : Reading → ℕ
 readingRefusal none = badExpression
 readingRefusal (read a) = 0

@@ -1,5 +1,5 @@
--- Document 01, "Expressions": a shape, and its symbols, one byte each: `(` for a halved block, then its low and its
--- high part; `B`; `W`.
+-- Rule 4.1: a shape, and its symbols, one byte each: `(` for a halved block, followed by its parts, `B` or `W` for a
+-- block of one colour.
 use Prim.Native.Nat.{ℕ, suc, _+_, max}
 use mathlib.Core.List.{List, [], _∷_, _++_}
 use Rattle.bintree.specs.declared.Colour.{Colour}

@@ -1,5 +1,5 @@
--- Document 01, "Verdicts": Clear, or Hit with first frame, last frame and black voxel count, over frames first to last,
--- both ends in; and what the question for the verdict answers.
+-- Rules 5.1, 5.2 and 5.4: over a window, Clear where no voxel is black, else Hit with the first and the last frame that
+-- has a black voxel, and how many there are; and what the question for the verdict answers.
 use Prim.Native.Nat.{ℕ, zero, suc, _+_, _-_}
 use mathlib.Core.Bool.{Bool, cond}
 use mathlib.Core.List.{List, [], _∷_}
@@ -17,7 +17,7 @@ use Rattle.bintree.specs.Reading.{expression, expressionRefusal}
 use Rattle.bintree.specs.Answers.{ofShape, unlessRefused}
 use Rattle.bintree.specs.Counts.{voxelsAt}
 
--- how many frames a window holds: both ends are in
+-- rule 5.1: how many frames a window holds, both its ends in it
 abbrev pub windowLength : ℕ → ℕ → ℕ
 windowLength first last = suc last - first
 
@@ -38,6 +38,7 @@ voxelsIn u s first last = sum (windowLength first last) (λ c. voxelsAt u s (fir
 abbrev pub isHit : Universe → Shape → ℕ → Bool
 isHit u s frame = ltb 0 (voxelsAt u s frame)
 
+-- rule 5.2: Hit where the window has a black voxel, else Clear
 unfoldable pub verdict : Universe → Shape → ℕ → ℕ → Verdict
 verdict u s first last =
     cond (ltb 0 (voxelsIn u s first last))

@@ -1,5 +1,5 @@
--- What the crate's own walks over an expression tell, from the shape that is read where they begin. A block with n
--- levels left has 2ⁿ voxels.
+-- How walks over an expression meet rules 4.4, 4.6 and 4.8 to 4.10: what each tells, from the shape that is read where
+-- it begins. A block with n levels left has 2ⁿ voxels.
 use Prim.Native.Nat.{ℕ, _+_, _-_, _^_}
 use mathlib.Core.Path.{_≡_}
 use mathlib.Core.Bool.{Bool, false, cond}

@@ -1,6 +1,6 @@
--- How one walk over an expression finds the contact of its shape with a window: block by block, each black block joins
--- its frames in the window. A contact with no black voxel yet has voxels 0 and the window's ends the other way round,
--- so that the first frames joined take their places.
+-- How one walk over an expression meets rule 5.2, and finds the contact of its shape with a window: block by block,
+-- each black block joins its frames in the window. A contact with no black voxel yet has voxels 0 and the window's ends
+-- the other way round, so that the first frames joined take their places.
 use Prim.Native.Nat.{ℕ, suc, _+_, _-_, _*_, _^_, _≤_, min, max}
 use mathlib.Core.Path.{_≡_}
 use mathlib.Core.Bool.{cond}

@@ -1,4 +1,4 @@
--- Document 01's P cases hold: the closed ones by computation, both sides being computed and compared; the quantified ones since no level is
+-- The worked cases hold: the closed ones by computation, both sides being computed and compared; the quantified ones since no level is
 -- counted where there are no halfspace words, and there are no levels where there are no bits.
 use Prim.Native.Nat.{ℕ, zero, suc}
 use mathlib.Core.Path.{_≡_, refl}

@@ -1,5 +1,5 @@
--- Document 01, "Both sides of the edges": the cases marked P, as one list, and after them both sides of the last word
--- that names a halfspace. A closed case is one line: what is computed, and what it must be.
+-- Worked cases, numbered, as one list, and after them both sides of the last word that names a halfspace. A closed case
+-- is one line: what is computed, and what it must be.
 use Prim.Native.Nat.{ℕ, _+_}
 use Prim.Native.String.{String}
 use Prim.Native.Char.{code}
@@ -29,7 +29,7 @@ use Rattle.csg.specs.Raw.{raw, both}
 abbrev pub universe : ℕ → ℕ → Universe
 universe d k = record { axes = d; bits = k }
 
--- "Expressions are for d 2, k 2."
+-- the universe of every case that names no other
 abbrev pub square : Universe
 square = universe 2 2
 
@@ -65,11 +65,11 @@ abbrev pub leavesIn : Trees → ℕ
 leavesIn (one ws) = halfspaceWords ws
 leavesIn (two ws₁ ws₂) = halfspaceWords ws₁ + halfspaceWords ws₂
 
--- case 1: (−2,2,−1)
+-- case 1: a halfspace that is aslant
 abbrev pub slanted : Scene
 slanted = record { surfaces = surfacesOf (row (minus 2) (pos 2) (minus 1) []); trees = one (256 ∷ []) }
 
--- cases 2 and 3: (−2,1,0), (−2,0,1), (6,−1,−1) intersected
+-- cases 2 and 3: a triangle, of three halfspaces intersected
 abbrev pub triangle : Scene
 triangle =
     record {
@@ -132,7 +132,7 @@ abbrev pub mergedOf : Reading → List ℕ
 mergedOf none = []
 mergedOf (read s) = symbols (merged s)
 
--- the closed cases, by document 01's numbers
+-- the closed cases, by their numbers
 abbrev pub closed : List Case
 closed =
     -- 1
@@ -174,11 +174,11 @@ closed =
     ∷ (wordRefusal 255 511 is number 4)
     ∷ []
 
--- 6: "N = 0 has room 1", for all d and k
+-- 6: where no word names a halfspace, room is 1, in every universe
 abbrev pub NoLeavesRoom : Type 0
 NoLeavesRoom = (u : Universe) → room u 0 ≡ 1
 
--- 8: "k = 0: one symbol always, room 1", for all d, surfaces and trees
+-- 8: without bits there is one symbol, and room for one, for all axes, surfaces and trees
 abbrev pub isOneSymbol : Shape → Type 0
 isOneSymbol s = (length (symbols s) ≡ 1) × (length (symbols (merged s)) ≡ 1)
 

@@ -1,2 +1,2 @@
--- Document 01, "Both sides of the edges".
+-- Worked cases of the definitions.
 pub mod Cases

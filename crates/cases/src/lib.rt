@@ -1,1 +1,1 @@
-// No code: document 01's cases of the definitions, in specs/, and their theorem, in proofs/.
+// No code: worked cases of the definitions, in specs/, and their theorem, in proofs/.

@@ -1,4 +1,4 @@
-// Document 01's cases run through the entry points: a line for each answer, with the refusal first and every byte of
+// The worked cases run through the entry points: a line for each answer, with the refusal first and every byte of
 // the lent room, so that what was not to be written shows as the `.` it was.
 use bintree::Verdict;
 use bintree::Written;

@@ -1,5 +1,5 @@
--- What the conversions and the verdict of two trees answer. Order of refusals: 2, 3, the trees one after the other, for
--- a verdict 9, and 6.
+-- What the conversions (rules 4.2 and 4.3) and the verdict of two trees (5.2 and 5.3) answer. By rule 8.5 the refusals
+-- are in the order 2, 3, tree 1, tree 2, for a verdict 9, and 6.
 use Prim.Native.Nat.{ℕ}
 use mathlib.Core.Bool.{Bool, cond}
 use mathlib.Core.List.{List, [], _∷_}
@@ -23,7 +23,7 @@ use Rattle.convert.specs.declared.verdict.Clearance.{Clearance}
 use Rattle.convert.specs.Blocks.{treesOf}
 use Rattle.convert.specs.Shapes.{shaped}
 
--- the checks before 6, of one tree and of two
+-- rules 8.5 and 8.8: the checks before 6, of one tree and of two
 unfoldable pub oneTreeChecks : Universe → Surfaces → List ℕ → List ℕ
 oneTreeChecks u surfaces words =
     universeRefusal u ∷ rowsRefusal u (surfaces .rows) ∷ treeRefusal (named surfaces) words ∷ []
@@ -42,14 +42,14 @@ oneTreeRefusal u surfaces words = firstRefusal (oneTreeChecks u surfaces words)
 abbrev pub twoTreesRefusal : Universe → Surfaces → List ℕ → List ℕ → ℕ
 twoTreesRefusal u surfaces first second = firstRefusal (twoTreesChecks u surfaces first second)
 
--- the raw expression of one tree, and of two intersected
+-- rule 4.2: the raw expression of one tree, and of two intersected
 unfoldable pub rawOfOne : Universe → Surfaces → List ℕ → List ℕ
 rawOfOne u surfaces words = symbols (raw u surfaces (treeOf (named surfaces) words))
 
 unfoldable pub rawOfTwo : Universe → Surfaces → List ℕ → List ℕ → List ℕ
 rawOfTwo u surfaces first second = symbols (raw u surfaces (treesOf surfaces first second))
 
--- the merged ones
+-- rule 4.3: the merged ones
 unfoldable pub mergedOfOne : Universe → Surfaces → List ℕ → List ℕ
 mergedOfOne u surfaces words = symbols (merged (raw u surfaces (treeOf (named surfaces) words)))
 
@@ -60,7 +60,7 @@ mergedOfTwo u surfaces first second = symbols (merged (raw u surfaces (treesOf s
 unfoldable pub writtenOfTwo : Bool → Universe → Surfaces → List ℕ → List ℕ → List ℕ
 writtenOfTwo merging u surfaces first second = symbols (shaped merging (raw u surfaces (treesOf surfaces first second)))
 
--- what a conversion answers, and what it leaves of the room lent
+-- rules 8.3 and 8.4: what a conversion answers, and what it leaves of the room lent
 unfoldable pub rawOfOneAnswer : Universe → Surfaces → List ℕ → List ℕ → Written
 rawOfOneAnswer u surfaces words out = writtenAnswer (oneTreeRefusal u surfaces words) out (rawOfOne u surfaces words)
 
@@ -98,7 +98,7 @@ clearanceChecks u surfaces first second from to = twoTreesRefusal u surfaces fir
 abbrev pub clearanceRefusal : Universe → Surfaces → List ℕ → List ℕ → ℕ → ℕ → ℕ
 clearanceRefusal u surfaces first second from to = firstRefusal (clearanceChecks u surfaces first second from to)
 
--- a verdict is refused, "a verdict among them is Clear", or done; the length is the raw expression's, needed on 6
+-- a verdict is refused, and then Clear (rule 8.3), or done; the length is the raw expression's, needed on 6
 abbrev pub refusedClearance : ℕ → ℕ → Clearance
 refusedClearance number length = record { refusal = number; verdict = Clear; length = length }
 

@@ -1,5 +1,5 @@
--- The state of the conversion's recursion: a block's low places and its sides, the levels left below it, and the axis
--- to halve.
+-- The state of the recursion by which rule 4.2 is met: a block's low places and its sides, the levels left below it,
+-- and the axis to halve.
 use Prim.Native.Nat.{ℕ, zero, suc, _+_, _-_, _/_, _≤_, _<_}
 use mathlib.Core.Path.{_≡_}
 use mathlib.Core.List.{List}
@@ -64,7 +64,7 @@ halvedSides side axis = set side axis (halfSide side axis)
 abbrev pub highLows : List ℕ → List ℕ → ℕ → List ℕ
 highLows low side axis = set low axis (getD low axis 0 + halfSide side axis)
 
--- how a block is judged: by the tree's mark, at level L by its colour at the centre
+-- rule 4.2: how a block is judged, by the tree's mark, at level L by its colour at the centre
 unfoldable pub judged : Surfaces → Tree → ℕ → Block → Mark
 judged surfaces t zero b = decided (treeColour surfaces (b .universe) t (b .low))
 judged surfaces t (suc n) b = treeMark surfaces t b

@@ -1,5 +1,5 @@
--- How code judges a tree: a row's value at the centre of a block and how far it reaches, and a pending shape's mark
--- with its reversal's in four bits.
+-- How code judges a tree by rules 2.3, 2.4 and 3.3 to 3.5: a row's value at the centre of a block and how far it
+-- reaches, and a pending shape's mark with its reversal's in four bits.
 use Prim.Native.Nat.{ℕ, zero, suc, _+_, _*_, _/_, _%_}
 use mathlib.Core.Bool.{Bool, true, false, cond}
 use mathlib.Core.List.{List}

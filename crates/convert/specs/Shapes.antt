@@ -1,5 +1,5 @@
--- What the recursion lays of a block and joins: a shape as it is, or merged. A leaf is held back, for its parent to
--- write.
+-- How one recursion meets rules 4.2 and 4.3: what it lays of a block and joins, a shape as it is or merged. A leaf is
+-- held back, for its parent to write.
 use Prim.Native.Nat.{ℕ, _+_, _-_, _^_, _≤_, _<_}
 use mathlib.Core.Path.{_≡_}
 use mathlib.Core.Bool.{Bool, true, false, cond, _&&_}

@@ -1,4 +1,4 @@
--- Numbers so small that no product and no sum of the conversion overflows: document 01's limits.
+-- Numbers so small that no product and no sum of the conversion overflows: the limits of rules 1.1 and 2.1.
 use Prim.Native.Nat.{ℕ, _+_, _*_, _≤_, _<_}
 use mathlib.Core.List.{List}
 use lib.IntN.{ℤ, natAbs}

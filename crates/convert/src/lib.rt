@@ -1,5 +1,5 @@
-// Conversion of one tree, or of two trees intersected, to the raw and to the merged expression in lent room. Read the
-// refusal first: the length is what was written where it is 0, what is needed where it is 6, and else 0.
+// The raw and the merged expression of a tree, or of two intersected, written into lent room. Read the refusal first:
+// the length is what was written where it is 0, what is needed where it is 6, and else 0.
 mod block;
 mod conversion;
 mod judge;

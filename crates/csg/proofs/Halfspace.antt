@@ -105,7 +105,7 @@ pub greatest-is : (h : Halfspace) (b : Block) →
 unfolding greatest rise fall
 greatest-is h b = is-add (is-self (h .offset)) (total-is (axesOf b) _ _ _ (λ i m. ends-are (h .coefficient i) (lowAlong b i) (endAlong b i) (omega arith) .1))
 
--- ---- "min and max are the least and greatest values at its corners"
+-- ---- rule 2.4: least and greatest are among the values at a block's corners
 corner-within : (b : Block) (choice : ℕ → Bool) (i : ℕ) → (lowAlong b i ≤ corner b choice i) × (corner b choice i ≤ endAlong b i)
 corner-within b choice i = by (choice i)
   where

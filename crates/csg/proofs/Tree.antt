@@ -48,8 +48,7 @@ reversal-turned (node minus a b) = ap₂ unionOf (reversal-turned a) (sym (turne
 pub plain-turned : (t : Tree) → plain t ≡ turned (reversal t)
 plain-turned t = sym (turned-twice (plain t)) ∙ ap turned (sym (reversal-turned t))
 
--- "A MINUS B is A INTERSECTION the reversal of B"; reversal turns UNION and INTERSECTION into each other over reversed sons, "and makes A MINUS B
--- into reversed A UNION B"
+-- rules 3.3 and 3.4, node by node
 module _ (a b : Tree) where
   pub plain-union : plain (node union a b) ≡ unionOf (plain a) (plain b)
   unfolding plain

@@ -1,4 +1,4 @@
--- Document 01, "Halfspaces and trees": rows, values at a centre, least and greatest over a block, marks, reversal.
+-- Rules 2.1 to 2.5: rows, values at a centre, least and greatest over a block, marks; and a halfspace reversed (3.4).
 use Prim.Native.Nat.{ℕ, suc, _+_, _*_, _/_, _%_}
 use mathlib.Core.Bool.{Bool, cond, _&&_}
 use mathlib.Core.List.{List}
@@ -16,16 +16,16 @@ use Rattle.universe.specs.Voxel.{placeAlong}
 use Rattle.bintree.specs.declared.Colour.{Colour}
 use Rattle.bintree.specs.declared.Colour.the-variants.{White, Black}
 
--- "A halfspace is five whole numbers a0 to a4": a0, and the coefficient of each axis
+-- rule 2.1: a0, and the coefficient of each axis
 pub record Halfspace : Type 0 where
   pub offset : ℤ
   pub coefficient : ℕ → ℤ
 
--- "At most 256 halfspaces"
+-- rule 2.5: how many rows there may be
 abbrev pub mostRows : ℕ
 mostRows = 256
 
--- rows come as one flat list, five numbers to a halfspace
+-- rule 2.5: rows stand in one list, five numbers each
 abbrev pub rowLength : ℕ
 rowLength = 5
 
@@ -36,13 +36,13 @@ abbrev pub rowAt : List ℤ → ℕ → Halfspace
 rowAt rows i =
     record { offset = getD rows (rowLength * i) (pos 0); coefficient = λ j. getD rows (rowLength * i + suc j) (pos 0) }
 
--- "Limits: |a0| ≤ 1,099,511,627,776; the others ≤ 16,777,216. Coefficients of axes above d are 0."
+-- rule 2.1: each number keeps its limit, which is 0 for an axis that the universe lacks
 unfoldable pub withinLimits : Universe → Halfspace → Bool
 withinLimits u h =
     leb (natAbs (h .offset)) offsetLimit
     && every mostAxes (λ i. leb (natAbs (h .coefficient i)) (cond (ltb i (u .axes)) coefficientLimit 0))
 
--- number 3: "rows not in fives, over 256 of them, a coefficient outside its limit, or nonzero above d"
+-- rule 8.1, number 3: a row of other than five numbers, too many rows, or a number past its limit
 unfoldable pub rowsRefusal : Universe → List ℤ → ℕ
 rowsRefusal u rows =
     unless
@@ -51,16 +51,16 @@ rowsRefusal u rows =
     && every (rowCount rows) (λ i. withinLimits u (rowAt rows i)))
     badRows
 
--- "It holds at a point where a0 + Σ ai·xi ≥ 0": the value there
+-- rule 2.2: the value at a point; the halfspace holds the point where it is not negative
 unfoldable pub valueAt : Universe → Halfspace → (ℕ → ℕ) → ℤ
 valueAt u h x = h .offset +ℤ total (u .axes) (λ i. h .coefficient i *ℤ pos (x i))
 
--- "At a centre the test is 2·a0 + Σ ai·(2ci + 1) ≥ 0": twice the value at the centre of voxel c
+-- rule 2.3: twice the value at the centre of a voxel, a whole number
 unfoldable pub centreValue : Universe → Halfspace → List ℕ → ℤ
 centreValue u h v =
     pos 2 *ℤ h .offset +ℤ total (u .axes) (λ i. h .coefficient i *ℤ pos (2 * placeAlong v i + 1))
 
--- "equality is BLACK"
+-- rule 2.3: BLACK where it is 0 or more
 unfoldable pub colourAtCentre : Universe → Halfspace → List ℕ → Colour
 colourAtCentre u h v = cond (leZ (pos 0) (centreValue u h v)) Black White
 
@@ -82,25 +82,25 @@ atLow h b i = h .coefficient i *ℤ pos (lowAlong b i)
 abbrev pub atHigh : Halfspace → Block → ℕ → ℤ
 atHigh h b i = h .coefficient i *ℤ pos (lowAlong b i + lengthAlong b i)
 
--- "Over a block, min and max are the least and greatest values at its corners": on each axis the lesser (greater) of
--- what its two ends give
+-- rule 2.4: the least and the greatest value among a block's corners, on each axis the lesser (greater) of what its two
+-- ends give
 unfoldable pub least : Halfspace → Block → ℤ
 least h b = h .offset +ℤ total (b .universe .axes) (λ i. lesser (atLow h b i) (atHigh h b i))
 
 unfoldable pub greatest : Halfspace → Block → ℤ
 greatest h b = h .offset +ℤ total (b .universe .axes) (λ i. greater (atLow h b i) (atHigh h b i))
 
--- decided, with its colour, or not: a leaf is then active, a tree undecided
+-- decided, with its colour, or undecided
 pub data Mark : Type 0 where
   decided : Colour → Mark
   undecided : Mark
 
--- "If min ≥ 0 the leaf is BLACK there. Otherwise, if max ≤ 0, it is WHITE. Otherwise it is active."
+-- rule 2.4: the least value is looked at first, then the greatest
 unfoldable pub markOver : Halfspace → Block → Mark
 markOver h b =
     cond (leZ (pos 0) (least h b)) (decided Black)
     (cond (leZ (greatest h b) (pos 0)) (decided White) undecided)
 
--- "Reversal negates all five numbers of a halfspace"
+-- rule 3.4: a halfspace reversed
 abbrev pub negated : Halfspace → Halfspace
 negated h = record { offset = negℤ (h .offset); coefficient = λ i. negℤ (h .coefficient i) }

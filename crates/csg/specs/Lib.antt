@@ -1,4 +1,4 @@
--- Document 01, "Halfspaces and trees", and the raw expression of "Expressions".
+-- Halfspaces and trees (rules, sections 2 and 3), and the raw expression (4.2).
 pub mod Halfspace
 pub mod Surfaces
 pub mod Tree

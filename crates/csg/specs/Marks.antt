@@ -1,4 +1,4 @@
--- Document 01, "Halfspaces and trees": the mark of a tree over a block, and its colour at the centre of a voxel.
+-- Rules 3.5 and 2.3: the mark of a tree over a block, and its colour at the centre of a voxel.
 use Prim.Native.Nat.{ℕ}
 use mathlib.Core.Bool.{Bool, cond}
 use mathlib.Core.List.{List}
@@ -11,7 +11,7 @@ use Rattle.csg.specs.Halfspace.{Halfspace, Mark, decided, undecided, row
 use Rattle.csg.specs.Surfaces.{Surfaces, Surface, halfspace}
 use Rattle.csg.specs.Tree.{Tree, Plain, colour, side, unionOf, intersectionOf, plain}
 
--- a UNION is BLACK if either son is, WHITE if both are, else undecided; INTERSECTION is the mirror of that
+-- rule 3.5: one BLACK son makes a UNION BLACK, two WHITE ones make it WHITE; for an INTERSECTION the colours exchanged
 unfoldable pub unionMark : Mark → Mark → Mark
 unionMark (decided Black) b = decided Black
 unionMark (decided White) b = b
@@ -35,7 +35,7 @@ unfoldable pub intersectionColour : Colour → Colour → Colour
 intersectionColour White b = White
 intersectionColour Black b = b
 
--- a halfspace of the rows, as it is or reversed
+-- rule 3.4: a halfspace of the rows, as it is or reversed
 abbrev pub turnedRow : List ℤ → Bool → ℕ → Halfspace
 turnedRow rows turned i = cond turned (negated (rowAt rows i)) (rowAt rows i)
 

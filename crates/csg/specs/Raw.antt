@@ -1,4 +1,4 @@
--- Document 01, "Expressions": the raw expression examines the universe; and how many blocks that is.
+-- Rule 4.2: the raw expression, by examining blocks; and how many blocks are examined (10.3).
 use Prim.Native.Nat.{ℕ, zero, suc, _+_}
 use Rattle.universe.specs.declared.Universe.{Universe}
 use Rattle.universe.specs.declared.Block.{Block}
@@ -10,8 +10,8 @@ use Rattle.csg.specs.Surfaces.{Surfaces}
 use Rattle.csg.specs.Tree.{Tree, node, intersection}
 use Rattle.csg.specs.Marks.{treeMark, treeColour}
 
--- "A decided block writes its colour. An undecided block above level L writes `(` and both halves are examined. An
--- undecided block at level L writes the tree's colour at its centre." The block is n levels above L
+-- rule 4.2, of a block n levels above L: its colour where the tree is decided, else both halves, or at level L the
+-- colour at the centre
 unfoldable pub examine : Surfaces → Tree → ℕ → Block → Shape
 examine surfaces t zero b =
     elim (treeMark surfaces t b)

@@ -27,6 +27,6 @@ pub data Surface : Type 0 where
 pub data IsNamed (names : Named) : Surface → Type 0 where
   halfspace-named : {i : ℕ} → i < names .halfspaces → IsNamed names (halfspace i)
 
--- what it counts for room, "for N halfspace words in all trees of the run"
+-- rule 3.6: what it counts of N, for room
 abbrev pub countHalfspace : Surface → ℕ
 countHalfspace (halfspace i) = 1

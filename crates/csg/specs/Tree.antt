@@ -1,5 +1,5 @@
--- Document 01, "Halfspaces and trees": trees, MINUS and reversal. MINUS and reversal are pushed down to the surfaces,
--- so that marks and colours are given to plain trees alone.
+-- Rules 3.3 and 3.4: trees, MINUS and reversal. MINUS and reversal are pushed down to the surfaces, so that marks and
+-- colours are given to plain trees alone.
 use Prim.Native.Nat.{ℕ, _+_}
 use mathlib.Core.Bool.{Bool, true, false}
 use Rattle.bintree.specs.declared.Colour.{Colour}
@@ -36,7 +36,7 @@ abbrev pub reversed : Bool
 reversed = true
 
 unfoldable mutual
-  -- "A MINUS B is A INTERSECTION the reversal of B"
+  -- rule 3.3: MINUS intersects the earlier shape with the later reversed
   pub plain : Tree → Plain
   plain (leaf white) = colour White
   plain (leaf black) = colour Black
@@ -45,8 +45,8 @@ unfoldable mutual
   plain (node intersection a b) = intersectionOf (plain a) (plain b)
   plain (node minus a b) = intersectionOf (plain a) (reversal b)
 
-  -- "Reversal negates all five numbers of a halfspace, exchanges BLACK with WHITE, turns UNION and INTERSECTION into
-  -- each other over reversed sons, and makes A MINUS B into reversed A UNION B."
+  -- rule 3.4: BLACK for WHITE, a surface reversed, UNION for INTERSECTION over reversed sons; of A MINUS B the union of
+  -- A reversed with B
   pub reversal : Tree → Plain
   reversal (leaf white) = colour Black
   reversal (leaf black) = colour White
@@ -55,7 +55,7 @@ unfoldable mutual
   reversal (node intersection a b) = unionOf (reversal a) (reversal b)
   reversal (node minus a b) = unionOf (reversal a) (plain b)
 
--- how many halfspaces a tree has, and how many a plain one; one that stands twice counts twice
+-- rule 3.6: how many halfspaces a tree has, and how many a plain one; one that stands twice counts twice
 unfoldable pub leaves : Tree → ℕ
 leaves (leaf white) = 0
 leaves (leaf black) = 0

@@ -1,5 +1,4 @@
--- Document 01, "Halfspaces and trees": a tree is a list of words in postfix order; its refusals 4 and 5, in the order
--- of "Numbers we say no with".
+-- Rules 3.1, 3.2, 3.6 and 8.6: a tree's words in postfix order, its limits, and its refusals 4 and 5 in their order.
 use Prim.Native.Nat.{ℕ, _+_, _-_}
 use mathlib.Core.Bool.{Bool, cond, _&&_, _||_}
 use mathlib.Core.List.{List, [], _∷_}
@@ -10,7 +9,7 @@ use Rattle.csg.specs.Halfspace.{mostRows}
 use Rattle.csg.specs.Surfaces.{Named, Surface, halfspace, IsNamed}
 use Rattle.csg.specs.Tree.{Leaf, white, black, surface, Operator, union, intersection, minus, Tree, leaf, node}
 
--- "255 words a tree, 32 shapes pending"
+-- rule 3.2: how many words a tree may have, and how many shapes may be pending
 abbrev pub mostWords : ℕ
 mostWords = 255
 
@@ -23,7 +22,7 @@ pub data Word : Type 0 where
   join : Operator → Word
   unknown : Word
 
--- where a word names halfspace 0; a word names a halfspace where it is 256 to 511
+-- rule 3.1: the word that names halfspace 0, and which words name one at all
 abbrev pub firstHalfspace : ℕ
 firstHalfspace = 256
 
@@ -37,8 +36,7 @@ namesSurface names w = namesHalfspace w && ltb (w - firstHalfspace) (names .half
 abbrev pub surfaceOf : ℕ → Surface
 surfaceOf w = halfspace (w - firstHalfspace)
 
--- "0 WHITE, 1 BLACK, 2 UNION, 3 INTERSECTION, 4 MINUS, 256+i halfspace i. All other words are unknown." An index past
--- the rows is refused alike.
+-- rule 3.1: what each word means; one that names no row means as little as one that is no word
 unfoldable pub meaning : Named → ℕ → Word
 meaning names w =
     cond (eqb w 0) (push white)
@@ -62,8 +60,7 @@ isLeaf names w = leb w 1 || namesSurface names w
 abbrev pub leafOf : ℕ → Leaf
 leafOf w = cond (eqb w 0) white (cond (eqb w 1) black (surface (surfaceOf w)))
 
--- why words are no tree: 4 "tree empty, unknown word, index past the rows, operator with under two pending, not one
--- left"; 5 "over 255 words, or a 33rd shape pending"
+-- rule 8.1: why words are no tree, number 4 where they do not make one shape, number 5 where they exceed a limit
 pub data Fault : Type 0 where
   malformed : Fault
   overfull : Fault
@@ -109,8 +106,8 @@ module _ {A : Type 0} (ofLeaf : Leaf → A) (ofNode : Operator → A → A → A
   fold (leaf l) = ofLeaf l
   fold (node o a b) = ofNode o (fold a) (fold b)
 
--- the tree of a list of words, where there is so much to name: "word count, then the first offending word (unknown or
--- index before pending), then the end"
+-- rule 8.6: the tree of a list of words, where there is so much to name; their number is looked at first, then word by
+-- word, then what is left
 unfoldable pub parse : Named → List ℕ → Outcome Tree
 parse names ws = cond (ltb mostWords (length ws)) (refused overfull) (run leaf node names ws [])
 
@@ -130,7 +127,7 @@ orWhite (made t) = t
 unfoldable pub treeOf : Named → List ℕ → Tree
 treeOf names ws = orWhite (parse names ws)
 
--- how many of the words name a halfspace; a row named twice counts twice
+-- rule 3.6: how many of the words name a halfspace; a row named twice counts twice
 unfoldable pub halfspaceWords : List ℕ → ℕ
 halfspaceWords [] = 0
 halfspaceWords (w ∷ ws) = cond (namesHalfspace w) 1 0 + halfspaceWords ws

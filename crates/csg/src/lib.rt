@@ -11,17 +11,17 @@ ghost use Rattle.universe.specs.Universe.{offsetLimit, coefficientLimit};
 ghost use Rattle.csg.specs.Halfspace.{rowLength, rowAt, withinLimits, rowsRefusal};
 ghost use Rattle.csg.specs.Words.{isOperator, isLeaf, treeRefusal, namesHalfspace, halfspaceWords};
 
-// At most 256 halfspaces, five whole numbers to each.
+// How many rows there may be, and the numbers of each (rule 2.5).
 pub const MOST_ROWS: usize = 256;
 
 pub const ROW_LENGTH: usize = 5;
 
-// At most 255 words a tree, 32 shapes pending.
+// How many words a tree may have, and how many shapes may be pending (rule 3.2).
 pub const MOST_WORDS: usize = 255;
 
 pub const MOST_PENDING: usize = 32;
 
-// The words: five that name themselves, and from 256 on those that name a halfspace.
+// The words (rule 3.1): five that name themselves, and from 256 on those that name a halfspace.
 pub const WHITE: u16 = 0;
 
 pub const BLACK: u16 = 1;
@@ -81,7 +81,7 @@ fn row_within(universe: Universe, rows: &[i64], row: usize) -> bool
     true
 }
 
-// 3 where rows are not in fives, are too many, or exceed a limit of the universe, else 0.
+// 3 where a row is not whole, or there are too many rows, or one exceeds a limit of the universe; else 0.
 pub fn check_rows(universe: Universe, rows: &[i64]) -> u64
     ensures { λ r. ⌜ r ≡ rowsRefusal universe (now (rows .entry)) ⌝ }
 {

@@ -84,7 +84,7 @@ module _ (u : Universe) (accept : Accepted u) (surfaces : Surfaces) (l : ℕ) wh
         by-sides b,
       )
 
-  -- "The level counts the smaller of Π ni and N × (Π ni − Π (ni − 1))."
+  -- rule 4.7: the less of the two that a level counts
   level-counts : (p : Plain) → undecidedBlocks p ≤ levelCount u (sides p) l
   unfolding levelCount blocksAt
   level-counts p =

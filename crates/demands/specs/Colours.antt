@@ -1,4 +1,4 @@
--- Demand 2: the colours of an expression. Document 01, "The universe": voxel c is judged at its centre.
+-- Demand 2 (rule 10.2): the colours of an expression are those of the tree at the centres of voxels.
 use mathlib.Core.Path.{_≡_}
 use Prim.Native.Nat.{ℕ}
 use mathlib.Core.List.{List}

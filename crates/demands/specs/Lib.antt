@@ -1,4 +1,4 @@
--- What is demanded of the definitions, for the theorems of proofs/.
+-- What is demanded of the definitions (rules 10.2 and 10.3), for the theorems of proofs/.
 pub mod Room
 pub mod Colours
 pub mod Voxels

@@ -1,5 +1,4 @@
--- Demand 3: an expression fits into room. Document 01, "Expressions": room is for N halfspace words, which for a tree
--- are its halfspace leaves.
+-- Demand 3 (rule 10.3): an expression fits into room, which is for N (rule 3.6): of a tree, its halfspace leaves.
 use Prim.Native.Nat.{_≤_}
 use mathlib.Core.Path.{_≡_}
 use lib.ListN.{length}

@@ -1,5 +1,4 @@
--- What a verdict says of the voxels. Document 01, "Verdicts": Clear, or Hit with first frame, last frame and black
--- voxel count, over frames first to last, both ends in.
+-- Rule 5.2: what a verdict says of the voxels, of those that are black in the window, one by one.
 use Prim.Native.Nat.{ℕ, _+_, _≤_}
 use mathlib.Core.Path.{_≡_}
 use mathlib.Core.List.{List}

@@ -1,5 +1,5 @@
--- Black voxels, counted one by one over the grid of the universe's voxels. A colouring gives each voxel its colour, as
--- a shape does (`colourAt u s`) or a tree (`treeColour surfaces u t`).
+-- Rules 4.8 and 5.2: black voxels, counted one by one over the grid of the universe's voxels. A colouring gives each
+-- voxel its colour, as a shape does (`colourAt u s`) or a tree (`treeColour surfaces u t`).
 use Prim.Native.Nat.{ℕ}
 use mathlib.Core.Bool.{Bool, true, false}
 use mathlib.Core.List.{List}

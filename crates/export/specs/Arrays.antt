@@ -1,5 +1,6 @@
--- What the face for C and Rust hands over as plain numbers: a universe and a proxy made of them, and an answer's fields
--- in the order of its array. An answer's refusal is the number that a function returns; the array holds the rest.
+-- Rule 11.1: what the face for C and Rust hands over as plain numbers: a universe and a proxy made of them, and an
+-- answer's fields in the order of its array. An answer's refusal is the number that a function returns; the array holds
+-- the rest.
 use Prim.Native.Nat.{ℕ}
 use mathlib.Core.List.{List, [], _∷_}
 use lib.Ieee.{Float}
@@ -32,7 +33,8 @@ roomArray a = a .symbols ∷ []
 abbrev pub lengthArray : Written → List ℕ
 lengthArray a = a .length ∷ []
 
--- a verdict as hit (0 Clear, 1 Hit), first frame, last frame and voxels; then the raw expression's length, needed on 6
+-- rule 11.2: a verdict as hit (0 Clear, 1 Hit), first frame, last frame and voxels; then the raw expression's length,
+-- needed on 6
 abbrev pub verdictArray : Verdict → ℕ → List ℕ
 verdictArray Clear length = 0 ∷ 0 ∷ 0 ∷ 0 ∷ length ∷ []
 verdictArray (Hit contact) length = 1 ∷ contact .first ∷ contact .last ∷ contact .voxels ∷ length ∷ []
@@ -44,7 +46,7 @@ clearanceArray a = verdictArray (a .verdict) (a .length)
 abbrev pub voxelsArray : Counted → List ℕ
 voxelsArray a = a .voxels ∷ []
 
--- 0 WHITE, 1 BLACK
+-- rule 11.2: a colour as a number
 abbrev pub colourNumber : Colour → ℕ
 colourNumber White = 0
 colourNumber Black = 1
@@ -67,7 +69,7 @@ sceneArray a =
 abbrev pub shapeArray : ShapeRead → List ℕ
 shapeArray a = a .universe .axes ∷ a .universe .bits ∷ a .length ∷ []
 
--- three floats to a corner, normal or displacement
+-- rule 6.1: a corner, a normal or a displacement of its three floats
 abbrev pub tripleOf : Float → Float → Float → Triple
 tripleOf x y z = record { x = x; y = y; z = z }
 

@@ -1,2 +1,2 @@
--- The face for C and Rust: answers as numbers and arrays.
+-- The face for C and Rust (rules, section 11): answers as numbers and arrays.
 pub mod Arrays

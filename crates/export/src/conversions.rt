@@ -8,7 +8,7 @@ ghost use Rattle.convert.specs.Answers.{rawOfOneAnswer, rawOfOneBuffer, rawOfTw
 ghost use Rattle.convert.specs.Answers.{mergedOfOneAnswer, mergedOfOneBuffer, mergedOfTwoAnswer, mergedOfTwoBuffer};
 ghost use Rattle.export.specs.Arrays.{universeOf, roomArray, lengthArray};
 
-// Room in symbols, for so many halfspace words in all trees of the run.
+// Room in symbols, for so many words that name a halfspace (rule 4.7).
 #[no_mangle]
 pub extern "C" fn durbizhan_room(axes: u64, bits: u64, leaves: u64, answer: &mut [u64; 1]) -> u64
     ensures { λ r. ⌜ r ≡ roomAnswer (universeOf axes bits) leaves .refusal ⌝ }

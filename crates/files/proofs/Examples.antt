@@ -1,4 +1,4 @@
--- Document 01's scene of the program and a few shape files, computed by the definitions: what they say, and which number each change is refused with.
+-- The scene of examples/program.txt and a few shape files, computed by the definitions: what they say, and which number each change is refused with.
 use Prim.Native.Nat.{ℕ, _-_}
 use mathlib.Core.Path.{_≡_, refl}
 use mathlib.Core.List.{List, [], _∷_, _++_}
@@ -26,7 +26,7 @@ numbersBytes : List ℤ → List ℕ
 numbersBytes [] = []
 numbersBytes (z ∷ zs) = bytesOf z ++ numbersBytes zs
 
--- rows (0,1,−1,0,0), (1,−1,1,0,0), (−2,1,0,0,0), (3,−1,0,0,0)
+-- a strip that moves a voxel a frame, and one that stands from 2 to 3
 rows : List ℤ
 rows =
     pos 0 ∷ pos 1 ∷ negsuc 0 ∷ pos 0 ∷ pos 0
@@ -35,7 +35,7 @@ rows =
     ∷ pos 3 ∷ negsuc 0 ∷ pos 0 ∷ pos 0 ∷ pos 0
     ∷ []
 
--- d 2, k 2, window 0 to 3, words 256 257 3 and 258 259 3
+-- the two strips, each of its two halfspaces intersected, over all four frames
 scene : List ℕ
 scene =
     72 ∷ 83 ∷ 67 ∷ 1 ∷ 0 ∷ 2 ∷ 2 ∷ 0

@@ -1,4 +1,4 @@
--- Document 01, "Files": numbers in bytes, the scene, the shape.
+-- Files (rules, section 7): numbers in bytes, the scene, the shape.
 pub mod Numbers
 pub mod Scenes
 pub mod Shapes

@@ -1,5 +1,4 @@
--- Document 01, "Files": "Little-endian, no padding." Numbers in bytes, and with what a file begins; past the end of the
--- bytes stands 0.
+-- Rule 7.1: numbers in bytes, the lowest byte first, and with what a file begins; past the end of the bytes stands 0.
 use Prim.Native.Nat.{ℕ, _+_, _*_, _/_, _%_, _^_}
 use mathlib.Core.Bool.{Bool, cond, _&&_}
 use mathlib.Core.List.{List, [], _∷_}
@@ -43,7 +42,7 @@ u16Bytes n = n % 256 ∷ n / 256 % 256 ∷ []
 abbrev pub u32Bytes : ℕ → List ℕ
 u32Bytes n = n % 256 ∷ n / 256 % 256 ∷ n / 65_536 % 256 ∷ n / 16_777_216 % 256 ∷ []
 
--- a file begins with the three bytes of its mark and "version u16 = 1"
+-- rules 7.2 and 7.3: a file begins with the three bytes of its mark and with version 1
 abbrev pub markOf : ℕ → ℕ → ℕ → List ℕ
 markOf a b c = a ∷ b ∷ c ∷ u16Bytes 1
 

@@ -1,5 +1,4 @@
--- Document 01, "Files": the scene. `sceneHeader`, by `isScene` and `sceneHeaderOf`, alone knows its version and its
--- places.
+-- Rules 7.2 and 7.4: the scene. `sceneHeader`, by `isScene` and `sceneHeaderOf`, alone knows its version and places.
 use Prim.Native.Nat.{ℕ, _+_, _*_}
 use mathlib.Core.Bool.{Bool, cond, _&&_}
 use mathlib.Core.List.{List, [], _∷_}
@@ -19,12 +18,11 @@ use Rattle.files.specs.declared.Scene.{Scene}
 use Rattle.files.specs.declared.SceneHeader.{SceneHeader}
 use Rattle.files.specs.Numbers.{u16At, i64sAt, u16sAt, numberBytes, wordBytes, markOf, hasHeader}
 
--- "`HSC`, version u16 = 1"
+-- rule 7.2: a scene's mark, `HSC`
 abbrev pub sceneMark : List ℕ
 sceneMark = markOf 72 83 67
 
--- "18 + 40·H + 2·(W1 + W2) bytes": the length of the header, that of a row, and that of the file by its "counts u16:
--- halfspaces, words of tree 1, of tree 2"
+-- rule 7.2: the length of the header, that of a row, and that of the file by its counts of rows and words
 abbrev pub sceneHeaderLength : ℕ
 sceneHeaderLength = 18
 
@@ -34,14 +32,14 @@ rowBytes = numberBytes * rowLength
 abbrev pub sceneLength : List ℕ → ℕ
 sceneLength bytes = sceneHeaderLength + rowBytes * u16At bytes 8 + wordBytes * (u16At bytes 10 + u16At bytes 12)
 
--- whether bytes are a scene by mark, version, "a zero byte" and length
+-- whether bytes are a scene by mark, version, zero byte and length
 unfoldable pub isScene : List ℕ → Bool
 isScene bytes =
     hasHeader bytes sceneHeaderLength sceneMark
     && eqb (getD bytes 7 0) 0
     && eqb (length bytes) (sceneLength bytes)
 
--- "All other fields of a refused answer are zero"
+-- rule 8.3: a number, and zeros
 abbrev pub refusedScene : ℕ → Scene
 refusedScene number =
     record {
@@ -70,14 +68,14 @@ sceneHeaderOf bytes =
           };
     }
 
--- number 1 where the file is no scene
+-- rule 8.1, number 1: the file is no scene
 abbrev pub noSceneHeader : SceneHeader
 noSceneHeader = record { scene = refusedScene badFile; places = record { rows = 0; first = 0; second = 0 } }
 
 unfoldable pub sceneHeader : List ℕ → SceneHeader
 sceneHeader bytes = cond (isScene bytes) (sceneHeaderOf bytes) noSceneHeader
 
--- "halfspaces, five i64 each; words u16"
+-- the rows, and the words of each tree
 abbrev pub rowsOf : List ℕ → SceneHeader → List ℤ
 rowsOf bytes h = i64sAt bytes (h .places .rows) (rowLength * h .scene .counts .rows)
 
@@ -91,7 +89,7 @@ secondWordsOf bytes h = u16sAt bytes (h .places .second) (h .scene .counts .seco
 abbrev pub namedBy : Counts → Named
 namedBy counts = record { halfspaces = counts .rows }
 
--- "Order for scenes and conversions: 1, 2, 3, trees one after the other, 9"
+-- rule 8.5: 1, 2, 3, tree 1, tree 2, 9
 abbrev pub sceneChecks : List ℕ → SceneHeader → List ℕ
 sceneChecks bytes h =
     h .scene .refusal
@@ -105,7 +103,7 @@ sceneChecks bytes h =
 unfoldable pub sceneRefusal : List ℕ → ℕ
 sceneRefusal bytes = firstRefusal (sceneChecks bytes (sceneHeader bytes))
 
--- what reading a scene answers
+-- rule 7.4: what reading a scene answers
 unfoldable pub sceneAnswer : List ℕ → Scene
 sceneAnswer bytes = unlessRefused (sceneRefusal bytes) refusedScene (sceneHeader bytes .scene)
 

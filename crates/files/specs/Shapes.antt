@@ -1,5 +1,5 @@
--- Document 01, "Files": the shape. `shapeHeader`, by `isShape` and `shapeHeaderOf`, and `shapeHeaderBytes` alone know
--- its version and its places.
+-- Rules 7.3 and 8.7: the shape. `shapeHeader`, by `isShape` and `shapeHeaderOf`, and `shapeHeaderBytes` alone know its
+-- version and its places.
 use Prim.Native.Nat.{ℕ, _+_}
 use mathlib.Core.Bool.{Bool, true, cond, _&&_}
 use mathlib.Core.List.{List, [], _∷_, _++_}
@@ -16,29 +16,29 @@ use Rattle.files.specs.declared.ShapeRead.{ShapeRead}
 use Rattle.files.specs.declared.ShapeHeader.{ShapeHeader}
 use Rattle.files.specs.Numbers.{u32At, u32Bytes, markOf, hasHeader}
 
--- "`BNT`, version u16 = 1"
+-- rule 7.3: a shape's mark, `BNT`
 abbrev pub shapeMark : List ℕ
 shapeMark = markOf 66 78 84
 
--- "11 + count bytes", and the most that a "symbol count u32" counts
+-- rule 7.3: the length of the header, and the most symbols that its count can say
 abbrev pub shapeHeaderLength : ℕ
 shapeHeaderLength = 11
 
 abbrev pub mostSymbols : ℕ
 mostSymbols = 4_294_967_295
 
--- number 8 where an expression is not merged; one that is not well-formed is refused before
+-- rule 8.1, number 8: an expression that is not merged; one that is not well-formed is refused before
 unfoldable pub mergedRefusal : Universe → List ℕ → ℕ
 mergedRefusal u s = unless (ofShape (expression u s) true isMerged) notMerged
 
--- "For expressions: 1, 2, 7, 8, 9, 6": those of an expression that is or goes into a shape file
+-- rule 8.5: the checks of an expression that is or goes into a shape file, 2, 7 and 8
 abbrev pub symbolsChecks : Universe → List ℕ → List ℕ
 symbolsChecks u s = expressionChecks u s ++ (mergedRefusal u s ∷ [])
 
 unfoldable pub symbolsRefusal : Universe → List ℕ → ℕ
 symbolsRefusal u s = firstRefusal (symbolsChecks u s)
 
--- mark, version, "d, k", "symbol count u32"
+-- rule 7.3: mark and version, axes, bits, and how many symbols there are
 abbrev pub shapeHeaderBytes : Universe → ℕ → List ℕ
 shapeHeaderBytes u count = shapeMark ++ (u .axes ∷ u .bits ∷ u32Bytes count)
 
@@ -49,11 +49,11 @@ shapeBytes u s = shapeHeaderBytes u (length s) ++ s
 abbrev pub shapeLength : ℕ → ℕ
 shapeLength count = shapeHeaderLength + count
 
--- number 6: "file bytes needed exceed the room lent; a shape file also where its symbols exceed 4,294,967,295"
+-- rule 8.1, number 6: more bytes than are lent, or more symbols than the header can say
 unfoldable pub fileRefusal : ℕ → ℕ → ℕ
 fileRefusal lent count = cond (leb count mostSymbols) (roomRefusal lent (shapeLength count)) noRoom
 
--- what writing a shape file answers, and what the room holds afterwards
+-- rule 8.7: what writing a shape file answers, and what the room holds afterwards
 unfoldable pub writeAnswer : Universe → List ℕ → List ℕ → Written
 writeAnswer u s out =
     unlessRefused (symbolsRefusal u s) refusedWriting
@@ -67,7 +67,7 @@ writeBuffer u s out = overwritten (writeAnswer u s out .refusal) (shapeBytes u s
 unfoldable pub isShape : List ℕ → Bool
 isShape bytes = hasHeader bytes shapeHeaderLength shapeMark && eqb (length bytes) (shapeLength (u32At bytes 7))
 
--- "All other fields of a refused answer are zero", and number 6 "also returns the length needed"
+-- rule 8.3: a number and zeros, and with 6 the length that is needed
 abbrev pub refusedShape : ℕ → ShapeRead
 refusedShape number = record { refusal = number; universe = record { axes = 0; bits = 0 }; length = 0 }
 
@@ -93,18 +93,18 @@ noShapeHeader = record { shape = refusedShape badFile; place = 0 }
 unfoldable pub shapeHeader : List ℕ → ShapeHeader
 shapeHeader bytes = cond (isShape bytes) (shapeHeaderOf bytes) noShapeHeader
 
--- "merged symbols"
+-- the symbols
 abbrev pub symbolsOf : List ℕ → ShapeHeader → List ℕ
 symbolsOf bytes h = take (h .shape .length) (drop (h .place) bytes)
 
--- the order 1, 2, 7, 8
+-- rule 8.5: 1, 2, 7, 8
 abbrev pub shapeChecks : List ℕ → ShapeHeader → List ℕ
 shapeChecks bytes h = h .shape .refusal ∷ symbolsRefusal (h .shape .universe) (symbolsOf bytes h) ∷ []
 
 unfoldable pub shapeRefusal : List ℕ → ℕ
 shapeRefusal bytes = firstRefusal (shapeChecks bytes (shapeHeader bytes))
 
--- "Reading one gives d and k and copies its symbols into lent room, so 6 applies to it"
+-- rule 8.7: what reading a shape file answers, which asks for room for its symbols, and what the room holds afterwards
 abbrev pub readHeader : ℕ → ShapeHeader → ShapeRead
 readHeader lent h =
     unlessRefused (roomRefusal lent (h .shape .length)) (λ six. shortShape (h .shape .length)) (h .shape)

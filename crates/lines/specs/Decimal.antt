@@ -1,4 +1,4 @@
--- Numbers in decimal, as bytes: `decimal` writes one, `value` reads one, `Numeral` says which bytes are right.
+-- Rule 9.4: numbers in decimal, as bytes. `decimal` writes one, `value` reads one, `Numeral` says which are right.
 use Prim.Native.Nat.{ℕ, zero, suc, _+_, _*_, _-_, _/_, _%_, _≤_}
 use mathlib.Core.Bool.{true, false}
 use mathlib.Core.Path.{_≡_}

@@ -1,4 +1,4 @@
--- The lines, byte for byte.
+-- Rules 9.2 to 9.4: the lines, byte for byte.
 use Prim.Native.Nat.{ℕ}
 use Prim.Native.String.{String}
 use Prim.Native.Char.{code}
@@ -19,7 +19,7 @@ text (String._∷_ c s) = code c ∷ text s
 abbrev pub labelled : String → ℕ → List ℕ
 labelled word n = text word ++ decimal n
 
--- the one line of a scene that is refused, by its number
+-- rule 9.3: the one line of a scene that is refused, by its number
 abbrev pub refusedLine : ℕ → List ℕ
 refusedLine number = labelled "refused " number ++ text "\n"
 
@@ -27,11 +27,11 @@ refusedLine number = labelled "refused " number ++ text "\n"
 abbrev pub shortLine : ℕ → List ℕ
 shortLine needed = labelled "refused " noRoom ++ labelled " needed " needed ++ text "\n"
 
--- line 1: the universe
+-- rule 9.2, line 1: the universe
 abbrev pub universeLine : Universe → List ℕ
 universeLine u = labelled "axes " (u .axes) ++ labelled " bits " (u .bits) ++ text "\n"
 
--- line 2: the halfspace words of both trees, the length of the raw expression, and the room by the formula
+-- line 2: N (rule 3.6), the raw expression's length, and room (rule 4.7)
 abbrev pub countsLine : ℕ → ℕ → ℕ → List ℕ
 countsLine leaves raw room = labelled "leaves " leaves ++ labelled " raw " raw ++ labelled " room " room ++ text "\n"
 

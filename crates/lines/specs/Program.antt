@@ -1,5 +1,5 @@
--- Which lines a scene gets. What reading, converting and the room question answer is said by the definitions that
--- their own contracts cite, here and nowhere else.
+-- Rules 9.1 to 9.3: which lines a scene gets. What reading, converting and the room question answer is said by the
+-- definitions that their own contracts cite, here and nowhere else.
 use Prim.Native.Nat.{ℕ, _+_, _*_}
 use mathlib.Core.Bool.{cond}
 use mathlib.Core.List.{List, _++_}
@@ -18,11 +18,11 @@ use Rattle.files.specs.declared.Scene.{Scene}
 use Rattle.files.specs.Scenes.{sceneAnswer, rowsAfter, firstWordsAfter, secondWordsAfter}
 use Rattle.lines.specs.Lines.{refusedLine, shortLine, universeLine, countsLine, verdictLine}
 
--- 64 KiB: a scene of more bytes is refused
+-- rule 9.1: 64 KiB; a scene of more bytes is refused
 abbrev pub mostSceneBytes : ℕ
 mostSceneBytes = 65_536
 
--- the room that the conversion is lent, in symbols
+-- rule 9.1: the room that the conversion is lent, in symbols
 abbrev pub lentSymbols : ℕ
 lentSymbols = 32_768
 

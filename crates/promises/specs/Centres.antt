@@ -1,4 +1,5 @@
--- The value of a halfspace at a point between whole ones: its places are fractions over one denominator.
+-- Rules 1.5 and 2.2: the value of a halfspace at a point between whole ones: its places are fractions over one
+-- denominator.
 use Prim.Native.Nat.{ℕ}
 use lib.IntN.{ℤ, pos, _+ℤ_, _*ℤ_}
 use Rattle.lemmas.specs.Sums.{total}

@@ -1,5 +1,5 @@
--- The blocks of a level that touch a low face of the universe. A block of the level is a point of a grid: its place
--- along each axis, counted in blocks.
+-- Rule 4.7: the blocks of a level that touch a low face of the universe. A block of the level is a point of a grid: its
+-- place along each axis, counted in blocks.
 use Prim.Native.Nat.{ℕ}
 use mathlib.Core.Bool.{Bool, not}
 use lib.Dec.{ltb}

@@ -1,4 +1,4 @@
--- What is promised of the entry points, and what room counts.
+-- What is promised of the entry points (rules 10.2 and 10.3), and what room counts (4.7).
 pub mod Promises
 pub mod Centres
 pub mod Faces

@@ -1,5 +1,5 @@
--- What a caller is promised of a call that converts trees into lent room: in terms of what the call answers and leaves
--- in the room, and of what the other questions then answer.
+-- Rules 8.4, 10.2 and 10.3: what a caller is promised of a call that converts trees into lent room: in terms of what
+-- the call answers and leaves in the room, and of what the other questions then answer.
 use Prim.Native.Nat.{ℕ, _≤_}
 use mathlib.Core.Path.{_≡_}
 use mathlib.Core.List.{List}

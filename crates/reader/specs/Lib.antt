@@ -1,1 +1,2 @@
+-- The reader (rule 4.5).
 pub mod Symbols

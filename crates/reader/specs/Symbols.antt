@@ -1,5 +1,5 @@
--- Document 01, "Expressions": "A reader over a lent expression holds it and its place, and can stop at any symbol and
--- continue. Past the last symbol it answers End, each time."
+-- Rule 4.5: a reader keeps a lent expression with a place in it. It tells the symbol there and moves on by one; at the
+-- end it answers End and stays.
 use Prim.Native.Nat.{ℕ, _+_}
 use mathlib.Core.Path.{_≡_}
 use mathlib.Core.Bool.{cond}
@@ -14,8 +14,7 @@ use Rattle.bintree.specs.Answers.{wellFormedRefusal}
 use Rattle.reader.specs.declared.Symbol.{Symbol}
 use Rattle.reader.specs.declared.Symbol.the-variants.{Halved, Black, White, End}
 
--- document 01's byte for each answer: `(` for a halved block, `B`, `W`; End is no byte of an expression, and 0 stands
--- past its end
+-- rule 4.1: the byte of each symbol; End is no byte of an expression, and 0 stands past its end
 abbrev pub byteOf : Symbol → ℕ
 byteOf Halved = openSymbol
 byteOf Black = symbolOf colour.Black
@@ -43,7 +42,7 @@ movedOn End p = p
 unfoldable pub placeAfter : List ℕ → ℕ → ℕ
 placeAfter s p = movedOn (symbolAt s p) p
 
--- "Opened with d or k that is refused 2, or on an expression refused 7, it holds nothing"
+-- rule 4.5: of what is refused, by 2 or 7, it keeps nothing
 unfoldable pub heldSymbols : Universe → List ℕ → List ℕ
 heldSymbols u s = cond (eqb (wellFormedRefusal u s) 0) s []
 

@@ -1,5 +1,5 @@
-// A reader over a lent expression: it holds the expression and its place, and can stop at any symbol and continue. The
-// functions over the struct are thin; the work is done on the slice and the place.
+// A reader (rule 4.5): a lent expression, held together with a place in it. The functions over the struct are thin; the
+// work is done on the slice and the place.
 ghost use mathlib.Core.Path.{_≡_};
 ghost use Rattle.bintree.specs.Answers.{wellFormedRefusal};
 ghost use Rattle.reader.specs.Symbols.{symbolAt, placeAfter, heldSymbols, Holds};

@@ -1,5 +1,5 @@
--- How the code holds numbers, Boxes and Cuts between its two steps: in sixteenths, with whether all of them are taken.
--- What is not taken is held as 0, so what is held always keeps the limits.
+-- How the code holds the numbers of rule 6.2, Boxes and Cuts between its two steps: in sixteenths, with whether all of
+-- them are taken. What is not taken is held as 0, so what is held always keeps the limits.
 use Prim.Native.Nat.{ℕ, _≤_}
 use mathlib.Core.Bool.{Bool, false, cond, _&&_}
 use lib.Dec.{leb}

@@ -79,7 +79,7 @@ sixteenth n = record { numerator = n; denominator = 16; proper = lit< tt }
 abbrev pub over16 : Numbers → Fractions
 over16 n = record { x = sixteenth (n .x); y = sixteenth (n .y); z = sixteenth (n .z) }
 
--- "a finite multiple of 1/16": there is a whole number n with 16·value = n; at most `limit` sixteenths in size
+-- rule 6.2: x is finite, and there is a whole number n with 16·value = n, at most `limit` in size
 pub record Multiple (limit : ℕ) (x : Float) : Type 0 where
   pub finite : isFinite x ≡ true
   pub count : ℤ
@@ -91,13 +91,13 @@ pub record Multiples (limit : ℕ) (p : Triple) : Type 0 where
   pub y : Multiple limit (p .y)
   pub z : Multiple limit (p .z)
 
--- "Near ≤ far on each axis; equality is accepted."
+-- rule 6.2: near is at most far on each axis
 pub record InOrder (c : Corners) : Type 0 where
   pub x : value (c .near .x) ≼ value (c .far .x)
   pub y : value (c .near .y) ≼ value (c .far .y)
   pub z : value (c .near .z) ≼ value (c .far .z)
 
--- a Box and a Cut that keep document 01's rules
+-- rule 6.2: a Box and a Cut that are taken
 pub record GoodBox (c : Corners) (v : Triple) : Type 0 where
   pub near : Multiples cornerLimit (c .near)
   pub far : Multiples cornerLimit (c .far)
@@ -116,7 +116,7 @@ pub record Point : Type 0 where
   pub z : Fraction
   pub t : Fraction
 
--- "Voxel c is judged at its centre, c + 1/2 on each axis.", the last of which is time
+-- rule 1.5: the middle of a place, and the centre of a voxel, the last of whose places is time
 abbrev pub middle : ℕ → Fraction
 middle c = record { numerator = pos (2 * c + 1); denominator = 2; proper = lit< tt }
 
@@ -129,14 +129,14 @@ centre c =
       t = middle (placeAlong c 3);
     }
 
--- "It holds at a point where a0 + Σ ai·xi ≥ 0."
+-- rule 2.2: a halfspace holds a point where its value is not negative
 abbrev pub HoldsAt : Halfspace → Point → Type 0
 HoldsAt h q =
     whole (pos 0)
     ≼ whole (h .offset) ⊕ whole (h .coefficient 0) ⊗ q .x ⊕ whole (h .coefficient 1) ⊗ q .y
     ⊕ whole (h .coefficient 2) ⊗ q .z ⊕ whole (h .coefficient 3) ⊗ q .t
 
--- "At time t the proxy has moved t·v.": from near + t·v to far + t·v
+-- rule 6.1: at time t a Box is from near + t·v to far + t·v
 pub record Between (near far v x t : Fraction) : Type 0 where
   pub low : near ⊕ t ⊗ v ≼ x
   pub high : x ≼ far ⊕ t ⊗ v
@@ -154,7 +154,7 @@ BoxHolds c v q = AllBetween (valuesOf (c .near)) (valuesOf (c .far)) (valuesOf v
 abbrev pub SixteenthsHold : Numbers → Numbers → Numbers → Point → Type 0
 SixteenthsHold near far v q = AllBetween (over16 near) (over16 far) (over16 v) q
 
--- n·(x − t·v) + c ≥ 0
+-- rule 6.1: at time t a Cut holds where n·(x − t·v) + c is not negative
 abbrev pub CutHolds : Plane → Triple → Point → Type 0
 CutHolds a v q =
     whole (pos 0)

@@ -1,4 +1,4 @@
--- Document 01, "Stand-in proxies": which proxies are refused, and the rows of a Box and of a Cut.
+-- Rules 6.2 to 6.6: which proxies are refused, and the rows of a Box and of a Cut.
 use Prim.Native.Nat.{ℕ, zero, suc}
 use mathlib.Core.Bool.{Bool, cond, _&&_}
 use mathlib.Core.List.{List, [], _∷_}
@@ -16,7 +16,7 @@ use Rattle.standin.specs.declared.Numbers.{Numbers}
 use Rattle.standin.specs.declared.ScaledTriple.{ScaledTriple}
 use Rattle.standin.specs.Sixteenths.{sixteenths, isTaken, cornerLimit, normalLimit}
 
--- "For d = 4.": three axes of space, and time
+-- rule 6.1: three axes of space, and time
 abbrev pub proxyAxes : ℕ
 proxyAxes = 4
 
@@ -41,7 +41,7 @@ scaledTriple limit p =
 abbrev pub cornerSixteenths : Triple → ScaledTriple
 cornerSixteenths corner = scaledTriple cornerLimit corner
 
--- "Near ≤ far on each axis; equality is accepted."
+-- rule 6.2: near is at most far, number by number
 abbrev pub atMost : Numbers → Numbers → Bool
 atMost near far = leZ (near .x) (far .x) && leZ (near .y) (far .y) && leZ (near .z) (far .z)
 
@@ -56,7 +56,7 @@ takesBox c v =
 unfoldable pub takesCut : Plane → Triple → Bool
 takesCut p v = takesTriple normalLimit (p .normal) && isTaken cornerLimit (p .offset) && takesTriple normalLimit v
 
--- number 10: "proxy number not as above, or near > far"
+-- rule 8.1, number 10: a number that is not taken, or near over far
 abbrev pub solidRefusal : Solid → Triple → ℕ
 solidRefusal (Box c) v = unless (takesBox c v) badProxy
 solidRefusal (Cut p) v = unless (takesCut p v) badProxy
@@ -64,7 +64,7 @@ solidRefusal (Cut p) v = unless (takesCut p v) badProxy
 abbrev pub proxyRefusal : Proxy → ℕ
 proxyRefusal p = solidRefusal (p .solid) (p .displacement)
 
--- "six rows of five numbers", and their zeros
+-- rule 6.3: a row, and the zeros of one row and of six
 abbrev pub row : ℤ → ℤ → ℤ → ℤ → ℤ → List ℤ
 row a0 a1 a2 a3 a4 = a0 ∷ a1 ∷ a2 ∷ a3 ∷ a4 ∷ []
 
@@ -85,14 +85,14 @@ abbrev pub rowAlong : ℕ → ℤ → ℤ → ℤ → List ℤ
 rowAlong axis a0 n a4 =
     row a0 (along axis n (pos 0) (pos 0)) (along axis (pos 0) n (pos 0)) (along axis (pos 0) (pos 0) n) a4
 
--- "The x near row is (−16·near, 16, 0, 0, −16·v); the x far row is (16·far, −16, 0, 0, 16·v)", by sixteenths
+-- rule 6.3: the near and the far row of an axis, from numbers in sixteenths
 abbrev pub nearRow : ℕ → ℤ → ℤ → List ℤ
 nearRow axis near v = rowAlong axis (negℤ near) (pos 16) (negℤ v)
 
 abbrev pub farRow : ℕ → ℤ → ℤ → List ℤ
 farRow axis far v = rowAlong axis far (negsuc 15) v
 
--- "x near, x far, then y, then z"
+-- rule 6.3: near and far of each axis of space in turn
 abbrev pub rowsBetween : Numbers → Numbers → Numbers → List (List ℤ)
 rowsBetween near far v =
     nearRow 0 (near .x) (v .x)
@@ -110,18 +110,18 @@ rowsOfBox c v = rowsBetween (numbersOf (c .near)) (numbersOf (c .far)) (numbersO
 unfoldable pub isLimited : ℕ → Numbers → Bool
 isLimited limit n = atMost (alike (negℤ (pos limit))) n && atMost n (alike (pos limit))
 
--- the rows between any two corners in sixteenths; zeros where a row would exceed a limit of halfspaces
+-- rule 6.6: the rows between any two corners in sixteenths; zeros where a row would exceed a limit of halfspaces
 unfoldable pub rowsWithin : Numbers → Numbers → Numbers → List (List ℤ)
 rowsWithin near far v =
     cond (isLimited offsetLimit near && isLimited offsetLimit far && isLimited coefficientLimit v)
     (rowsBetween near far v)
     zeroRows
 
--- 256·n·v
+-- the scalar product: of numbers in sixteenths it is 256·(n·v)
 unfoldable pub dot : Numbers → Numbers → ℤ
 dot n v = n .x *ℤ v .x +ℤ n .y *ℤ v .y +ℤ n .z *ℤ v .z
 
--- "(256·c, 256·n1, 256·n2, 256·n3, −256·n·v)": 256·c is 16 times 16·c
+-- rule 6.4, from numbers in sixteenths: 256·c is 16 times 16·c
 abbrev pub rowAcross : Numbers → ℤ → Numbers → List ℤ
 rowAcross n c v = row (pos 16 *ℤ c) (pos 16 *ℤ n .x) (pos 16 *ℤ n .y) (pos 16 *ℤ n .z) (negℤ (dot n v))
 
@@ -143,7 +143,7 @@ solidCutRow (Cut p) v = cond (takesCut p v) (rowOfCut p v) zeroRow
 abbrev pub cutRow : Proxy → List ℤ
 cutRow p = solidCutRow (p .solid) (p .displacement)
 
--- how many of them there are
+-- rule 6.5: how many of them there are
 abbrev pub solidBoxCount : Solid → Triple → ℕ
 solidBoxCount (Box c) v = cond (takesBox c v) 6 0
 solidBoxCount (Cut p) v = 0

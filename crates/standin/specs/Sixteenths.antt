@@ -1,12 +1,12 @@
--- Document 01, "Stand-in proxies": "Each number must be a finite multiple of 1/16 (−0.0 is 0)". The library's
--- `fin s m e` is the number m · 2^e, negative where s is true, so its size is the fraction m · up e / down e.
+-- Rule 6.2: which floats are whole numbers of sixteenths, within a limit. The toolchain's `fin s m e` is the number
+-- m · 2^e, negative where s is true, so its size is the fraction m · up e / down e.
 use Prim.Native.Nat.{ℕ, _*_, _/_, _%_}
 use mathlib.Core.Bool.{Bool, false, cond, _&&_}
 use lib.Dec.{leb, eqb}
 use lib.IntN.{ℤ, pos, negℤ}
 use lib.Ieee.{Float, nan, inf, fin, up, down}
 
--- "|corner| and |c| ≤ 4,096, |n| and |v| numbers ≤ 64": in sixteenths
+-- rule 6.2: the limits of a corner and an offset, and those of a normal and a displacement, in sixteenths
 abbrev pub cornerLimit : ℕ
 cornerLimit = 4_096 * 16
 
@@ -23,8 +23,7 @@ sixteenths nan = pos 0
 sixteenths (inf s) = pos 0
 sixteenths (fin s m e) = withSign s (m * up e * 16 / down e)
 
--- x is a finite multiple of 1/16, of at most `limit` sixteenths in size: 16 times its fraction is whole, and at most
--- the limit
+-- rule 6.2: x is finite, 16 times its fraction is whole, and that is at most the limit
 unfoldable pub isTaken : ℕ → Float → Bool
 isTaken limit nan = false
 isTaken limit (inf s) = false

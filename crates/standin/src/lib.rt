@@ -301,7 +301,7 @@ fn is_limited(numbers: Numbers, limit: i64) -> bool
     in_order(least, numbers) & in_order(numbers, most)
 }
 
-// BAD_PROXY where a number is no finite multiple of 1/16 within its limit, or near > far; else 0.
+// BAD_PROXY where a number is not taken (rule 6.2), or near exceeds far; else 0.
 pub fn refusal(proxy: Proxy) -> u64
     ensures { λ r. ⌜ r ≡ proxyRefusal proxy ⌝ }
 {
@@ -325,7 +325,7 @@ pub fn box_row_count(proxy: Proxy) -> u64
     if held.taken { 6 } else { 0 }
 }
 
-// The six rows of a Box: x near, x far, then y, then z. Zeros where `box_row_count` is 0.
+// The six rows of a Box, near and far of each axis in turn (rule 6.3). Zeros where `box_row_count` is 0.
 pub fn box_rows(proxy: Proxy) -> [[i64; 5]; 6]
     ensures { λ r. ⌜ r ≡ boxRows proxy ⌝ }
 {
@@ -345,7 +345,7 @@ pub fn cut_row_count(proxy: Proxy) -> u64
     if held.taken { 1 } else { 0 }
 }
 
-// The one row of a Cut. Zeros where `cut_row_count` is 0.
+// The one row of a Cut (rule 6.4). Zeros where `cut_row_count` is 0.
 pub fn cut_row(proxy: Proxy) -> [i64; 5]
     ensures { λ r. ⌜ r ≡ cutRow proxy ⌝ }
 {
@@ -357,7 +357,7 @@ pub fn cut_row(proxy: Proxy) -> [i64; 5]
     }
 }
 
-// A corner in sixteenths, where each of its numbers is a finite multiple of 1/16 within a corner's limit.
+// A corner in sixteenths, where each of its numbers is taken (rule 6.2).
 pub fn corner_sixteenths(corner: Triple) -> ScaledTriple
     ensures { λ r. ⌜ r ≡ cornerSixteenths corner ⌝ }
 {

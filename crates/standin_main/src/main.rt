@@ -231,7 +231,7 @@ fn order() {
     answer(box_along_x(2.5625, 2.5, 0.0));
 }
 
-// The example of document 01, with all its rows; a Cut; and each asked for the other's rows.
+// A Box with all its rows; a Cut; and each asked for the other's rows.
 fn rows() {
     let moving = box_along_x(2.5, 4.0, -0.25);
     io::write_all(1, b"Box, near x 2.5, far x 4, v -0.25");

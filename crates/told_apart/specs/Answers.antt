@@ -1,5 +1,5 @@
--- What it is for a contract to fix its answer: any two answers that it allows to the same arguments are equal. An
--- answer is what comes back and what every lent buffer holds afterwards.
+-- Rule 10.4: what it is for a contract to fix its answer. Any two answers that it allows to the same arguments are
+-- equal. An answer is what comes back and what every lent buffer holds afterwards.
 use Prim.Native.Nat.{ℕ}
 use mathlib.Core.Path.{_≡_}
 use mathlib.Core.List.{List}

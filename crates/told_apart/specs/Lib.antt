@@ -1,2 +1,2 @@
--- What it is for a contract to fix its answer.
+-- What it is for a contract to fix its answer (rule 10.4).
 pub mod Answers

@@ -277,7 +277,7 @@ module _ {b : Block} (g : Given b) (h : b .level < levels (b .universe)) where
 pub stays-itself-last : (b : Block) → levels (b .universe) ≤ b .level → (lowHalf b ≡ b) × (highHalf b ≡ b)
 stays-itself-last b h = stays-is b (rw (le-ltb (b .level) (levels (b .universe)) h) (and-false (isGiven b)))
 
--- and so does one that no halving of the first block gives
+-- and so does one that is not given
 pub stays-itself-other : (b : Block) → length (b .low) ≡ mostAxes → (Given b → ⊥) → (lowHalf b ≡ b) × (highHalf b ≡ b)
 stays-itself-other b len n = go (isGiven b) refl
   where

@@ -1,5 +1,5 @@
--- Where all axes have equal bits, document 01's two sentences: "There are L = d × k levels of halving", and "A block at level l is halved across
--- axis (l mod d) + 1". Of any universe with equal bits, and of the universe of today, which has no other.
+-- Rules 1.2 and 1.3 where all axes have equal bits: there are d · k levels, and level l halves axis l mod d. Of any universe with equal bits, and of the
+-- universe as `bitsAlong` has it, which has no other.
 use mathlib.Core.Path.{_≡_, refl}
 use Prim.Native.Nat.{ℕ, _*_, _%_, _≤_, _<_}
 use native.Mathlib.Omega.{arith}

@@ -1,4 +1,4 @@
--- Document 01, "The universe": the whole block, the low and the high half, and which blocks halving gives.
+-- Rule 1.6: the whole block, the low and the high half, and which blocks halving gives.
 use Prim.Native.Nat.{ℕ, suc, _+_, _%_, _<_}
 use mathlib.Core.Path.{_≡_}
 use mathlib.Core.Bool.{Bool, cond, _&&_}
@@ -54,7 +54,7 @@ isGiven b =
     && leb (b .level) (levels (b .universe))
     && every mostAxes (placedAlong b)
 
--- "A block at level L, or one that no halving of the first block gives, yields itself."
+-- rule 1.6: a block with no halves of its own, at level L or given by no halving, is its own half
 unfoldable pub lowHalf : Block → Block
 lowHalf b = cond (isGiven b && ltb (b .level) (levels (b .universe))) (low b) b
 

@@ -1,4 +1,4 @@
--- Lent memory: a refusal leaves it as it was, a success writes its front and nothing behind that.
+-- Rule 8.4: a refusal leaves lent memory as it was, a success writes its front and nothing behind that.
 use Prim.Native.Nat.{ℕ}
 use mathlib.Core.Bool.{cond}
 use mathlib.Core.List.{List, _++_}
@@ -10,6 +10,6 @@ use Rattle.universe.specs.Refusals.{unless, noRoom}
 unfoldable pub overwritten : {A : Type 0} → ℕ → List A → List A → List A
 overwritten refusal values before = cond (eqb refusal 0) (values ++ drop (length values) before) before
 
--- number 6 where what is needed exceeds the room lent
+-- rule 8.1, number 6: more is needed than is lent
 abbrev pub roomRefusal : ℕ → ℕ → ℕ
 roomRefusal lent needed = unless (leb needed lent) noRoom

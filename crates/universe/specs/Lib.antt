@@ -1,4 +1,4 @@
--- Document 01, "The universe", the room formula of "Expressions", and how refusals and lent memory are said.
+-- The universe (rules, section 1) and room (4.7); how refusals and lent memory are said (section 8).
 pub mod Refusals
 pub mod Lent
 pub mod Rounds

@@ -1,5 +1,5 @@
--- What the universe answers when asked: its levels, the bits and the side of an axis, the axis of each level, the
--- voxels of a block. Each answers for every number, with 0 where the universe is refused or has no such axis or level.
+-- Rule 1.8: what the universe answers when asked for its levels, the bits and the side of an axis, the axis of each
+-- level, the voxels of a block. Where the universe is refused or has no such axis or level, the answer is 0.
 use Prim.Native.Nat.{ℕ, suc, _-_, _^_}
 use mathlib.Core.Bool.{Bool, cond, _&&_}
 use mathlib.Core.List.{List}

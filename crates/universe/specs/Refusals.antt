@@ -1,4 +1,4 @@
--- Document 01, "Numbers we say no with". Each check gives its number or 0; the first that is not 0 is the answer's.
+-- Rules 8.1 and 8.5: the numbers. Each check gives its number or 0; the first that is not 0 is the answer's.
 use Prim.Native.Nat.{ℕ}
 use mathlib.Core.Bool.{Bool, cond}
 use mathlib.Core.List.{List, [], _∷_}

@@ -1,4 +1,4 @@
--- Document 01, "Expressions": room, for N halfspace words in all trees of the run.
+-- Rule 4.7: room, by the number of words that name a halfspace.
 use Prim.Native.Nat.{ℕ, _+_, _*_, _-_, _≤_, _<_, min}
 use mathlib.Core.Bool.{cond}
 use mathlib.Core.List.{List}
@@ -9,18 +9,18 @@ use Rattle.universe.specs.declared.Universe.{Universe}
 use Rattle.universe.specs.declared.room.RoomAnswer.{RoomAnswer}
 use Rattle.universe.specs.Universe.{mostAxes, longestSide, universeRefusal, levels, blocksAlong}
 
--- "at level l let ni be the blocks along axis i": their number, and that of those that touch no low face
+-- the blocks of level l, those along its axes multiplied; and those that touch no low face, being first along no axis
 unfoldable pub blocksAt : Universe → ℕ → ℕ
 blocksAt u l = product (u .axes) (blocksAlong u l)
 
 unfoldable pub innerBlocksAt : Universe → ℕ → ℕ
 innerBlocksAt u l = product (u .axes) (λ i. blocksAlong u l i - 1)
 
--- "The level counts the smaller of Π ni and N × (Π ni − Π (ni − 1))."
+-- what the level counts: all its blocks or, if that is less, N times those that touch a low face
 unfoldable pub levelCount : Universe → ℕ → ℕ → ℕ
 levelCount u leaves l = min (blocksAt u l) (leaves * (blocksAt u l - innerBlocksAt u l))
 
--- "Room is 1 + 2 × the sum over levels 0 to L−1."
+-- one more than twice the sum over the levels above L
 unfoldable pub room : Universe → ℕ → ℕ
 room u leaves = 1 + 2 * sum (levels u) (levelCount u leaves)
 

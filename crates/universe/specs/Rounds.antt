@@ -1,5 +1,5 @@
--- The order in which axes are halved, axis i as often as it has bits, round after round: the axes take turns, and one
--- that has no bits left is passed over. And such an order with one axis left out.
+-- Rule 1.3: the order in which axes are halved, axis i as often as it has bits, round after round: the axes take turns,
+-- and one that has no bits left is passed over. And such an order with one axis left out.
 use Prim.Native.Nat.{ℕ, zero, suc, _-_}
 use mathlib.Core.Bool.{Bool, cond}
 use mathlib.Core.List.{List, [], _∷_, _++_}

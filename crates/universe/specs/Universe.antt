@@ -1,6 +1,6 @@
--- Document 01, "The universe": axes, bits, sides, levels, the axis of a level, frames; and the limits. Axis i of the
--- document is i − 1 here. How many bits an axis has is said by `bitsAlong` alone; the document's "L = d × k" and
--- "axis (l mod d) + 1" are laws, for axes with equal bits (proofs/EqualBits.antt).
+-- Rules 1.1 to 1.5 (docs/RULES.md): axes, bits, sides, levels, the axis of a level, frames; and the limits. Axes are
+-- counted from 0. How many bits an axis has is said by `bitsAlong` alone; that L is d · k, and that level l halves axis
+-- l mod d, are laws for axes with equal bits (proofs/EqualBits.antt).
 use Prim.Native.Nat.{ℕ, zero, suc, _+_, _-_, _*_, _^_}
 use mathlib.Core.Bool.{cond, _&&_}
 use mathlib.Core.List.{List}
@@ -11,7 +11,7 @@ use Rattle.universe.specs.declared.Universe.{Universe}
 use Rattle.universe.specs.Refusals.{unless, badUniverse}
 use Rattle.universe.specs.Rounds.{rounds}
 
--- "Axes d: 1 to 4. Bits k: 0 to 10."
+-- rule 1.1: one to four axes, none to ten bits
 abbrev pub leastAxes : ℕ
 leastAxes = 1
 
@@ -28,42 +28,43 @@ mostLevels = mostAxes * mostBits
 abbrev pub longestSide : ℕ
 longestSide = 2 ^ mostBits
 
--- "Limits: |a0| ≤ 1,099,511,627,776; the others ≤ 16,777,216."
+-- rule 2.1: how large a0 may be, and how large each coefficient
 abbrev pub offsetLimit : ℕ
 offsetLimit = 1_099_511_627_776
 
 abbrev pub coefficientLimit : ℕ
 coefficientLimit = 16_777_216
 
--- number 2 exactly where d or k is outside its range
+-- rule 8.1, number 2: axes or bits out of range
 unfoldable pub universeRefusal : Universe → ℕ
 universeRefusal u = unless (leb leastAxes (u .axes) && leb (u .axes) mostAxes && leb (u .bits) mostBits) badUniverse
 
--- the bits of axis i
+-- rule 1.1: the bits of axis i, the same for every axis
 unfoldable pub bitsAlong : Universe → ℕ → ℕ
 bitsAlong u i = u .bits
 
--- "Each side is M = 2^k units long."
+-- rule 1.1: how many units long it is
 abbrev pub sideAlong : Universe → ℕ → ℕ
 sideAlong u i = 2 ^ bitsAlong u i
 
--- the levels of halving: the bits of all axes
+-- rule 1.2: as many levels as all axes have bits
 unfoldable pub levels : Universe → ℕ
 levels u = sum (u .axes) (bitsAlong u)
 
--- the axes in the order of halving; no axis has more bits than there are levels, so that many rounds list them all
+-- rule 1.3: the axes in the order of halving; no axis has more bits than there are levels, so that many rounds list
+-- them all
 unfoldable pub order : Universe → List ℕ
 order u = rounds (bitsAlong u) (u .axes) (levels u)
 
--- the axis across which a block at level l is halved: the l-th of the order
+-- the axis that level l halves: the l-th of the order
 unfoldable pub axisAt : Universe → ℕ → ℕ
 axisAt u l = getD (order u) l 0
 
--- "The last axis is the frame axis, also when it is the only one."
+-- rule 1.4: the last axis counts frames
 abbrev pub frameAxis : Universe → ℕ
 frameAxis u = u .axes - 1
 
--- "Frames run 0 to M−1": how many there are
+-- and there are as many frames as it has units
 abbrev pub frameCount : Universe → ℕ
 frameCount u = sideAlong u (frameAxis u)
 

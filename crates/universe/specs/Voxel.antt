@@ -1,4 +1,4 @@
--- Document 01: voxels, the way to a voxel by halves, and windows of frames.
+-- Rules 1.9 and 5.1: voxels, the path to a voxel by halves, and windows of frames.
 use Prim.Native.Nat.{ℕ, zero, suc, _+_, _/_, _%_, _≤_, _<_}
 use mathlib.Core.Bool.{cond, _&&_}
 use mathlib.Core.List.{List, [], _∷_}
@@ -15,14 +15,14 @@ use Rattle.universe.specs.Block.{lowAlong, lengthAlong}
 abbrev pub placeAlong : List ℕ → ℕ → ℕ
 placeAlong v i = getD v i 0
 
--- number 9 where a voxel is outside the universe or has a nonzero place above d
+-- rule 8.1, number 9: a place that is not along its axis, or not 0 along an axis that is not there
 unfoldable pub voxelRefusal : Universe → List ℕ → ℕ
 voxelRefusal u v =
     unless
     (every mostAxes (λ i. cond (ltb i (u .axes)) (ltb (placeAlong v i) (sideAlong u i)) (eqb (placeAlong v i) 0)))
     outside
 
--- number 9 where a window is outside the universe, or first > last; both ends are in
+-- rule 8.1, number 9: a window that ends before it begins, or past the last frame; both its ends are in
 unfoldable pub windowRefusal : Universe → ℕ → ℕ → ℕ
 windowRefusal u first last = unless (leb first last && ltb last (frameCount u)) outside
 
@@ -40,6 +40,6 @@ unfoldable pub pathFrom : Universe → List ℕ → ℕ → ℕ → List ℕ
 pathFrom u v l zero = []
 pathFrom u v l (suc n) = halfAt u l (placeAlong v (axisAt u l)) ∷ pathFrom u v (suc l) n
 
--- the path of a voxel: the halves that lead to it from the whole universe
+-- rule 1.9: the halves that lead to a voxel from the whole universe
 abbrev pub pathTo : Universe → List ℕ → List ℕ
 pathTo u v = pathFrom u v 0 (levels u)

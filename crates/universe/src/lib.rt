@@ -32,12 +32,12 @@ pub struct Halves {
 }
 
 impl Universe {
-    // Axes d: 1 to 4.
+    // One to four axes (rule 1.1).
     pub const LEAST_AXES: u64 = 1;
 
     pub const MOST_AXES: u64 = 4;
 
-    // Bits k: 0 to 10.
+    // None to ten bits (rule 1.1).
     pub const MOST_BITS: u64 = 10;
 
     // So no universe has more levels, and none a longer side.
@@ -45,7 +45,7 @@ impl Universe {
 
     pub const LONGEST_SIDE: u64 = 1 << Universe::MOST_BITS;
 
-    // The size of a0 at the most, and that of the other coefficients.
+    // The size of a0 at the most, and that of the other coefficients (rule 2.1).
     pub const OFFSET_LIMIT: i64 = 1_099_511_627_776;
 
     pub const COEFFICIENT_LIMIT: i64 = 16_777_216;

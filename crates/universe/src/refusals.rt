@@ -1,12 +1,12 @@
-// The numbers we say no with; 0 is no refusal.
+// The numbers that refuse (rule 8.1); 0 is no refusal.
 
-// A file: short of its header, mark, version, zero byte, or length wrong.
+// A file that is no scene and no shape, by its mark, its version, its zero byte or its length.
 pub const BAD_FILE: u64 = 1;
 
 // Axes or bits outside their range.
 pub const BAD_UNIVERSE: u64 = 2;
 
-// Rows not in fives, too many of them, or a coefficient outside its limit.
+// Rows that are not five numbers each, too many rows, or a number over its limit.
 pub const BAD_ROWS: u64 = 3;
 
 // Words that are no tree over the rows.
@@ -24,7 +24,7 @@ pub const BAD_EXPRESSION: u64 = 7;
 // A shape file's expression that is not merged.
 pub const NOT_MERGED: u64 = 8;
 
-// A voxel, path or window outside the universe.
+// A voxel, path or window that the universe does not hold.
 pub const OUTSIDE: u64 = 9;
 
 // A proxy's number that is not taken, or near > far.

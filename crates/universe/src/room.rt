@@ -61,7 +61,7 @@ fn room_accepted(universe: Universe, leaves: u64) -> u64
 }
 
 impl Universe {
-    // How many symbols an expression takes at the most, for so many halfspace words in all trees of the run.
+    // How many symbols an expression takes at the most, for so many words that name a halfspace (rule 4.7).
     pub fn room(self, leaves: u64) -> RoomAnswer
         ensures { λ r. ⌜ r ≡ roomAnswer self leaves ⌝ }
     {

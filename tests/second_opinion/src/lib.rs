@@ -1,5 +1,5 @@
-//! A second opinion of document 01: the same answers as the library, in plain Rust, written from the document
-//! alone. `plain` is the document, `fast` the converter that the benchmark measures against, `generate` makes
+//! A second opinion of the rules: the same answers as the library, in plain Rust, written from the rules
+//! alone (docs/RULES.md). `plain` is the rules, `fast` the converter that the benchmark measures against, `generate` makes
 //! the cases.
 
 pub mod fast;

@@ -148,7 +148,7 @@ const MANY_CASES: u64 = 3_000;
 /// One entry point's comparison.
 struct Line {
     name: &'static str,
-    /// the numbers that document 01 lets it refuse with
+    /// the numbers that the rules let it refuse with
     refusals: &'static [u64],
     seed: u64,
     cases: u64,
@@ -526,7 +526,7 @@ const PROGRAM: &[u64] = &[BAD_FILE, BAD_UNIVERSE, BAD_ROWS, BAD_TREE, OVERFULL_T
 
 type Compare = fn(&mut Line, &mut Random);
 
-/// Name, share of the rounds in a thousand, the numbers to refuse with in document 01's order, comparison.
+/// Name, share of the rounds in a thousand, the numbers to refuse with in their order, comparison.
 const ENTRY_POINTS: &[(&str, u64, &[u64], Compare)] = &[
     ("durbizhan_room", 1000, &[BAD_UNIVERSE], rooms),
     ("durbizhan_leaves", 1000, &[], leaves),

@@ -1,4 +1,4 @@
-//! Document 01 in plain Rust, for reading and not for speed. Each section follows the document's own. The public
+//! The rules (docs/RULES.md) in plain Rust, for reading and not for speed, section by section. The public
 //! functions at the end are the entry points of the C face, with the same parameters in the same order: each
 //! returns the refusal number and fills its answer and the lent buffers.
 
@@ -223,7 +223,7 @@ pub fn reversed(tree: Tree) -> Tree {
     }
 }
 
-/// The same tree with each A MINUS B written as A INTERSECTION the reversal of B.
+/// The same tree with no MINUS (rule 3.3).
 pub fn without_minus(tree: Tree) -> Tree {
     match tree {
         Union(a, b) => Union(Box::new(without_minus(*a)), Box::new(without_minus(*b))),
@@ -342,7 +342,7 @@ pub fn raw_of(universe: &Universe, tree: &Tree) -> Vec<u8> {
     raw
 }
 
-/// The merged expression: each `(BB` becomes `B` and each `(WW` becomes `W`, until none is left.
+/// The merged expression by rule 4.3, word for word: `(BB` and `(WW` are replaced again and again.
 pub fn merged_by_replacement(expression: &[u8]) -> Vec<u8> {
     let mut now = expression.to_vec();
     loop {
@@ -493,7 +493,7 @@ pub fn room_of(universe: &Universe, leaves: u64) -> u64 {
 
 // --------------------------------------------------------------------------------------------------- verdicts
 
-/// Frames first to last, both ends in.
+/// The window of rule 5.1.
 pub fn window_checked(universe: &Universe, first: u64, last: u64) -> Answer<()> {
     if first > last || last >= universe.side() as u64 {
         return refused(OUTSIDE);

@@ -1,4 +1,4 @@
-//! Document 01's own cases, and the plain implementation held to itself: slow against fast, merging by
+//! The worked cases (crates/cases), and the plain implementation held to itself: slow against fast, merging by
 //! replacement against merging on the way, blocks against voxels.
 
 use crate::fast::{plain_merged_fast, plain_raw_fast, plain_verdict_fast, plain_volume_fast, Run};
