@@ -9,12 +9,12 @@ use borrow.Author.Tests.{eq-eqb, ne-eqb}
 use lib.ListN.{length, replicate, take}
 use lib.Seq.{sets, length-sets}
 use Rattle.universe.specs.declared.Universe.{Universe}
-use Rattle.universe.specs.Universe.{mostAxes, mostLevels, universeRefusal}
+use Rattle.universe.specs.Universe.{mostAxes, universeRefusal}
 use Rattle.universe.specs.Questions.{levelsAnswer, axesLeft}
 use Rattle.universe.specs.declared.room.RoomAnswer.{RoomAnswer}
 use Rattle.universe.specs.Room.{room, roomAnswer}
 use Rattle.universe.proofs.Refusing.{last-check}
-use Rattle.universe.proofs.Questions.{levels-told, levels-answered}
+use Rattle.universe.proofs.Questions.{levels-told}
 use Rattle.bintree.specs.Shape.{Shape, symbols}
 use Rattle.bintree.specs.Walks.{noted, laid}
 use Rattle.bintree.specs.declared.Written.{Written}
@@ -31,7 +31,7 @@ use Rattle.csg.specs.Raw.{raw}
 use Rattle.csg.proofs.Words.{accepted-length, tree-leaves}
 use Rattle.demands.proofs.Room.{raw-room}
 use Rattle.convert.specs.declared.lay.Piece.{Piece}
-use Rattle.convert.specs.Blocks.{Ready, RoomReady, Standing, treesOf, wholeSides, axisLeft}
+use Rattle.convert.specs.Blocks.{Ready, RoomReady, Standing, treesOf, wholeSides}
 use Rattle.convert.specs.Shapes.{shapeOf, shaped, laidShape, pieceOf, Laying}
 use Rattle.convert.specs.Answers.{twoTreesChecks, twoTreesRefusal, rawOfTwo, mergedOfTwo, writtenOfTwo}
 use Rattle.convert.specs.Answers.{rawOfTwoAnswer, rawOfTwoBuffer, mergedOfTwoAnswer, mergedOfTwoBuffer}
@@ -66,16 +66,13 @@ module _ (u : Universe) (surfaces : Surfaces) (first second : List ℕ) where
         )
 
 -- ---- the whole universe's block, and what its recursion writes
-pub levels-most : (u : Universe) {left : ℕ} → left ≡ levelsAnswer u → left ≤ mostLevels
-levels-most u e = rw e (levels-answered u)
-
 module _ {u : Universe} {surfaces : Surfaces} {first second : List ℕ} (r : Ready u surfaces first second) where
   pub standing : {left : ℕ} {side : List ℕ} → left ≡ levelsAnswer u → side ≡ wholeSides u → Standing u left (replicate mostAxes 0) side
   standing l e = rw (levels-told u refl (r .accepted-universe) l, e) (whole-standing u (r .accepted-universe))
 
-  pub laying : {left axis : ℕ} {side axes : List ℕ} → left ≡ levelsAnswer u → side ≡ wholeSides u → axes ≡ axesLeft u → axis ≡ axisLeft axes left →
-      Laying u surfaces first second axes left (replicate mostAxes 0) side axis 0
-  laying l e o a = record { ready = r; order = o; standing = standing l e; turn = a; fits = omega (arith, shape-small r (standing l e)) }
+  pub laying : {left : ℕ} {side axes : List ℕ} → left ≡ levelsAnswer u → side ≡ wholeSides u → axes ≡ axesLeft u →
+      Laying u surfaces first second axes left (replicate mostAxes 0) side 0
+  laying l e o = record { ready = r; order = o; standing = standing l e; fits = omega (arith, shape-small r (standing l e)) }
 
   module _ (m : Bool) {left : ℕ} (l : left ≡ levelsAnswer u) where
     abbrev written : List ℕ

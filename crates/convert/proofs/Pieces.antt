@@ -1,6 +1,6 @@
 -- Laying the shape of a block, merged or as it is: a leaf is held back; halves that are leaves of one colour are held back as one where shapes are merged, else
 -- `(` and what was held back of the halves is written.
-use Prim.Native.Nat.{ℕ, suc, _+_, _-_}
+use Prim.Native.Nat.{ℕ, suc, _+_, _-_, _<_}
 use mathlib.Core.Path.{_≡_, refl, sym, ap, _∙_}
 use mathlib.Core.Bool.{Bool, true, false, cond}
 use mathlib.Core.List.{List}
@@ -9,19 +9,30 @@ use borrow.Author.Needs.{needs}
 use lib.ListN.{getD, set}
 use Rattle.lemmas.proofs.Stores.{restored}
 use Rattle.universe.specs.declared.Universe.{Universe}
+use Rattle.bintree.specs.declared.Colour.the-variants.{White, Black}
 use Rattle.bintree.specs.Shape.{Shape, leaf, halved, size}
 use Rattle.bintree.specs.Walks.{heldOf, isAlike, joinedHalves, laid}
 use Rattle.bintree.proofs.Lays.{leaf-laid, apart-laid}
 use Rattle.csg.specs.Surfaces.{Surfaces}
 use Rattle.convert.specs.declared.lay.Piece.{Piece}
 use Rattle.convert.specs.Codes.{bitsOf}
-use Rattle.convert.specs.Blocks.{Ready, treesOf, blockLeft, axisLeft, halfSide, halvedSides, highLows, judged}
+use Rattle.convert.specs.Blocks.{Ready, treesOf, blockLeft, halfSide, halvedSides, highLows, judged}
 use Rattle.convert.specs.Shapes.{shapeOf, shaped, laidShape, symbolOfBits, pieceOf, isOne, joinedPiece, joinedRoom}
-use Rattle.convert.specs.Shapes.{Laying, Halving}
+use Rattle.convert.specs.Shapes.{heldUnit, endLimit, packed, unpacked, Laying, Halving}
 use Rattle.convert.proofs.Shapes.{shaped-leaf, shaped-size, shaped-one, shaped-apart, closed}
 
 piece-eq : {a b e f : ℕ} → a ≡ b → e ≡ f → _≡_ {A = Piece} (record { held = a; end = e }) (record { held = b; end = f })
 piece-eq p q = λ i. record { held = p i; end = q i }
+
+-- ---- a piece as one number, and back
+held-byte : (s : Shape) → heldOf s < heldUnit
+unfolding heldOf
+held-byte (leaf Black) = omega arith
+held-byte (leaf White) = omega arith
+held-byte (halved a b) = omega arith
+
+pub unpacked-is : (at : ℕ) (s : Shape) {number : ℕ} {piece : Piece} → number ≡ packed (pieceOf at s) → piece ≡ unpacked number → piece ≡ pieceOf at s
+unpacked-is at s e f = f ∙ rw e (piece-eq (omega (arith, held-byte s)) (omega (arith, held-byte s)))
 
 -- ---- two pieces joined, by the test of what was held back of them
 pub one-merging : (m : Bool) (x y : ℕ) {f : Bool} → m ≡ true → f ≡ isAlike x y → f ≡ isOne m x y
@@ -82,8 +93,8 @@ module _ {u : Universe} {surfaces : Surfaces} {first second axes : List ℕ} {le
     high-lows = rw (k .0)
 
     -- the places go on: the second half begins no later than the first would end unmerged
-    pub upper-asks : {next : ℕ} → next ≡ axisLeft axes (left - 1) → Laying u surfaces first second axes (left - 1) high-low side₁ next (below .end)
-    upper-asks e = rw (high-lows, k .1, e) (o .upper (below .end) (omega (arith, ap (λ (x : Piece). x .end) p, shaped-size m low-part)))
+    pub upper-asks : Laying u surfaces first second axes (left - 1) high-low side₁ (below .end)
+    upper-asks = rw (high-lows, k .1) (o .upper (below .end) (omega (arith, ap (λ (x : Piece). x .end) p, shaped-size m low-part)))
 
     pub put-back : {low₂ side₂ : List ℕ} → (low₂ ≡ high-low) × (side₂ ≡ side₁) →
         (set low₂ axis (getD low axis 0) ≡ low) × (set side₂ axis (getD side axis 0) ≡ side)
@@ -146,3 +157,8 @@ module _ {u : Universe} {surfaces : Surfaces} {first second axes : List ℕ} {le
               three ≡ cond f two (joinedHalves two at (below .held) (below .end) (above .held)) → (piece ≡ pieceOf at whole) × (three ≡ laid out at whole)
           by true f g j = let w = alike f in (g ∙ w .0, j ∙ w .1)
           by false f g j = let w = apart f j in (g ∙ w .0, w .1)
+
+      -- and its end fits
+      pub joined-fits : {piece : Piece} {three : List ℕ} → (piece ≡ joinedPiece m at below above) × (three ≡ joinedRoom m two at below above) →
+          piece .end < endLimit
+      joined-fits e = omega (arith, ap (λ (x : Piece). x .end) (piece-joined e .0), shaped-size m (shapeOf u surfaces first second left low), o .fits)

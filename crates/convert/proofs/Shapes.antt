@@ -25,8 +25,8 @@ use Rattle.csg.specs.Raw.{examine}
 use Rattle.csg.proofs.Raw.{examine-depth}
 use lib.ListN.{getD}
 use Rattle.convert.specs.Codes.{bitsOf}
-use Rattle.convert.specs.Blocks.{Ready, Standing, treesOf, blockLeft, highLows, judged}
-use Rattle.convert.specs.Shapes.{shapeOf, shaped, symbolOfBits, Laying, Halving}
+use Rattle.convert.specs.Blocks.{Ready, Standing, treesOf, blockLeft, axisLeft, highLows, judged}
+use Rattle.convert.specs.Shapes.{shapeOf, shaped, symbolOfBits, endLimit, Laying, Halving}
 use Rattle.convert.proofs.Blocks.{axis-is, axis-few, high-ends, lower-standing, upper-standing, lower-is, upper-is}
 use Rattle.convert.proofs.Judging.{written-decided, written-halved, never-last}
 
@@ -101,20 +101,20 @@ left-open (decided White) x e z = absurd (omega arith)
 left-open undecided x e z = refl
 
 -- there is a place after the first symbol
-pub one-fits : (s : Shape) (at : ℕ) → at + size s < 2 ^ 64 → at + 1 < 2 ^ 64
+pub one-fits : (s : Shape) (at : ℕ) → at + size s < endLimit → at + 1 < endLimit
 one-fits s at h = omega (arith, size-positive s)
 
-module _ {u : Universe} {surfaces : Surfaces} {first second axes low side : List ℕ} {axis at : ℕ} where
-  halving-below : (n : ℕ) → Laying u surfaces first second axes (suc n) low side axis at →
+module _ {u : Universe} {surfaces : Surfaces} {first second axes low side : List ℕ} {at : ℕ} where
+  halving-below : (n axis : ℕ) → axis ≡ axisLeft axes (suc n) → Laying u surfaces first second axes (suc n) low side at →
       judged surfaces (treesOf surfaces first second) (suc n) (blockLeft u (suc n) low) ≡ undecided →
       Halving u surfaces first second axes (suc n) low side axis at
   unfolding shapeOf size
-  halving-below n l f =
+  halving-below n axis turn l f =
       let t = treesOf surfaces first second in
       let p : suc n - 1 ≡ n = omega arith in
       let e = l .ready .accepted-universe in
       let s = l .standing in
-      let here : axis ≡ getD axes n 0 = rw p at (l .turn) in
+      let here : axis ≡ getD axes n 0 = rw p at turn in
       let at-level = here ∙ axis-is u e (l .order) n (s .above) in
       let a : Shape = shapeOf u surfaces first second n low in
       let b : Shape = shapeOf u surfaces first second n (highLows low side axis) in
@@ -128,19 +128,20 @@ module _ {u : Universe} {surfaces : Surfaces} {first second axes low side : List
         some = omega arith;
         place = omega (arith, s .above, levels-few u (accepted u e));
         within = axis-few u e n low side s axis at-level;
-        room = one-fits (shapeOf u surfaces first second (suc n) low) at (l .fits);
+        fits = l .fits;
         ends = high-ends u e n low side s axis at-level;
         shape = rw p is;
-        lower = rw p (record { ready = l .ready; order = l .order; standing = lower; turn = refl; fits = omega (arith, long, l .fits) });
-        upper = rw p (λ middle h. record { ready = l .ready; order = l .order; standing = upper; turn = refl; fits = omega (arith, long, l .fits) });
+        lower = rw p (record { ready = l .ready; order = l .order; standing = lower; fits = omega (arith, long, l .fits) });
+        upper = rw p (λ middle h. record { ready = l .ready; order = l .order; standing = upper; fits = omega (arith, long, l .fits) });
       }
 
-  pub halving : {left x : ℕ} → Laying u surfaces first second axes left low side axis at →
+  pub halving : {left x : ℕ} → Laying u surfaces first second axes left low side at →
       x ≡ bitsOf (judged surfaces (treesOf surfaces first second) left (blockLeft u left low)) → x ≡ 0 →
-      Halving u surfaces first second axes left low side axis at
+      Halving u surfaces first second axes left low side (axisLeft axes left) at
   halving {left} {x} l e z = by left l (left-open _ x e z)
     where
-      by : (n : ℕ) → Laying u surfaces first second axes n low side axis at →
-          judged surfaces (treesOf surfaces first second) n (blockLeft u n low) ≡ undecided → Halving u surfaces first second axes n low side axis at
+      by : (n : ℕ) → Laying u surfaces first second axes n low side at →
+          judged surfaces (treesOf surfaces first second) n (blockLeft u n low) ≡ undecided →
+          Halving u surfaces first second axes n low side (axisLeft axes n) at
       by zero k f = absurd (never-last surfaces (treesOf surfaces first second) (blockLeft u 0 low) f)
-      by (suc n) k f = halving-below n k f
+      by (suc n) k f = halving-below n (axisLeft axes (suc n)) refl k f

@@ -1,6 +1,6 @@
 -- How one recursion meets rules 4.2 and 4.3: what it lays of a block and joins, a shape as it is or merged. A leaf is
 -- held back, for its parent to write.
-use Prim.Native.Nat.{ℕ, _+_, _-_, _^_, _≤_, _<_}
+use Prim.Native.Nat.{ℕ, _+_, _-_, _*_, _/_, _%_, _^_, _≤_, _<_}
 use mathlib.Core.Path.{_≡_}
 use mathlib.Core.Bool.{Bool, true, false, cond, _&&_}
 use mathlib.Core.List.{List}
@@ -17,7 +17,7 @@ use Rattle.csg.specs.Surfaces.{Surfaces}
 use Rattle.csg.specs.Raw.{examine}
 use Rattle.convert.specs.declared.lay.Piece.{Piece}
 use Rattle.convert.specs.Codes.{blackBit}
-use Rattle.convert.specs.Blocks.{Ready, Standing, treesOf, blockLeft, axisLeft, halfSide, halvedSides, highLows}
+use Rattle.convert.specs.Blocks.{Ready, Standing, treesOf, blockLeft, halfSide, halvedSides, highLows}
 
 -- the raw shape of the block with so many levels left and these low places
 unfoldable pub shapeOf : Universe → Surfaces → List ℕ → List ℕ → ℕ → List ℕ → Shape
@@ -40,6 +40,20 @@ symbolOfBits bits = cond (eqb bits blackBit) (symbolOf Black) (symbolOf White)
 abbrev pub pieceOf : ℕ → Shape → Piece
 pieceOf at s = record { held = heldOf s; end = at + size s }
 
+-- a piece as one number, in which a call gives it back: the end, and below it what is held back, a byte
+abbrev pub heldUnit : ℕ
+heldUnit = 256
+
+abbrev pub packed : Piece → ℕ
+packed piece = piece .end * heldUnit + piece .held
+
+abbrev pub unpacked : ℕ → Piece
+unpacked number = record { held = number % heldUnit; end = number / heldUnit }
+
+-- every end is below this, so that a packed piece is a number of 64 bits
+abbrev pub endLimit : ℕ
+endLimit = 2 ^ 56
+
 -- two halves that are laid, joined: where shapes are merged, leaves of one colour are held back as one; else `(` and
 -- what was held back of the halves is written
 unfoldable pub isOne : Bool → ℕ → ℕ → Bool
@@ -55,29 +69,26 @@ unfoldable pub joinedRoom : Bool → List ℕ → ℕ → Piece → Piece → Li
 joinedRoom merging out at below above =
     cond (isOne merging (below .held) (above .held)) out (joinedHalves out at (below .held) (below .end) (above .held))
 
--- what laying a block from a place on asks: the axis is that of the levels left
+-- what laying a block from a place on asks
 pub record Laying (u : Universe) (surfaces : Surfaces) (first second axes : List ℕ)
-    (left : ℕ) (low side : List ℕ) (axis at : ℕ) : Type 0 where
+    (left : ℕ) (low side : List ℕ) (at : ℕ) : Type 0 where
   pub ready : Ready u surfaces first second
   pub order : axes ≡ axesLeft u
   pub standing : Standing u left low side
-  pub turn : axis ≡ axisLeft axes left
-  pub fits : at + size (shapeOf u surfaces first second left low) < 2 ^ 64
+  pub fits : at + size (shapeOf u surfaces first second left low) < endLimit
 
--- what laying both halves of a block asks: one that is undecided is halved
+-- what laying both halves of a block asks: one that is undecided is halved, across the axis of the levels left
 pub record Halving (u : Universe) (surfaces : Surfaces) (first second axes : List ℕ)
     (left : ℕ) (low side : List ℕ) (axis at : ℕ) : Type 0 where
   pub some : 1 ≤ left
-  pub place : left - 1 ≤ mostLevels
+  pub place : left - 1 < mostLevels
   pub within : axis < mostAxes
-  pub room : at + 1 < 2 ^ 64
+  pub fits : at + size (shapeOf u surfaces first second left low) < endLimit
   pub ends : getD low axis 0 + halfSide side axis < 2 ^ 64
   pub shape : shapeOf u surfaces first second left low
       ≡ halved
       (shapeOf u surfaces first second (left - 1) low)
       (shapeOf u surfaces first second (left - 1) (highLows low side axis))
-  pub lower : Laying u surfaces first second axes
-      (left - 1) low (halvedSides side axis) (axisLeft axes (left - 1)) (at + 1)
+  pub lower : Laying u surfaces first second axes (left - 1) low (halvedSides side axis) (at + 1)
   pub upper : (middle : ℕ) → middle ≤ at + 1 + size (shapeOf u surfaces first second (left - 1) low)
-      → Laying u surfaces first second axes
-      (left - 1) (highLows low side axis) (halvedSides side axis) (axisLeft axes (left - 1)) middle
+      → Laying u surfaces first second axes (left - 1) (highLows low side axis) (halvedSides side axis) middle

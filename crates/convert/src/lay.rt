@@ -1,5 +1,4 @@
 // The recursion over blocks, which lays the raw or the merged expression of two trees intersected into room.
-use crate::block::axis_left;
 use crate::block::whole_sides;
 use crate::judge::judge;
 use crate::marks::BLACK_BIT;
@@ -11,12 +10,15 @@ ghost use lib.ListN.{length};
 ghost use lib.Seq.{sets};
 ghost use Rattle.bintree.specs.Walks.{laid};
 ghost use Rattle.convert.specs.Answers.{writtenOfTwo};
-ghost use Rattle.convert.specs.Blocks.{Ready};
+ghost use Rattle.convert.specs.Blocks.{Ready, axisLeft};
 ghost use Rattle.convert.specs.Shapes.{
   symbolOfBits,
   laidShape,
   isOne,
   pieceOf,
+  packed,
+  unpacked,
+  endLimit,
   joinedPiece,
   joinedRoom,
   Laying,
@@ -29,6 +31,9 @@ pub(crate) struct Piece {
     pub held: u8,
     pub end: usize,
 }
+
+// What the end of a packed piece is multiplied by.
+const HELD_UNIT: usize = 256;
 
 // The symbol of a block that is judged BLACK or WHITE.
 fn symbol_of(mark: u8) -> u8
@@ -67,8 +72,26 @@ fn join(merging: bool, out: &mut [u8], at: usize, below: Piece, above: Piece) ->
     }
 }
 
+// A piece as one number, in which it comes back from a call: the end, and in the lowest byte what is held back.
+fn packed(piece: Piece) -> usize
+    requires { ⌜ piece .end < endLimit ⌝ }
+    ensures { λ r. ⌜ r ≡ packed piece ⌝ }
+{
+    piece.end * HELD_UNIT + piece.held as usize
+}
+
+// The piece that such a number is.
+fn unpacked(number: usize) -> Piece
+    ensures { λ r. ⌜ r ≡ unpacked number ⌝ }
+{
+    Piece {
+        held: (number % HELD_UNIT) as u8,
+        end: number / HELD_UNIT,
+    }
+}
+
 // Lays a block's shape, merged or as it is, from `at` on, as far as there is room; a leaf is held back. The low places
-// and the sides come back as they were.
+// and the sides come back as they were. Its piece comes back packed, since two numbers would go through memory.
 fn lay_block(
     universe: Universe,
     count: usize,
@@ -78,19 +101,18 @@ fn lay_block(
     axes: &[usize; Universe::MOST_LEVELS as usize],
     low: &mut [u64; Universe::MOST_AXES as usize],
     side: &mut [u64; Universe::MOST_AXES as usize],
-    axis: usize,
     left: u64,
     merging: bool,
     out: &mut [u8],
     at: usize,
-) -> Piece
+) -> usize
     requires { let surfaces = surfacesOf (now rows) in
-        ⌜ Laying universe surfaces (now first) (now second) (now axes) left (now low) (now side) axis at ⌝ }
+        ⌜ Laying universe surfaces (now first) (now second) (now axes) left (now low) (now side) at ⌝ }
     requires { ⌜ count ≡ universe .axes ⌝ }
     ensures { λ r. let surfaces = surfacesOf (now (rows .entry)) in
         let first = now (first .entry) in
         let second = now (second .entry) in
-        ⌜ r ≡ pieceOf at (laidShape merging universe surfaces first second left (now (low .entry))) ⌝ }
+        ⌜ r ≡ packed (pieceOf at (laidShape merging universe surfaces first second left (now (low .entry)))) ⌝ }
     ensures { λ _. let surfaces = surfacesOf (now (rows .entry)) in
         let first = now (first .entry) in
         let second = now (second .entry) in
@@ -100,10 +122,10 @@ fn lay_block(
 {
     let mark = judge(universe, count, rows, first, second, low, side, left);
     if mark != 0 {
-        return Piece {
+        return packed(Piece {
             held: symbol_of(mark),
             end: at + 1,
-        };
+        });
     }
     lay_halves(
         universe,
@@ -113,7 +135,6 @@ fn lay_block(
         axes,
         low,
         side,
-        axis,
         left,
         merging,
         out,
@@ -121,8 +142,7 @@ fn lay_block(
     )
 }
 
-// The same of a block that is undecided: both halves are laid, and joined. The number of axes and the axis of the
-// halves are read before anything is written, so that no block waits for them.
+// The same of a block that is undecided: both halves are laid, and joined.
 fn lay_halves(
     universe: Universe,
     rows: &[i64],
@@ -131,18 +151,18 @@ fn lay_halves(
     axes: &[usize; Universe::MOST_LEVELS as usize],
     low: &mut [u64; Universe::MOST_AXES as usize],
     side: &mut [u64; Universe::MOST_AXES as usize],
-    axis: usize,
     left: u64,
     merging: bool,
     out: &mut [u8],
     at: usize,
-) -> Piece
+) -> usize
     requires { let surfaces = surfacesOf (now rows) in
+        let axis = axisLeft (now axes) left in
         ⌜ Halving universe surfaces (now first) (now second) (now axes) left (now low) (now side) axis at ⌝ }
     ensures { λ r. let surfaces = surfacesOf (now (rows .entry)) in
         let first = now (first .entry) in
         let second = now (second .entry) in
-        ⌜ r ≡ pieceOf at (laidShape merging universe surfaces first second left (now (low .entry))) ⌝ }
+        ⌜ r ≡ packed (pieceOf at (laidShape merging universe surfaces first second left (now (low .entry)))) ⌝ }
     ensures { λ _. let surfaces = surfacesOf (now (rows .entry)) in
         let first = now (first .entry) in
         let second = now (second .entry) in
@@ -151,12 +171,12 @@ fn lay_halves(
     ensures { λ _. ⌜ (now (low .exit) ≡ now (low .entry)) × (now (side .exit) ≡ now (side .entry)) ⌝ }
 {
     let count = universe.axes as usize;
-    let next = axis_left(axes, left - 1);
+    let axis = axes[(left - 1) as usize];
     let near = low[axis];
     let whole = side[axis];
     let half = whole / 2;
     side[axis] = half;
-    let below = lay_block(
+    let below = unpacked(lay_block(
         universe,
         count,
         rows,
@@ -165,15 +185,14 @@ fn lay_halves(
         axes,
         low,
         side,
-        next,
         left - 1,
         merging,
         out,
         at + 1,
-    );
+    ));
     low[axis] = near + half;
     let middle = below.end;
-    let above = lay_block(
+    let above = unpacked(lay_block(
         universe,
         count,
         rows,
@@ -182,15 +201,14 @@ fn lay_halves(
         axes,
         low,
         side,
-        next,
         left - 1,
         merging,
         out,
         middle,
-    );
+    ));
     low[axis] = near;
     side[axis] = whole;
-    join(merging, out, at, below, above)
+    packed(join(merging, out, at, below, above))
 }
 
 // Writes the expression of the whole universe, merged or raw, as far as there is room, and gives its length.
@@ -220,7 +238,7 @@ pub(crate) fn write_whole(
         return 1;
     }
     let axes = universe.axes_left();
-    let piece = lay_halves(
+    let piece = unpacked(lay_halves(
         universe,
         rows,
         first,
@@ -228,12 +246,11 @@ pub(crate) fn write_whole(
         &axes,
         &mut low,
         &mut side,
-        axis_left(&axes, levels),
         levels,
         merging,
         out,
         0,
-    );
+    ));
     bintree::note(out, 0, piece.held);
     piece.end
 }

@@ -2,8 +2,8 @@
 use mathlib.Core.Path.{refl}
 use borrow.Author.Needs.{needs}
 use Rattle.convert.proofs.Shapes.{halving}
-use Rattle.convert.proofs.Pieces.{piece-closed}
-use Rattle.convert.proofs.Answers.{levels-most, standing, laying, piece-length, noted-whole}
+use Rattle.convert.proofs.Pieces.{unpacked-is, piece-closed}
+use Rattle.convert.proofs.Answers.{standing, laying, piece-length, noted-whole}
 use Rattle.convert.proofs.lay.write_whole.Statement.{statement}
 use Rattle.convert.proofs.lay.write_whole.Tie as tie
 
@@ -24,25 +24,24 @@ returns c =
       noted-whole (k .pre) _ (l .levels .ensures) (w .0) _ (w .1) (n .note .ensures),
     )
 
-axis-left-requires : tie.Need-axis-left-requires
-axis-left-requires c κs = levels-most _ (c .before .before .before .before .before .before .before .before .before .levels .ensures)
-
 lay-halves-requires : tie.Need-lay-halves-requires
 lay-halves-requires c κs =
-    let a = c .before .before .before .before .before .before in
+    let a = c .before .before .before .before in
     let j = a .before .before in
     let l = j .before .before .before in
     let r = l .before .before .before .before .before .pre in
-    let whole = laying r (l .levels .ensures) (l .before .whole-sides .ensures) (a .axes-left .ensures) (c .before .axis-left .ensures) in
+    let whole = laying r (l .levels .ensures) (l .before .whole-sides .ensures) (a .axes-left .ensures) in
     halving whole (j .judge .ensures) (a .before .if1 .left)
 
 returns-2 : tie.Need-returns-2
 returns-2 c =
-    let h = c .before .before .before .before .before .before in
-    let l = h .before .before .before .before .before .before .before .before .before .before .before .before in
+    let x = c .before .before .before .before in
+    let h = x .before .before .before in
+    let l = h .before .before .before .before .before .before .before .before .before .before in
     let r = l .before .before .before .before .before .pre in
     let e = h .lay-halves .ensures in
-    (piece-length r _ (l .levels .ensures) (e .0), noted-whole r _ (l .levels .ensures) (e .0) _ (e .1 .0) (c .before .before .note2 .ensures))
+    let p = unpacked-is _ _ (e .0) (x .unpacked .ensures) in
+    (piece-length r _ (l .levels .ensures) p, noted-whole r _ (l .levels .ensures) p _ (e .1 .0) (c .before .before .note2 .ensures))
 
 pub write-whole-spec : {M : Type 1} → statement M
 write-whole-spec =
@@ -56,8 +55,8 @@ write-whole-spec =
     (λ c. search needs)
     returns
     (λ c κs. search needs)
-    axis-left-requires
     lay-halves-requires
+    (λ c κs. search needs)
     (λ c κs. search needs)
     (λ c. search needs)
     returns-2)
