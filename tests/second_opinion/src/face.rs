@@ -4,64 +4,64 @@
 
 mod c {
     extern "C" {
-        pub fn durbizhan_room(axes: u64, bits: u64, leaves: u64, answer: *mut u64) -> u64;
-        pub fn durbizhan_leaves(words: *const u16, words_len: usize) -> u64;
+        pub fn durbizhan_room(axes: u64, bits: u64, leaves: u64, answer: *mut [u64; 1]) -> u64;
+        pub fn durbizhan_leaves(words: *const u16, words_count: usize) -> u64;
         pub fn durbizhan_raw_one(
-            axes: u64, bits: u64, rows: *const i64, rows_len: usize, words: *const u16, words_len: usize,
-            out: *mut u8, out_len: usize, answer: *mut u64,
+            axes: u64, bits: u64, rows: *const i64, rows_count: usize, words: *const u16, words_count: usize,
+            out: *mut u8, out_count: usize, answer: *mut [u64; 1],
         ) -> u64;
         pub fn durbizhan_raw_two(
-            axes: u64, bits: u64, rows: *const i64, rows_len: usize, first: *const u16, first_len: usize,
-            second: *const u16, second_len: usize, out: *mut u8, out_len: usize, answer: *mut u64,
+            axes: u64, bits: u64, rows: *const i64, rows_count: usize, first: *const u16, first_count: usize,
+            second: *const u16, second_count: usize, out: *mut u8, out_count: usize, answer: *mut [u64; 1],
         ) -> u64;
         pub fn durbizhan_merged_one(
-            axes: u64, bits: u64, rows: *const i64, rows_len: usize, words: *const u16, words_len: usize,
-            out: *mut u8, out_len: usize, answer: *mut u64,
+            axes: u64, bits: u64, rows: *const i64, rows_count: usize, words: *const u16, words_count: usize,
+            out: *mut u8, out_count: usize, answer: *mut [u64; 1],
         ) -> u64;
         pub fn durbizhan_merged_two(
-            axes: u64, bits: u64, rows: *const i64, rows_len: usize, first: *const u16, first_len: usize,
-            second: *const u16, second_len: usize, out: *mut u8, out_len: usize, answer: *mut u64,
+            axes: u64, bits: u64, rows: *const i64, rows_count: usize, first: *const u16, first_count: usize,
+            second: *const u16, second_count: usize, out: *mut u8, out_count: usize, answer: *mut [u64; 1],
         ) -> u64;
         pub fn durbizhan_verdict(
-            axes: u64, bits: u64, rows: *const i64, rows_len: usize, first: *const u16, first_len: usize,
-            second: *const u16, second_len: usize, first_frame: u64, last_frame: u64, out: *mut u8,
-            out_len: usize, answer: *mut u64,
+            axes: u64, bits: u64, rows: *const i64, rows_count: usize, first: *const u16, first_count: usize,
+            second: *const u16, second_count: usize, first_frame: u64, last_frame: u64, out: *mut u8,
+            out_count: usize, answer: *mut [u64; 5],
         ) -> u64;
-        pub fn durbizhan_well_formed(axes: u64, bits: u64, expression: *const u8, expression_len: usize) -> u64;
+        pub fn durbizhan_well_formed(axes: u64, bits: u64, expression: *const u8, expression_count: usize) -> u64;
         pub fn durbizhan_volume(
-            axes: u64, bits: u64, expression: *const u8, expression_len: usize, answer: *mut u64,
+            axes: u64, bits: u64, expression: *const u8, expression_count: usize, answer: *mut [u64; 1],
         ) -> u64;
         pub fn durbizhan_colour(
-            axes: u64, bits: u64, expression: *const u8, expression_len: usize, x: u64, y: u64, z: u64, t: u64,
-            answer: *mut u64,
+            axes: u64, bits: u64, expression: *const u8, expression_count: usize, x: u64, y: u64, z: u64, t: u64,
+            answer: *mut [u64; 1],
         ) -> u64;
         pub fn durbizhan_part(
-            axes: u64, bits: u64, expression: *const u8, expression_len: usize, path: *const u8,
-            path_len: usize, answer: *mut u64,
+            axes: u64, bits: u64, expression: *const u8, expression_count: usize, path: *const u8,
+            path_count: usize, answer: *mut [u64; 2],
         ) -> u64;
         pub fn durbizhan_merge(
-            axes: u64, bits: u64, expression: *const u8, expression_len: usize, out: *mut u8, out_len: usize,
-            answer: *mut u64,
+            axes: u64, bits: u64, expression: *const u8, expression_count: usize, out: *mut u8, out_count: usize,
+            answer: *mut [u64; 1],
         ) -> u64;
         pub fn durbizhan_scene(
-            bytes: *const u8, bytes_len: usize, rows: *mut i64, first: *mut u16, second: *mut u16,
-            answer: *mut u64,
+            bytes: *const u8, bytes_count: usize, rows: *mut [i64; 1280], first: *mut [u16; 255],
+            second: *mut [u16; 255], answer: *mut [u64; 7],
         ) -> u64;
-        pub fn durbizhan_lines(scene: *const u8, scene_len: usize, out: *mut u8) -> u64;
+        pub fn durbizhan_lines(scene: *const u8, scene_count: usize, out: *mut [u8; 256]) -> u64;
         pub fn durbizhan_shape_read(
-            bytes: *const u8, bytes_len: usize, out: *mut u8, out_len: usize, answer: *mut u64,
+            bytes: *const u8, bytes_count: usize, out: *mut u8, out_count: usize, answer: *mut [u64; 3],
         ) -> u64;
         pub fn durbizhan_shape_write(
-            axes: u64, bits: u64, expression: *const u8, expression_len: usize, out: *mut u8, out_len: usize,
-            answer: *mut u64,
+            axes: u64, bits: u64, expression: *const u8, expression_count: usize, out: *mut u8, out_count: usize,
+            answer: *mut [u64; 1],
         ) -> u64;
         pub fn durbizhan_box(
-            near_x: f64, near_y: f64, near_z: f64, far_x: f64, far_y: f64, far_z: f64, step_x: f64,
-            step_y: f64, step_z: f64, rows: *mut i64,
+            near_x: f64, near_y: f64, near_z: f64, far_x: f64, far_y: f64, far_z: f64, displacement_x: f64,
+            displacement_y: f64, displacement_z: f64, rows: *mut [i64; 30],
         ) -> u64;
         pub fn durbizhan_cut(
-            normal_x: f64, normal_y: f64, normal_z: f64, offset: f64, step_x: f64, step_y: f64, step_z: f64,
-            row: *mut i64,
+            normal_x: f64, normal_y: f64, normal_z: f64, offset: f64, displacement_x: f64, displacement_y: f64,
+            displacement_z: f64, row: *mut [i64; 5],
         ) -> u64;
     }
 }
@@ -70,7 +70,7 @@ mod c {
 // buffers are unique for the call, and the library keeps none of them.
 
 pub fn room(axes: u64, bits: u64, leaves: u64, answer: &mut [u64; 1]) -> u64 {
-    unsafe { c::durbizhan_room(axes, bits, leaves, answer.as_mut_ptr()) }
+    unsafe { c::durbizhan_room(axes, bits, leaves, answer) }
 }
 
 pub fn leaves(words: &[u16]) -> u64 {
@@ -81,7 +81,7 @@ pub fn raw_one(axes: u64, bits: u64, rows: &[i64], words: &[u16], out: &mut [u8]
     unsafe {
         c::durbizhan_raw_one(
             axes, bits, rows.as_ptr(), rows.len(), words.as_ptr(), words.len(), out.as_mut_ptr(), out.len(),
-            answer.as_mut_ptr(),
+            answer,
         )
     }
 }
@@ -92,7 +92,7 @@ pub fn raw_two(
     unsafe {
         c::durbizhan_raw_two(
             axes, bits, rows.as_ptr(), rows.len(), first.as_ptr(), first.len(), second.as_ptr(), second.len(),
-            out.as_mut_ptr(), out.len(), answer.as_mut_ptr(),
+            out.as_mut_ptr(), out.len(), answer,
         )
     }
 }
@@ -101,7 +101,7 @@ pub fn merged_one(axes: u64, bits: u64, rows: &[i64], words: &[u16], out: &mut [
     unsafe {
         c::durbizhan_merged_one(
             axes, bits, rows.as_ptr(), rows.len(), words.as_ptr(), words.len(), out.as_mut_ptr(), out.len(),
-            answer.as_mut_ptr(),
+            answer,
         )
     }
 }
@@ -112,7 +112,7 @@ pub fn merged_two(
     unsafe {
         c::durbizhan_merged_two(
             axes, bits, rows.as_ptr(), rows.len(), first.as_ptr(), first.len(), second.as_ptr(), second.len(),
-            out.as_mut_ptr(), out.len(), answer.as_mut_ptr(),
+            out.as_mut_ptr(), out.len(), answer,
         )
     }
 }
@@ -125,7 +125,7 @@ pub fn verdict(
     unsafe {
         c::durbizhan_verdict(
             axes, bits, rows.as_ptr(), rows.len(), first.as_ptr(), first.len(), second.as_ptr(), second.len(),
-            first_frame, last_frame, out.as_mut_ptr(), out.len(), answer.as_mut_ptr(),
+            first_frame, last_frame, out.as_mut_ptr(), out.len(), answer,
         )
     }
 }
@@ -135,30 +135,26 @@ pub fn well_formed(axes: u64, bits: u64, expression: &[u8]) -> u64 {
 }
 
 pub fn volume(axes: u64, bits: u64, expression: &[u8], answer: &mut [u64; 1]) -> u64 {
-    unsafe { c::durbizhan_volume(axes, bits, expression.as_ptr(), expression.len(), answer.as_mut_ptr()) }
+    unsafe { c::durbizhan_volume(axes, bits, expression.as_ptr(), expression.len(), answer) }
 }
 
 #[allow(clippy::too_many_arguments)]
 pub fn colour(
     axes: u64, bits: u64, expression: &[u8], x: u64, y: u64, z: u64, t: u64, answer: &mut [u64; 1],
 ) -> u64 {
-    unsafe {
-        c::durbizhan_colour(axes, bits, expression.as_ptr(), expression.len(), x, y, z, t, answer.as_mut_ptr())
-    }
+    unsafe { c::durbizhan_colour(axes, bits, expression.as_ptr(), expression.len(), x, y, z, t, answer) }
 }
 
 pub fn part(axes: u64, bits: u64, expression: &[u8], path: &[u8], answer: &mut [u64; 2]) -> u64 {
     unsafe {
-        c::durbizhan_part(
-            axes, bits, expression.as_ptr(), expression.len(), path.as_ptr(), path.len(), answer.as_mut_ptr(),
-        )
+        c::durbizhan_part(axes, bits, expression.as_ptr(), expression.len(), path.as_ptr(), path.len(), answer)
     }
 }
 
 pub fn merge(axes: u64, bits: u64, expression: &[u8], out: &mut [u8], answer: &mut [u64; 1]) -> u64 {
     unsafe {
         c::durbizhan_merge(
-            axes, bits, expression.as_ptr(), expression.len(), out.as_mut_ptr(), out.len(), answer.as_mut_ptr(),
+            axes, bits, expression.as_ptr(), expression.len(), out.as_mut_ptr(), out.len(), answer,
         )
     }
 }
@@ -166,38 +162,31 @@ pub fn merge(axes: u64, bits: u64, expression: &[u8], out: &mut [u8], answer: &m
 pub fn scene(
     bytes: &[u8], rows: &mut [i64; 1280], first: &mut [u16; 255], second: &mut [u16; 255], answer: &mut [u64; 7],
 ) -> u64 {
-    unsafe {
-        c::durbizhan_scene(
-            bytes.as_ptr(), bytes.len(), rows.as_mut_ptr(), first.as_mut_ptr(), second.as_mut_ptr(),
-            answer.as_mut_ptr(),
-        )
-    }
+    unsafe { c::durbizhan_scene(bytes.as_ptr(), bytes.len(), rows, first, second, answer) }
 }
 
 pub fn lines(scene: &[u8], out: &mut [u8; 256]) -> u64 {
-    unsafe { c::durbizhan_lines(scene.as_ptr(), scene.len(), out.as_mut_ptr()) }
+    unsafe { c::durbizhan_lines(scene.as_ptr(), scene.len(), out) }
 }
 
 pub fn shape_read(bytes: &[u8], out: &mut [u8], answer: &mut [u64; 3]) -> u64 {
-    unsafe {
-        c::durbizhan_shape_read(bytes.as_ptr(), bytes.len(), out.as_mut_ptr(), out.len(), answer.as_mut_ptr())
-    }
+    unsafe { c::durbizhan_shape_read(bytes.as_ptr(), bytes.len(), out.as_mut_ptr(), out.len(), answer) }
 }
 
 pub fn shape_write(axes: u64, bits: u64, expression: &[u8], out: &mut [u8], answer: &mut [u64; 1]) -> u64 {
     unsafe {
         c::durbizhan_shape_write(
-            axes, bits, expression.as_ptr(), expression.len(), out.as_mut_ptr(), out.len(), answer.as_mut_ptr(),
+            axes, bits, expression.as_ptr(), expression.len(), out.as_mut_ptr(), out.len(), answer,
         )
     }
 }
 
 pub fn box_proxy(near: [f64; 3], far: [f64; 3], step: [f64; 3], rows: &mut [i64; 30]) -> u64 {
     let ([a, b, c], [d, e, f], [g, h, i]) = (near, far, step);
-    unsafe { self::c::durbizhan_box(a, b, c, d, e, f, g, h, i, rows.as_mut_ptr()) }
+    unsafe { self::c::durbizhan_box(a, b, c, d, e, f, g, h, i, rows) }
 }
 
 pub fn cut_proxy(normal: [f64; 3], offset: f64, step: [f64; 3], row: &mut [i64; 5]) -> u64 {
     let ([a, b, c], [d, e, f]) = (normal, step);
-    unsafe { self::c::durbizhan_cut(a, b, c, offset, d, e, f, row.as_mut_ptr()) }
+    unsafe { self::c::durbizhan_cut(a, b, c, offset, d, e, f, row) }
 }
