@@ -10,7 +10,8 @@
  * what is written where it is not; `answer`, and the rows of a proxy, are always written, whole. What the caller owes:
  * each pointer is aligned and points to as many elements as are said, no pointer is NULL, that of an empty buffer
  * neither, and what a call writes to overlaps nothing else of that call. No function keeps a pointer or allocates; a
- * conversion or a verdict takes up to 80 KiB of the stack, durbizhan_lines up to 128 KiB.
+ * conversion or a verdict takes up to 80 KiB of the stack, durbizhan_lines up to 128 KiB, any other function up to
+ * 16 KiB.
  *
  * rows: five numbers a0 to a4 to a halfspace, which holds where a0 + a1*x1 + .. + a4*x4 >= 0.
  * words: a tree in postfix order. 0 is WHITE, 1 BLACK; 2 joins by UNION, 3 by INTERSECTION, 4 by MINUS; 256 + i is

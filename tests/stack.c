@@ -1,0 +1,410 @@
+/* tests/stack.c: how much of the stack each function of the library takes. tests/stack builds and runs it, and holds
+ * what it prints to what include/durbizhan.h promises: a line for each function, its name and the most bytes of a call.
+ *
+ * Each call is made on a stack of its own that is painted beforehand. What is painted no more was taken, the frame of
+ * the call itself among it; two paints are tried, so that what is written in the colour of one is seen on the other.
+ * The calls go the deepest way: to level 40 of axes 4, bits 10, in the low halves and in the high ones, with room short
+ * of the formula and with all of it, with the most rows and words, with 13 digits to print; and every function is
+ * refused, too. A call that does not return the number that stands beside it fails: it did not go that way.
+ */
+#define _GNU_SOURCE
+#include <inttypes.h>
+#include <stdio.h>
+#include <string.h>
+#include <sys/mman.h>
+#include <ucontext.h>
+
+#include "durbizhan.h"
+
+enum { AXES = 4, BITS = 10, LEVELS = 40, STACK = 1 << 20, GUARD = 1 << 16, ROOM = 1 << 19 };
+
+#define COUNT(array) (sizeof(array) / sizeof((array)[0]))
+
+/* What the next call is given. `bytes` is an expression, or a file. */
+struct scene {
+    uint64_t axes, bits;
+    const int64_t *rows;
+    size_t rows_count;
+    const uint16_t *first;
+    size_t first_count;
+    const uint16_t *second;
+    size_t second_count;
+};
+static struct scene scene;
+static uint64_t axes, bits, last_frame, place;
+static uint8_t bytes[ROOM], path[LEVELS + 1], out[ROOM];
+static size_t bytes_count, path_count, lent;
+static double corner;
+
+/* What it returned and wrote. */
+static uint64_t number, answer[7];
+static int64_t rows[1280];
+static uint16_t first[255], second[255];
+
+/* The calls. */
+static void leaves(void) { number = durbizhan_leaves(scene.first, scene.first_count); }
+
+static void room(void) { number = durbizhan_room(axes, bits, UINT64_MAX, answer); }
+
+static void raw_one(void)
+{
+    number = durbizhan_raw_one(scene.axes, scene.bits, scene.rows, scene.rows_count, scene.first, scene.first_count,
+                               out, lent, answer);
+}
+
+static void raw_two(void)
+{
+    number = durbizhan_raw_two(scene.axes, scene.bits, scene.rows, scene.rows_count, scene.first, scene.first_count,
+                               scene.second, scene.second_count, out, lent, answer);
+}
+
+static void merged_one(void)
+{
+    number = durbizhan_merged_one(scene.axes, scene.bits, scene.rows, scene.rows_count, scene.first, scene.first_count,
+                                  out, lent, answer);
+}
+
+static void merged_two(void)
+{
+    number = durbizhan_merged_two(scene.axes, scene.bits, scene.rows, scene.rows_count, scene.first, scene.first_count,
+                                  scene.second, scene.second_count, out, lent, answer);
+}
+
+static void verdict(void)
+{
+    number = durbizhan_verdict(scene.axes, scene.bits, scene.rows, scene.rows_count, scene.first, scene.first_count,
+                               scene.second, scene.second_count, 0, last_frame, out, lent, answer);
+    answer[0] = answer[4];
+}
+
+static void well_formed(void) { number = durbizhan_well_formed(axes, bits, bytes, bytes_count); }
+
+static void volume(void) { number = durbizhan_volume(axes, bits, bytes, bytes_count, answer); }
+
+static void colour(void)
+{
+    number = durbizhan_colour(axes, bits, bytes, bytes_count, place, place, place, place, answer);
+}
+
+static void part(void) { number = durbizhan_part(axes, bits, bytes, bytes_count, path, path_count, answer); }
+
+static void merge(void) { number = durbizhan_merge(axes, bits, bytes, bytes_count, out, lent, answer); }
+
+static void read_scene(void) { number = durbizhan_scene(bytes, bytes_count, rows, first, second, answer); }
+
+/* A line's number, where it is a refusal's. */
+static void lines(void)
+{
+    durbizhan_lines(bytes, bytes_count, out);
+    number = out[0] == 'r' ? (uint64_t)(out[8] - '0') : DURBIZHAN_ACCEPTED;
+}
+
+static void shape_read(void) { number = durbizhan_shape_read(bytes, bytes_count, out, lent, answer); }
+
+static void shape_write(void) { number = durbizhan_shape_write(axes, bits, bytes, bytes_count, out, lent, answer); }
+
+static void box(void) { number = durbizhan_box(0, 0, 0, corner, corner, corner, 64, 64, 64, rows); }
+
+static void cut(void) { number = durbizhan_cut(64, 64, 64, corner, 64, 64, 64, rows); }
+
+/* The measuring. */
+static uint8_t *stack;
+static const char *function;
+static size_t most;
+static int failures;
+
+static size_t taken(void (*call)(void), uint8_t paint)
+{
+    static ucontext_t here, there;
+    memset(stack, paint, STACK);
+    getcontext(&there);
+    there.uc_stack.ss_sp = stack;
+    there.uc_stack.ss_size = STACK;
+    there.uc_link = &here;
+    makecontext(&there, call, 0);
+    swapcontext(&here, &there);
+    size_t untouched = 0;
+    while (untouched < STACK && stack[untouched] == paint) untouched++;
+    return STACK - untouched;
+}
+
+static void expect(const char *what, uint64_t got, uint64_t wanted)
+{
+    if (got == wanted) return;
+    fprintf(stderr, "tests/stack: %s: %s %" PRIu64 ", not %" PRIu64 "\n", function, what, got, wanted);
+    failures++;
+}
+
+/* One call, and the number that it is to return. */
+static void take(void (*call)(void), uint64_t wanted)
+{
+    static const uint8_t paints[] = {0xa5, 0x5a};
+    for (size_t i = 0; i < COUNT(paints); i++) {
+        size_t bytes_taken = taken(call, paints[i]);
+        if (bytes_taken > most) most = bytes_taken;
+        expect("number", number, wanted);
+    }
+}
+
+static void begin(const char *named)
+{
+    function = named;
+    most = 0;
+}
+
+static void end(void) { printf("%s %zu\n", function, most); }
+
+/* Below 1/2 on each axis, above 1023 and 1/2 on each, and two oblique halfspaces. */
+static const int64_t halfspaces[] = {
+    1, -2, 0, 0, 0,     1, 0, -2, 0, 0,     1, 0, 0, -2, 0,     1, 0, 0, 0, -2,
+    -2047, 2, 0, 0, 0,  -2047, 0, 2, 0, 0,  -2047, 0, 0, 2, 0,  -2047, 0, 0, 0, 2,
+    -1, 2, -2, 0, 0,    41, -2, 2, 0, 0,
+};
+enum { AND = 3, LOW = 256, HIGH = 260, OBLIQUE = 264 };
+
+/* The lowest voxel, the highest, and an oblique strip in the lowest place of two axes, which has many blocks. */
+static const uint16_t low_voxel[] = {LOW, LOW + 1, AND, LOW + 2, AND, LOW + 3, AND};
+static const uint16_t high_voxel[] = {HIGH, HIGH + 1, AND, HIGH + 2, AND, HIGH + 3, AND};
+static const uint16_t strip[] = {OBLIQUE, OBLIQUE + 1, AND, LOW + 2, AND, LOW + 3, AND};
+static const uint16_t black[] = {1};
+
+/* The most rows, the most words, with 32 shapes pending on the way, and a word more. */
+static int64_t all_rows[1280];
+static uint16_t all_words[256];
+
+static void fill(void)
+{
+    memcpy(all_rows, halfspaces, sizeof halfspaces);
+    for (size_t i = 0; i < COUNT(all_words); i++)
+        all_words[i] = i < 32 ? LOW + i % 4 : i < 63 || i % 2 == 0 ? AND : LOW;
+}
+
+#define SCENE(d, k, one, two) \
+    (struct scene){d, k, halfspaces, COUNT(halfspaces), one, COUNT(one), two, COUNT(two)}
+#define LARGEST (struct scene){AXES, BITS, all_rows, COUNT(all_rows), all_words, 255, all_words, 255}
+
+static void conversions(const char *named, void (*call)(void))
+{
+    const struct scene deep[] = {
+        SCENE(AXES, BITS, low_voxel, low_voxel), SCENE(AXES, BITS, high_voxel, high_voxel), LARGEST,
+        SCENE(AXES, BITS, strip, black),
+    };
+    begin(named);
+    last_frame = 1023;
+    for (size_t i = 0; i < COUNT(deep); i++) {
+        scene = deep[i];
+        lent = 0;
+        take(call, DURBIZHAN_NO_ROOM);
+        size_t needed = answer[0];
+        size_t rooms[] = {needed - 1, needed, 4096, 4097, 65536, 65537, ROOM};
+        for (size_t j = 0; j < COUNT(rooms); j++) {
+            lent = rooms[j];
+            take(call, lent < needed ? DURBIZHAN_NO_ROOM : DURBIZHAN_ACCEPTED);
+        }
+    }
+    expect("the strip is past the scratch room", answer[0] > 65536, 1);
+    last_frame = 0;
+    scene = SCENE(AXES, 4, low_voxel, black);
+    take(call, DURBIZHAN_ACCEPTED);
+    scene = SCENE(5, BITS, low_voxel, black);
+    take(call, DURBIZHAN_BAD_UNIVERSE);
+    scene = SCENE(1, BITS, low_voxel, black);
+    take(call, DURBIZHAN_BAD_ROWS);
+    scene = LARGEST;
+    scene.first_count = 2;
+    take(call, DURBIZHAN_BAD_TREE);
+    scene.first_count = 256;
+    take(call, DURBIZHAN_OVERFULL_TREE);
+    if (call == verdict) {
+        last_frame = 1024;
+        scene = LARGEST;
+        take(call, DURBIZHAN_OUTSIDE);
+    }
+    end();
+}
+
+/* Expressions that go to level 40 in the low halves, in the high ones, one all black, and one that lacks its end. */
+enum shape { IN_LOW, IN_HIGH, ALL_BLACK, UNENDED };
+
+static void express(enum shape shape)
+{
+    axes = AXES;
+    bits = BITS;
+    bytes_count = 2 * LEVELS + (shape != UNENDED);
+    for (size_t i = 0; i <= 2 * LEVELS; i++) {
+        int halved = shape == IN_HIGH ? i % 2 == 0 && i < 2 * LEVELS : i < LEVELS;
+        int is_black = shape == ALL_BLACK || i == (shape == IN_HIGH ? 2 * LEVELS : LEVELS);
+        bytes[i] = halved ? '(' : is_black ? 'B' : 'W';
+    }
+}
+
+/* The calls of a question to an expression, or of one that writes, with all room and with too little. */
+static void questions(void (*call)(void), uint64_t where_black, uint64_t where_short)
+{
+    const uint64_t numbers[] = {DURBIZHAN_ACCEPTED, DURBIZHAN_ACCEPTED, where_black, DURBIZHAN_BAD_EXPRESSION};
+    for (enum shape shape = IN_LOW; shape <= UNENDED; shape++) {
+        express(shape);
+        lent = ROOM;
+        take(call, numbers[shape]);
+        lent = 0;
+        take(call, numbers[shape] == DURBIZHAN_ACCEPTED ? where_short : numbers[shape]);
+    }
+    axes = 5;
+    take(call, DURBIZHAN_BAD_UNIVERSE);
+}
+
+static void questions_at_places(void)
+{
+    begin("durbizhan_colour");
+    for (place = 0; place < 1024; place += 1023) questions(colour, DURBIZHAN_ACCEPTED, DURBIZHAN_ACCEPTED);
+    express(IN_LOW);
+    place = 1024;
+    take(colour, DURBIZHAN_OUTSIDE);
+    end();
+    begin("durbizhan_part");
+    for (uint8_t half = 0; half < 2; half++) {
+        memset(path, half, sizeof path);
+        path_count = LEVELS;
+        questions(part, DURBIZHAN_ACCEPTED, DURBIZHAN_ACCEPTED);
+        express(half ? IN_HIGH : IN_LOW);
+        path_count = LEVELS + 1;
+        take(part, DURBIZHAN_OUTSIDE);
+    }
+    end();
+}
+
+/* The low bytes of a number, behind what stands in `bytes`. */
+static void put(uint64_t value, int length)
+{
+    for (int i = 0; i < length; i++) bytes[bytes_count++] = (uint8_t)(value >> 8 * i);
+}
+
+static void scene_file(struct scene of, uint64_t last)
+{
+    bytes_count = 0;
+    put(0x01435348, 4);
+    put(of.axes << 8 | of.bits << 16, 4);
+    put(of.rows_count / 5, 2);
+    put(of.first_count, 2);
+    put(of.second_count, 2);
+    put(0, 2);
+    put(last, 2);
+    for (size_t i = 0; i < of.rows_count; i++) put((uint64_t)of.rows[i], 8);
+    for (size_t i = 0; i < of.first_count; i++) put(of.first[i], 2);
+    for (size_t i = 0; i < of.second_count; i++) put(of.second[i], 2);
+}
+
+/* The calls of what reads a scene file; for the program's lines the strip has too many symbols. */
+static void scenes(const char *named, void (*call)(void), uint64_t of_strip)
+{
+    const struct scene taken_in[] = {
+        LARGEST, SCENE(AXES, BITS, low_voxel, low_voxel), SCENE(AXES, BITS, high_voxel, high_voxel),
+        SCENE(AXES, BITS, black, black), SCENE(AXES, 4, low_voxel, black),
+    };
+    begin(named);
+    for (size_t i = 0; i < COUNT(taken_in); i++) {
+        scene_file(taken_in[i], taken_in[i].bits == BITS ? 1023 : 15);
+        take(call, DURBIZHAN_ACCEPTED);
+    }
+    scene_file(SCENE(AXES, BITS, strip, black), 1023);
+    take(call, of_strip);
+    scene_file(LARGEST, 1024);
+    take(call, DURBIZHAN_OUTSIDE);
+    bytes[5] = 1;
+    take(call, DURBIZHAN_BAD_ROWS);
+    bytes[5] = 5;
+    take(call, DURBIZHAN_BAD_UNIVERSE);
+    bytes[7] = 1;
+    take(call, DURBIZHAN_BAD_FILE);
+    struct scene wrong = LARGEST;
+    wrong.second_count = 2;
+    scene_file(wrong, 0);
+    take(call, DURBIZHAN_BAD_TREE);
+    wrong.second_count = 256;
+    scene_file(wrong, 0);
+    take(call, DURBIZHAN_OVERFULL_TREE);
+    end();
+}
+
+/* The calls of what reads a shape file. */
+static void shapes(void)
+{
+    const uint64_t numbers[] = {
+        DURBIZHAN_ACCEPTED, DURBIZHAN_ACCEPTED, DURBIZHAN_NOT_MERGED, DURBIZHAN_BAD_EXPRESSION,
+    };
+    begin("durbizhan_shape_read");
+    for (enum shape shape = IN_LOW; shape <= UNENDED; shape++) {
+        express(shape);
+        size_t count = bytes_count;
+        memmove(bytes + 11, bytes, count);
+        bytes_count = 0;
+        put(0x01544e42, 4);
+        put(AXES << 8 | BITS << 16, 3);
+        put(count, 4);
+        bytes_count += count;
+        lent = ROOM;
+        take(shape_read, numbers[shape]);
+        lent = 0;
+        take(shape_read, numbers[shape] == DURBIZHAN_ACCEPTED ? DURBIZHAN_NO_ROOM : numbers[shape]);
+    }
+    bytes[5] = 5;
+    take(shape_read, DURBIZHAN_BAD_UNIVERSE);
+    bytes_count--;
+    take(shape_read, DURBIZHAN_BAD_FILE);
+    end();
+}
+
+static void proxies(const char *named, void (*call)(void))
+{
+    begin(named);
+    corner = 4096;
+    take(call, DURBIZHAN_ACCEPTED);
+    corner = 4096.0625;
+    take(call, DURBIZHAN_BAD_PROXY);
+    end();
+}
+
+int main(void)
+{
+    /* what goes past the stack stops at a guard */
+    uint8_t *all = mmap(NULL, GUARD + STACK, PROT_NONE, MAP_PRIVATE | MAP_ANONYMOUS, -1, 0);
+    if (all == MAP_FAILED || mprotect(all + GUARD, STACK, PROT_READ | PROT_WRITE) != 0) return 2;
+    stack = all + GUARD;
+    fill();
+
+    begin("durbizhan_leaves");
+    scene = LARGEST;
+    take(leaves, 128);
+    end();
+    begin("durbizhan_room");
+    axes = AXES;
+    bits = BITS;
+    take(room, DURBIZHAN_ACCEPTED);
+    bits = BITS + 1;
+    take(room, DURBIZHAN_BAD_UNIVERSE);
+    end();
+    conversions("durbizhan_raw_one", raw_one);
+    conversions("durbizhan_raw_two", raw_two);
+    conversions("durbizhan_merged_one", merged_one);
+    conversions("durbizhan_merged_two", merged_two);
+    conversions("durbizhan_verdict", verdict);
+    begin("durbizhan_well_formed");
+    questions(well_formed, DURBIZHAN_ACCEPTED, DURBIZHAN_ACCEPTED);
+    end();
+    begin("durbizhan_volume");
+    questions(volume, DURBIZHAN_ACCEPTED, DURBIZHAN_ACCEPTED);
+    end();
+    questions_at_places();
+    begin("durbizhan_merge");
+    questions(merge, DURBIZHAN_ACCEPTED, DURBIZHAN_NO_ROOM);
+    end();
+    scenes("durbizhan_scene", read_scene, DURBIZHAN_ACCEPTED);
+    scenes("durbizhan_lines", lines, DURBIZHAN_NO_ROOM);
+    shapes();
+    begin("durbizhan_shape_write");
+    questions(shape_write, DURBIZHAN_NOT_MERGED, DURBIZHAN_NO_ROOM);
+    end();
+    proxies("durbizhan_box", box);
+    proxies("durbizhan_cut", cut);
+    return failures != 0;
+}
