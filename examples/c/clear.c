@@ -32,9 +32,12 @@ static const uint16_t second[] = {258, 259, 3};
 
 #define COUNT(array) (sizeof(array) / sizeof((array)[0]))
 
-static int refused(uint64_t number)
+/* The line of a refusal: its number, and on NO_ROOM the length needed. */
+static int refused(uint64_t number, uint64_t needed)
 {
-    printf("refused %" PRIu64 "\n", number);
+    printf("refused %" PRIu64, number);
+    if (number == DURBIZHAN_NO_ROOM) printf(" needed %" PRIu64, needed);
+    printf("\n");
     return 1;
 }
 
@@ -64,13 +67,13 @@ int main(int count, char **words)
 
     uint64_t leaves = durbizhan_leaves(first, COUNT(first)) + durbizhan_leaves(second, COUNT(second));
     uint64_t number = durbizhan_room(AXES, BITS, leaves, room);
-    if (number != DURBIZHAN_ACCEPTED) return refused(number);
-    if (room[0] > sizeof out) return refused(DURBIZHAN_NO_ROOM);
+    if (number != DURBIZHAN_ACCEPTED) return refused(number, 0);
+    if (room[0] > sizeof out) return refused(DURBIZHAN_NO_ROOM, room[0]);
 
     /* The number is read first: a refused verdict is Clear. */
     number = durbizhan_verdict(AXES, BITS, rows, COUNT(rows), first, COUNT(first), second, COUNT(second),
                                FIRST_FRAME, LAST_FRAME, out, sizeof out, verdict);
-    if (number != DURBIZHAN_ACCEPTED) return refused(number);
+    if (number != DURBIZHAN_ACCEPTED) return refused(number, verdict[4]);
 
     printf("axes %d bits %d\n", AXES, BITS);
     printf("leaves %" PRIu64 " raw %" PRIu64 " room %" PRIu64 "\n", leaves, verdict[4], room[0]);

@@ -1,0 +1,151 @@
+//! tests/wrapper.rs: every function of the wrapper, examples/rust/durbizhan.rs, on what is accepted and on every number
+//! that it can be refused with, held to what the C face answers and writes. tests/examples builds and runs it.
+
+#[path = "../examples/rust/durbizhan.rs"]
+mod durbizhan;
+#[allow(dead_code)]
+#[path = "second_opinion/src/face.rs"]
+mod face;
+
+use durbizhan::{Clearance, Refused, Universe, Verdict, Window, ACCEPTED, NO_ROOM};
+
+/// The numbers that each function has.
+const ROOM: &[u64] = &[0, 2];
+const VERDICT: &[u64] = &[0, 2, 3, 4, 5, 6, 9];
+const LINES: &[u64] = &[0, 1, 2, 3, 4, 5, 6, 9];
+
+/// Two trees over rows, and a window.
+#[derive(Clone)]
+struct Scene {
+    axes: u64,
+    bits: u64,
+    rows: Vec<i64>,
+    first: Vec<u16>,
+    second: Vec<u16>,
+    window: [u64; 2],
+}
+
+/// Document 01's example: a hit in frames 1 and 2, of 13 symbols.
+fn example() -> Scene {
+    let rows = vec![0, 1, -1, 0, 0, 1, -1, 1, 0, 0, -2, 1, 0, 0, 0, 3, -1, 0, 0, 0];
+    Scene { axes: 2, bits: 2, rows, first: vec![256, 257, 3], second: vec![258, 259, 3], window: [0, 3] }
+}
+
+/// The example with one thing changed, and the number that it then has.
+fn scenes() -> Vec<(u64, Scene)> {
+    let changed = |number, change: fn(&mut Scene)| {
+        let mut scene = example();
+        change(&mut scene);
+        (number, scene)
+    };
+    vec![
+        changed(0, |_| ()),
+        changed(0, |scene| scene.window = [3, 3]),
+        changed(0, |scene| scene.second = vec![0]),
+        changed(2, |scene| scene.axes = 0),
+        changed(2, |scene| scene.axes = 5),
+        changed(2, |scene| scene.bits = 11),
+        changed(3, |scene| scene.rows[3] = 1),
+        changed(3, |scene| scene.rows[0] = (1 << 40) + 1),
+        changed(4, |scene| scene.first = vec![]),
+        changed(4, |scene| scene.second = vec![260]),
+        changed(5, |scene| scene.first = vec![1; 33]),
+        changed(5, |scene| scene.second = vec![1; 256]),
+        changed(9, |scene| scene.window = [0, 4]),
+        changed(9, |scene| scene.window = [2, 1]),
+    ]
+}
+
+impl Scene {
+    fn file(&self) -> Vec<u8> {
+        let counts = [self.rows.len() / 5, self.first.len(), self.second.len()].map(|count| count as u16);
+        let frames = self.window.map(|frame| frame as u16);
+        let mut file = [b"HSC\x01\0", [self.axes as u8, self.bits as u8, 0].as_slice()].concat();
+        file.extend([counts.as_slice(), &frames].concat().iter().flat_map(|number| number.to_le_bytes()));
+        file.extend(self.rows.iter().flat_map(|number| number.to_le_bytes()));
+        file.extend([&self.first[..], &self.second].concat().iter().flat_map(|word| word.to_le_bytes()));
+        file
+    }
+}
+
+/// What the wrapper and the face gave for a case with a number.
+fn held<T: PartialEq + std::fmt::Debug>(what: &str, wanted: u64, number: u64, wrapped: T, faced: T) {
+    assert_eq!(number, wanted, "{what}: the face's number");
+    assert_eq!(wrapped, faced, "{what}: the wrapper's answer, and what the face's says, number {number}");
+}
+
+fn leaves() {
+    for words in [vec![], vec![256, 257, 3], vec![0, 1, 2, 255, 256, 511, 512]] {
+        held("leaves", 0, 0, durbizhan::leaves(&words), face::leaves(&words));
+    }
+}
+
+fn rooms() -> Vec<u64> {
+    let cases = [(0, 2, 2), (0, 4, 10), (0, 1, 0), (2, 0, 2), (2, 5, 2), (2, 4, 11), (2, 257, 2), (2, 2, u64::MAX)];
+    for (wanted, axes, bits) in cases {
+        let mut answer = [u64::MAX];
+        let number = face::room(axes, bits, 4, &mut answer);
+        let faced = if number == ACCEPTED { Ok(answer[0]) } else { Err(Refused { number, needed: 0 }) };
+        held("room", wanted, number, durbizhan::room(Universe { axes, bits }, 4), faced);
+    }
+    cases.map(|(wanted, ..)| wanted).to_vec()
+}
+
+/// The verdict of a scene with so much room lent.
+fn verdict(wanted: u64, scene: &Scene, lent: usize) {
+    let Scene { axes, bits, rows, first, second, window: [first_frame, last_frame] } = scene.clone();
+    let [mut room, mut other_room] = [vec![b'.'; lent], vec![b'.'; lent]];
+    let window = Window { first: first_frame, last: last_frame };
+    let wrapped = durbizhan::verdict(Universe { axes, bits }, &rows, &first, &second, window, &mut room);
+    let mut answer = [u64::MAX; 5];
+    let number =
+        face::verdict(axes, bits, &rows, &first, &second, first_frame, last_frame, &mut other_room, &mut answer);
+    let faced = match (number, answer) {
+        (ACCEPTED, [0, 0, 0, 0, length]) => Ok(Clearance { verdict: Verdict::Clear, length: length as usize }),
+        (ACCEPTED, [1, first, last, voxels, length]) => {
+            Ok(Clearance { verdict: Verdict::Hit { first, last, voxels }, length: length as usize })
+        }
+        (number, [0, 0, 0, 0, needed]) => Err(Refused { number, needed }),
+        _ => panic!("verdict: number {number}, answer {answer:?}"),
+    };
+    held("verdict", wanted, number, (wrapped, room), (faced, other_room));
+}
+
+fn verdicts() -> Vec<u64> {
+    let mut cases: Vec<_> = scenes().into_iter().map(|(wanted, scene)| (wanted, scene, 20)).collect();
+    cases.extend([(ACCEPTED, example(), 13), (NO_ROOM, example(), 12), (NO_ROOM, example(), 0)]);
+    for (wanted, scene, lent) in &cases {
+        verdict(*wanted, scene, *lent);
+    }
+    cases.iter().map(|case| case.0).collect()
+}
+
+/// The number that the lines refuse with.
+fn number_of(lines: &[u8]) -> u64 {
+    lines.strip_prefix(b"refused ").map_or(0, |rest| u64::from(rest[0] - b'0'))
+}
+
+fn lines() -> Vec<u64> {
+    let mut cases: Vec<_> = scenes().into_iter().map(|(wanted, scene)| (wanted, scene.file())).collect();
+    // frame 0 of axes 4, bits 5 cut through: 140,431 symbols
+    let many = Scene { axes: 4, bits: 5, rows: vec![-1, 0, 0, 0, 2], first: vec![256], second: vec![1], ..example() };
+    cases.extend([(NO_ROOM, many.file()), (1, vec![]), (1, vec![0; 65_537])]);
+    for (wanted, file) in &cases {
+        let mut out = [b'.'; 256];
+        let count = face::lines(file, &mut out) as usize;
+        held("lines", *wanted, number_of(&out), durbizhan::lines(file).into_bytes(), out[..count].to_vec());
+    }
+    cases.iter().map(|case| case.0).collect()
+}
+
+fn main() {
+    leaves();
+    let mut tried = 0;
+    for (numbers, cases) in [(ROOM, rooms()), (VERDICT, verdicts()), (LINES, lines())] {
+        for number in numbers {
+            assert!(cases.contains(number), "number {number} is not tried, of {numbers:?}");
+        }
+        tried += cases.len();
+    }
+    println!("the wrapper answers {tried} calls, refused ones too, as the C face does");
+}
