@@ -25,7 +25,7 @@ struct Scene {
     window: [u64; 2],
 }
 
-/// Document 01's example: a hit in frames 1 and 2, of 13 symbols.
+/// The scene of examples/program.txt: a hit in frames 1 and 2, of 13 symbols.
 fn example() -> Scene {
     let rows = vec![0, 1, -1, 0, 0, 1, -1, 1, 0, 0, -2, 1, 0, 0, 0, 3, -1, 0, 0, 0];
     Scene { axes: 2, bits: 2, rows, first: vec![256, 257, 3], second: vec![258, 259, 3], window: [0, 3] }
