@@ -5,8 +5,9 @@
  *   target/largest
  *
  * The shape is the full tree of 31 halvings over leaves W and B in turn, which is merged and has 2^32 - 1 symbols; one
- * leaf halved makes it two symbols more. Each is written with all the room it needs; the shorter one with one byte less,
- * too.
+ * leaf halved makes it two symbols more. Each is written with all the room it needs and two bytes more; the shorter one
+ * with one byte less than it needs, too. Every byte of the room is looked at: header and symbols where it is written,
+ * and that it is as it was lent where it is not.
  */
 #include <inttypes.h>
 #include <stdio.h>
@@ -18,6 +19,7 @@
 #define AXES 4
 #define BITS 10
 #define LEVELS 31
+#define LENT '.'
 
 static int failures = 0;
 
@@ -26,6 +28,11 @@ static void expect(const char *what, uint64_t got, uint64_t wanted) {
         printf("%s: %" PRIu64 ", and not %" PRIu64 "\n", what, got, wanted);
         failures++;
     }
+}
+
+/* Whether so many bytes, one at least, are as they were lent. */
+static int untouched(const uint8_t *bytes, size_t count) {
+    return bytes[0] == LENT && memcmp(bytes, bytes + 1, count - 1) == 0;
 }
 
 /* The tree of so many halvings, by doubling that of one less; gives its length. */
@@ -43,7 +50,10 @@ static size_t grow(uint8_t *symbols, int levels) {
 
 int main(void) {
     const uint64_t most = UINT64_C(4294967295);
-    uint8_t *symbols = malloc(most + 2), *out = malloc(most + 13);
+    const size_t room = most + 15;
+    /* mark, version 1, axes, bits, and the count: the u32 with every bit set */
+    const uint8_t header[11] = {'B', 'N', 'T', 1, 0, AXES, BITS, 0xff, 0xff, 0xff, 0xff};
+    uint8_t *symbols = malloc(most + 2), *out = malloc(room);
     if (!symbols || !out) {
         puts("there is too little memory");
         return 2;
@@ -52,27 +62,26 @@ int main(void) {
     expect("symbols", length, most);
     uint64_t answer[1];
 
-    memset(out, '.', most + 13);
+    memset(out, LENT, room);
     uint64_t number = durbizhan_shape_write(AXES, BITS, symbols, length, out, length + 10, answer);
     expect("one byte short", number, DURBIZHAN_NO_ROOM);
     expect("its need", answer[0], length + 11);
-    expect("its first byte", out[0], '.');
-    expect("its last byte", out[length + 9], '.');
+    expect("its room is untouched", untouched(out, room), 1);
     number = durbizhan_shape_write(AXES, BITS, symbols, length, out, length + 13, answer);
     expect("the most symbols", number, DURBIZHAN_ACCEPTED);
     expect("its length", answer[0], length + 11);
+    for (size_t i = 0; i < sizeof header; i++) expect("a byte of its header", out[i], header[i]);
     expect("its symbols differ", memcmp(out + 11, symbols, length) != 0, 0);
-    expect("the byte past it", out[length + 11], '.');
+    expect("what is past it is untouched", untouched(out + length + 11, room - length - 11), 1);
 
     symbols[length - 1] = '(';
     symbols[length] = 'W';
     symbols[length + 1] = 'B';
-    memset(out, '.', most + 13);
-    number = durbizhan_shape_write(AXES, BITS, symbols, length + 2, out, length + 13, answer);
+    memset(out, LENT, room);
+    number = durbizhan_shape_write(AXES, BITS, symbols, length + 2, out, length + 15, answer);
     expect("two symbols more", number, DURBIZHAN_NO_ROOM);
     expect("their need", answer[0], length + 13);
-    expect("their first byte", out[0], '.');
-    expect("their last byte", out[length + 12], '.');
+    expect("their room is untouched", untouched(out, room), 1);
     printf("tests/largest: %d differences\n", failures);
     return failures != 0;
 }
