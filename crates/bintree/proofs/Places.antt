@@ -8,6 +8,7 @@ use native.Mathlib.Numerals.{add-one}
 use native.Mathlib.Omega.{arith}
 use borrow.Author.Needs.{needs}
 use borrow.Author.Tests.{eq-eqb, ne-eqb}
+use denote.Ref.{RefT, ptr, now}
 use lib.ListN.{length, getD, take, drop, drop-of-length-le}
 use lib.Seq.{drop-cons}
 use Rattle.universe.specs.declared.Universe.{Universe}
@@ -25,7 +26,8 @@ use Rattle.bintree.specs.declared.place.Traced.the-variants.{Led, Lost}
 use Rattle.bintree.specs.Shape.{Shape, leaf, halved, openSymbol, symbolOf, size}
 use Rattle.bintree.specs.Reading.{Reading, none, read, readAt, expression}
 use Rattle.bintree.specs.Answers.{unlessRefused}
-use Rattle.bintree.specs.Parts.{part, partStart, pathRefusal, refusedPlace, donePlace, placeAnswer, partAnswer, cutAt}
+use Rattle.bintree.specs.Parts.{part, partStart, pathRefusal, refusedPlace, donePlace}
+use Rattle.bintree.specs.Parts.{placeAnswer, cutAt, partAnswer, pointerAt, partPointer}
 use Rattle.bintree.specs.Walks.{walked, traced, pathAnswer}
 use Rattle.bintree.proofs.Reading.{leaf-at, other-at, end-at, deep-at, low-missing, high-missing, both-read}
 use Rattle.bintree.proofs.Reading.{expression-none, expression-rest, expression-read}
@@ -287,4 +289,11 @@ module _ (u : Universe) (s path : List ℕ) (r : Placed) (e : r ≡ placeAnswer 
       let long : r .start + r .length - r .start ≡ r .length = omega arith in
       rw long (ap (cutAt s) e)
 
-pub ruleset part-laws = (needs, cut-within, cut-answer)
+-- and the cut points as far behind the expression's front as it starts
+pub cut-points :
+    (u : Universe) (lent : RefT (List ℕ)) (path : List ℕ) (r : Placed) → r ≡ placeAnswer u (now lent) path →
+    (ptr lent .0, r .start + ptr lent .1) ≡ partPointer u lent path
+unfolding partPointer
+cut-points u lent path r e = ap (pointerAt lent) e
+
+pub ruleset part-laws = (needs, cut-within, cut-answer, cut-points)

@@ -3,6 +3,7 @@
 use Prim.Native.Nat.{ℕ, suc, _+_}
 use mathlib.Core.Bool.{cond, _&&_}
 use mathlib.Core.List.{List, [], _∷_}
+use denote.Ref.{RefT, ptr, now}
 use lib.Dec.{eqb, leb, ltb}
 use lib.ListN.{length, getD, take, drop}
 use Rattle.lemmas.specs.Sums.{every}
@@ -59,6 +60,13 @@ cutAt s place = take (place .length) (drop (place .start) s)
 
 unfoldable pub partAnswer : Universe → List ℕ → List ℕ → List ℕ
 partAnswer u s path = cutAt s (placeAnswer u s path)
+
+-- where a cut points: into the block of memory where the expression stands, as far behind its front as the cut starts
+abbrev pub pointerAt : RefT (List ℕ) → Placed → ℕ × ℕ
+pointerAt lent place = (ptr lent .0, place .start + ptr lent .1)
+
+unfoldable pub partPointer : Universe → RefT (List ℕ) → List ℕ → ℕ × ℕ
+partPointer u lent path = pointerAt lent (placeAnswer u (now lent) path)
 
 -- rule 4.9: the colour of a part that is one; a voxel's own block is never halved
 abbrev pub colourOf : Shape → Colour

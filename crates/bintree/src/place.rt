@@ -2,10 +2,11 @@
 ghost use mathlib.Core.Path.{_≡_};
 ghost use mathlib.Core.List.{[]};
 ghost use Prim.Native.Nat.{_≤_};
+ghost use denote.Ref.{ptr};
 ghost use lib.ListN.{drop};
 ghost use Rattle.universe.specs.Universe.{universeRefusal, mostLevels};
 ghost use Rattle.bintree.specs.Reading.{readAt};
-ghost use Rattle.bintree.specs.Parts.{pathRefusal, partRefusal, placeAnswer, partAnswer};
+ghost use Rattle.bintree.specs.Parts.{pathRefusal, partRefusal, placeAnswer, partAnswer, partPointer};
 ghost use Rattle.bintree.specs.Walks.{traced, pathAnswer};
 use crate::Placed;
 use crate::count::Walked;
@@ -125,6 +126,7 @@ pub fn part_refusal(universe: Universe, expression: &[u8], path: &[u8]) -> u64
 // The part for the block at the end of a path: a part of the lent expression, empty where it is refused.
 pub fn part<'a, 'b>(universe: Universe, expression: &'a [u8], path: &'b [u8]) -> &'a [u8]
     ensures { λ r. ⌜ now r ≡ partAnswer universe (now (expression .entry)) (now (path .entry)) ⌝ }
+    ensures { λ r. ⌜ ptr r ≡ partPointer universe (expression .entry) (now (path .entry)) ⌝ }
 {
     let placed = part_place(universe, expression, path);
     let start = placed.start as usize;

@@ -102,7 +102,7 @@ module _ {u : Universe} {lent : RefT (List ℕ)} {readers : ℕ → Reader} (tur
 
   -- each holds what the first one holds
   all-hold : (n : ℕ) → now (readers n .expression) ≡ heldSymbols u s
-  all-hold zero = turns .opened .0 .symbols
+  all-hold zero = turns .opened .0 .0
   all-hold (suc n) = ap (λ x. now x) (turns .advanced n .0) ∙ all-hold n
 
   module _ (ok : wellFormedRefusal u s ≡ 0) where

@@ -3,19 +3,19 @@ use mathlib.Core.Path.{_≡_, refl, sym, ap, _∙_}
 use mathlib.Core.List.{List, [], _∷_}
 use Prim.Native.Nat.{ℕ, _+_, _≤_, _<_}
 use native.Mathlib.Decide.{decLt}
+use native.Mathlib.Nat.{zero-add}
 use native.Mathlib.Omega.{arith}
 use types.Run.{OneOf, miss}
 use denote.Enum.Declared.{tagOf}
 use borrow.Author.Needs.{needs}
 use borrow.Author.Tests.{ne-eqb}
-use denote.Ref.{RefT, now}
 use lib.ListN.{length, getD, List·getD-eq-default}
 use Rattle.universe.specs.declared.Universe.{Universe}
 use Rattle.bintree.specs.Answers.{wellFormedRefusal}
 use Rattle.reader.specs.declared.Symbol.{Symbol}
 use Rattle.reader.specs.declared.Symbol.the-variants.{Halved, Black, White, End}
 use Rattle.reader.proofs.Symbol.{the-type}
-use Rattle.reader.specs.Symbols.{byteOf, symbolOfByte, symbolAt, movedOn, placeAfter, heldSymbols, Holds}
+use Rattle.reader.specs.Symbols.{byteOf, symbolOfByte, symbolAt, movedOn, placeAfter, heldSymbols}
 
 -- a symbol's byte says the symbol
 pub byte-symbol : (x : Symbol) → symbolOfByte (byteOf x) ≡ x
@@ -88,9 +88,15 @@ module _ (u : Universe) (s : List ℕ) where
   unfolding heldSymbols
   holds-nothing n = rw (ne-eqb (wellFormedRefusal u s) 0 n)
 
-module _ (u : Universe) (lent : RefT (List ℕ)) (number : ℕ) (e : number ≡ wellFormedRefusal u (now lent)) where
-  pub held-itself : number ≡ 0 → Holds u lent lent
-  held-itself z = record { symbols = sym (holds-all u (now lent) (sym e ∙ z)); itself = λ k. refl }
+  module _ (number : ℕ) (e : number ≡ wellFormedRefusal u s) where
+    pub held-all : number ≡ 0 → s ≡ heldSymbols u s
+    held-all z = sym (holds-all (sym e ∙ z))
 
-  pub held-nothing : (held : RefT (List ℕ)) → now held ≡ [] → (number ≡ 0 → ⊥) → Holds u lent held
-  held-nothing held h n = record { symbols = h ∙ sym (holds-nothing u (now lent) (λ k. n (e ∙ k))); itself = λ k. absurd (n (e ∙ k)) }
+    pub held-nothing : (number ≡ 0 → ⊥) → [] ≡ heldSymbols u s
+    held-nothing n = sym (holds-nothing (λ k. n (e ∙ k)))
+
+-- the empty slice at place 0 points at the front
+pub held-front : (front : ℕ × ℕ) → (front .0, 0 + front .1) ≡ front
+held-front front = ap (λ offset. (front .0, offset)) (zero-add (front .1))
+
+pub ruleset held-laws = (needs, held-all, held-nothing, held-front)

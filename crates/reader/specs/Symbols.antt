@@ -4,7 +4,7 @@ use Prim.Native.Nat.{ℕ, _+_}
 use mathlib.Core.Path.{_≡_}
 use mathlib.Core.Bool.{cond}
 use mathlib.Core.List.{List, []}
-use denote.Ref.{RefT, now}
+use denote.Ref.{RefT, ptr, now}
 use lib.Dec.{eqb}
 use lib.ListN.{getD}
 use Rattle.universe.specs.declared.Universe.{Universe}
@@ -46,7 +46,6 @@ placeAfter s p = movedOn (symbolAt s p) p
 unfoldable pub heldSymbols : Universe → List ℕ → List ℕ
 heldSymbols u s = cond (eqb (wellFormedRefusal u s) 0) s []
 
--- what a reader holds that was opened: those symbols, and where nothing is refused the lent expression itself
-pub record Holds (u : Universe) (lent held : RefT (List ℕ)) : Type 0 where
-  pub symbols : now held ≡ heldSymbols u (now lent)
-  pub itself : wellFormedRefusal u (now lent) ≡ 0 → held ≡ lent
+-- what a reader holds that was opened: those symbols, at the front of the lent expression, the empty slice too
+abbrev pub Holds : Universe → RefT (List ℕ) → RefT (List ℕ) → Type 0
+Holds u lent held = (now held ≡ heldSymbols u (now lent)) × (ptr held ≡ ptr lent)

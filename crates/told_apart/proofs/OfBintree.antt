@@ -1,7 +1,7 @@
--- Of each public function of `bintree`: two answers that its contract allows are equal. The EXCEPTION, where a slice comes back, is marked.
+-- Of each public function of `bintree`: two answers that its contract allows are equal; two slices are alike.
 use mathlib.Core.Path.{refl}
 use Rattle.bintree.proofs as bintree
-use Rattle.told_apart.specs.Answers.{TellsApart, AnswersAlike, SameContents}
+use Rattle.told_apart.specs.Answers.{TellsApart, AnswersAlike, SameSlice}
 use Rattle.told_apart.proofs.Alike.{same, behind}
 
 pub bintree-well-formed : TellsApart bintree.well_formed.ended bintree.well_formed.Reads.Learnt
@@ -22,10 +22,8 @@ bintree-part-refusal _ _ _ _ _ _ p q = (same p q, refl)
 pub bintree-part-place : TellsApart bintree.part_place.ended bintree.part_place.Reads.Learnt
 bintree-part-place _ _ _ _ _ _ p q = (same p q, refl)
 
--- EXCEPTION: `part` fixes the contents of the slice that comes back, and not the place where it points: in `(BB` both parts look alike. The equation
--- for `part_place`, above, fixes where it starts and how long it is
-pub bintree-part : AnswersAlike bintree.part.ended (λ lifetimes. SameContents) bintree.part.Reads.Learnt
-bintree-part _ _ _ _ _ _ p q = (same p q, refl)
+pub bintree-part : AnswersAlike bintree.part.ended (λ lifetimes. SameSlice) bintree.part.Reads.Learnt
+bintree-part _ _ _ _ _ _ p q = ((same (p .0) (q .0), same (p .1) (q .1)), refl)
 
 pub bintree-is-alike : TellsApart bintree.is_alike.ended bintree.is_alike.Reads.Learnt
 bintree-is-alike _ _ _ _ _ _ p q = (same p q, refl)

@@ -1,9 +1,7 @@
--- Of each public function of `reader`: two answers that its contract allows are equal. The EXCEPTIONS, where a slice comes back, are marked.
-use mathlib.Core.Path.{_≡_, refl}
-use denote.Ref.{now}
-use Rattle.bintree.specs.Answers.{wellFormedRefusal}
+-- Of each public function of `reader`: two answers that its contract allows are equal; two slices, and two readers that were opened, are alike.
+use mathlib.Core.Path.{refl}
 use Rattle.reader.proofs as reader
-use Rattle.told_apart.specs.Answers.{Promise, TellsApart, AnswersAlike, SameContents}
+use Rattle.told_apart.specs.Answers.{Promise, TellsApart, AnswersAlike, SameSlice, SameReader}
 use Rattle.told_apart.proofs.Alike.{same, factOf}
 
 pub reader-refusal : TellsApart reader.refusal.ended reader.refusal.Reads.Learnt
@@ -18,14 +16,8 @@ reader-place-after _ _ _ _ _ _ p q = (same p q, refl)
 pub reader-first : TellsApart reader.first.ended reader.first.Reads.Learnt
 reader-first _ _ _ _ _ _ p q = (same p q, refl)
 
--- EXCEPTION: `held` and `open`, where they refuse, fix that the slice is empty, and not which empty slice it is. Where nothing is refused it is the
--- lent slice itself, its place included
-pub reader-held : AnswersAlike reader.held.ended (λ lifetimes. SameContents) reader.held.Reads.Learnt
-reader-held _ _ _ _ _ _ p q = (same (p .symbols) (q .symbols), refl)
-
-pub reader-held-accepted : TellsApart reader.held.ended (λ lifetimes arguments answer exit.
-    (wellFormedRefusal (arguments .0) (now (arguments .1 .0)) ≡ 0) × reader.held.Reads.Learnt lifetimes arguments answer exit)
-reader-held-accepted _ _ _ _ _ _ p q = (same (p .1 .itself (p .0)) (q .1 .itself (q .0)), refl)
+pub reader-held : AnswersAlike reader.held.ended (λ lifetimes. SameSlice) reader.held.Reads.Learnt
+reader-held _ _ _ _ _ _ p q = ((same (p .0) (q .0), same (p .1) (q .1)), refl)
 
 -- `open`, `current` and `advanced` are proved by hand, and the toolchain makes no `Learnt` for them: here it is, the one fact of their contracts
 
@@ -47,11 +39,5 @@ reader-current _ _ _ _ _ _ p q = (same p q, refl)
 pub reader-advanced : TellsApart reader.advanced.ended advancedLearnt
 reader-advanced _ _ _ _ _ _ p q = (λ i. record { expression = same (p .0) (q .0) i; place = same (p .1) (q .1) i }, refl)
 
-pub reader-open : AnswersAlike reader.open.ended (λ lifetimes answer other.
-    SameContents (answer .expression) (other .expression) × (answer .place ≡ other .place)) openLearnt
-reader-open _ _ _ _ _ _ p q = ((same (p .0 .symbols) (q .0 .symbols), same (p .1) (q .1)), refl)
-
-pub reader-open-accepted : TellsApart reader.open.ended (λ lifetimes arguments answer exit.
-    (wellFormedRefusal (arguments .0) (now (arguments .1 .0)) ≡ 0) × openLearnt lifetimes arguments answer exit)
-reader-open-accepted _ _ _ _ _ _ p q =
-    (λ i. record { expression = same (p .1 .0 .itself (p .0)) (q .1 .0 .itself (q .0)) i; place = same (p .1 .1) (q .1 .1) i }, refl)
+pub reader-open : AnswersAlike reader.open.ended (λ lifetimes. SameReader) openLearnt
+reader-open _ _ _ _ _ _ p q = (((same (p .0 .0) (q .0 .0), same (p .0 .1) (q .0 .1)), same (p .1) (q .1)), refl)

@@ -4,9 +4,10 @@ use Prim.Native.Nat.{ℕ}
 use mathlib.Core.Path.{_≡_}
 use mathlib.Core.List.{List}
 use contract.Lifetimes.{Lfts}
-use denote.Ref.{RefT, now}
+use denote.Ref.{RefT, ptr, now}
 use denote.Triple.Entry.{Args, Res}
 use denote.Triple.Clauses.{Ended, Lasts, AtExit, atExit}
+use Rattle.reader.specs.declared.Reader.{Reader}
 
 -- what a function's contract tells a caller: a fact of the arguments, of what comes back, and of the parameters at exit
 abbrev pub Promise : Ended → Type 1
@@ -33,6 +34,12 @@ AnswersAlike ended Alike promised =
 abbrev pub TellsApart : (ended : Ended) → Promise ended → Type 0
 TellsApart ended promised = AnswersAlike ended (λ lifetimes answer other. answer ≡ other) promised
 
--- slices that hold the same, wherever they point
-abbrev pub SameContents : RefT (List ℕ) → RefT (List ℕ) → Type 0
-SameContents slice other = now slice ≡ now other
+-- slices are alike that hold the same and point at the same place, which is all that a caller can see of them. The third
+-- part of a reference is the name under which the logic keeps track of its contents: no code knows it, a slice that is
+-- cut gets a new one, and no contract can say which
+abbrev pub SameSlice : RefT (List ℕ) → RefT (List ℕ) → Type 0
+SameSlice slice other = (now slice ≡ now other) × (ptr slice ≡ ptr other)
+
+-- and readers that hold alike slices and stand at the same place in them
+abbrev pub SameReader : Reader → Reader → Type 0
+SameReader reader other = SameSlice (reader .expression) (other .expression) × (reader .place ≡ other .place)

@@ -92,7 +92,7 @@ module _ {M : Type 1} (𝓤 : URA M) (H : Heap 𝓤) (A : Atoms 𝓤) (mem : Mem
         (λ u′ t e′ is′.
         -- [the result; the token; what the parameters own; _3; …; _2; …; _1; …; room for _0; …]
         let shown : t ≡ symbolAt (heldSymbols w (now s)) 0 =
-        e′ ∙ (ap (λ (x : List ℕ). symbolAt x (r .place)) (e .0 .symbols) ∙ ap (symbolAt (heldSymbols w (now s))) (e .1)) in
+        e′ ∙ (ap (λ (x : List ℕ). symbolAt x (r .place)) (e .0 .0) ∙ ap (symbolAt (heldSymbols w (now s))) (e .1)) in
         land ! (from ! (stop !)) (init ! 9 refl (EL.lawful S.the-type S′.the-laws 𝓤 H A W tt .typed t _ is′ .0)) $
         returns ! (look ! 9 refl) $
         forget ! 3 refl $ forget ! 5 refl $ forget ! 7 refl $ forget ! 9 refl $

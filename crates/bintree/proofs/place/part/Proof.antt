@@ -1,4 +1,4 @@
--- `part` hands back the cut of the expression that `part_place` names: its place is inside the expression, so that the cut is there.
+-- `part` hands back the cut of the expression that `part_place` names, and points there: the place is inside the expression, so that the cut is there.
 use native.Mathlib.Omega.{arith}
 use Rattle.bintree.proofs.Places.{cut-within, part-laws}
 use Rattle.bintree.proofs.place.part.Statement.{statement}
