@@ -108,7 +108,8 @@ uint64_t durbizhan_volume(uint64_t axes, uint64_t bits,
                           const uint8_t *expression, size_t expression_count,
                           uint64_t answer[1]);
 
-/* answer[0]: the colour at a voxel, 0 WHITE or 1 BLACK. Places above the axes are 0; the last is the frame. */
+/* answer[0]: the colour at a voxel, 0 WHITE or 1 BLACK. Its place along the last axis is its frame; above the axes it is
+ * 0. */
 uint64_t durbizhan_colour(uint64_t axes, uint64_t bits,
                           const uint8_t *expression, size_t expression_count,
                           uint64_t x, uint64_t y, uint64_t z, uint64_t t,

@@ -61,7 +61,7 @@ cutAt s place = take (place .length) (drop (place .start) s)
 unfoldable pub partAnswer : Universe → List ℕ → List ℕ → List ℕ
 partAnswer u s path = cutAt s (placeAnswer u s path)
 
--- where a cut points: into the block of memory where the expression stands, as far behind its front as the cut starts
+-- and it points to where they stand, as far behind their front as it starts
 abbrev pub pointerAt : RefT (List ℕ) → Placed → ℕ × ℕ
 pointerAt lent place = (ptr lent .0, place .start + ptr lent .1)
 
