@@ -1,2 +1,2 @@
--- Worked cases of the definitions.
+-- Worked cases of the definitions that the contracts cite.
 pub mod Cases

@@ -1,1 +1,1 @@
-// No code: worked cases of the definitions, in specs/, and their theorem, in proofs/.
+// No code: worked cases of the definitions that the contracts cite, in specs/, and their theorem, in proofs/.
