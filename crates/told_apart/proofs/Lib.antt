@@ -1,4 +1,4 @@
--- Two answers that one contract allows are equal, for the contract of every public function: a file for each crate, two lines for each function.
+-- The contract of every public function asks nothing, and two answers that it allows are equal: a file for each crate, two lines for each function.
 pub mod Alike
 pub mod OfUniverse
 pub mod OfCsg

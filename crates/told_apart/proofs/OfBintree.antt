@@ -1,50 +1,51 @@
--- Of each public function of `bintree`: two answers that its contract allows are equal; two slices are alike.
+-- Of each public function of `bintree`: its contract asks nothing, and two answers that it allows are equal; two slices are alike.
 use mathlib.Core.Path.{refl}
+use borrow.Fn.World.{World}
 use Rattle.bintree.proofs as bintree
-use Rattle.told_apart.specs.Answers.{TellsApart, AnswersAlike, SameSlice}
-use Rattle.told_apart.proofs.Alike.{same, behind}
+use Rattle.told_apart.specs.Answers.{TellsApart, Fixes, SameSlice}
+use Rattle.told_apart.proofs.Alike.{same, one, two, behind}
 
-pub bintree-well-formed : TellsApart bintree.well_formed.ended bintree.well_formed.Reads.Learnt
-bintree-well-formed _ _ _ _ _ _ p q = (same p q, refl)
+pub bintree-well-formed : (w : World) → TellsApart w bintree.well_formed.ended bintree.well_formed.clauses
+bintree-well-formed w _ _ = ((tt, refl), λ _ _ _ _ _. one w (λ p q. (same p q, refl)))
 
-pub bintree-volume : TellsApart bintree.volume.ended bintree.volume.Reads.Learnt
-bintree-volume _ _ _ _ _ _ p q = (same p q, refl)
+pub bintree-volume : (w : World) → TellsApart w bintree.volume.ended bintree.volume.clauses
+bintree-volume w _ _ = ((tt, refl), λ _ _ _ _ _. one w (λ p q. (same p q, refl)))
 
-pub bintree-colour-at : TellsApart bintree.colour_at.ended bintree.colour_at.Reads.Learnt
-bintree-colour-at _ _ _ _ _ _ p q = (same p q, refl)
+pub bintree-colour-at : (w : World) → TellsApart w bintree.colour_at.ended bintree.colour_at.clauses
+bintree-colour-at w _ _ = ((tt, refl), λ _ _ _ _ _. one w (λ p q. (same p q, refl)))
 
-pub bintree-verdict-of : TellsApart bintree.verdict_of.ended bintree.verdict_of.Reads.Learnt
-bintree-verdict-of _ _ _ _ _ _ p q = (same p q, refl)
+pub bintree-verdict-of : (w : World) → TellsApart w bintree.verdict_of.ended bintree.verdict_of.clauses
+bintree-verdict-of w _ _ = ((tt, refl), λ _ _ _ _ _. one w (λ p q. (same p q, refl)))
 
-pub bintree-part-refusal : TellsApart bintree.part_refusal.ended bintree.part_refusal.Reads.Learnt
-bintree-part-refusal _ _ _ _ _ _ p q = (same p q, refl)
+pub bintree-part-refusal : (w : World) → TellsApart w bintree.part_refusal.ended bintree.part_refusal.clauses
+bintree-part-refusal w _ _ = ((tt, refl), λ _ _ _ _ _. one w (λ p q. (same p q, refl)))
 
-pub bintree-part-place : TellsApart bintree.part_place.ended bintree.part_place.Reads.Learnt
-bintree-part-place _ _ _ _ _ _ p q = (same p q, refl)
+pub bintree-part-place : (w : World) → TellsApart w bintree.part_place.ended bintree.part_place.clauses
+bintree-part-place w _ _ = ((tt, refl), λ _ _ _ _ _. one w (λ p q. (same p q, refl)))
 
-pub bintree-part : AnswersAlike bintree.part.ended (λ lifetimes. SameSlice) bintree.part.Reads.Learnt
-bintree-part _ _ _ _ _ _ p q = ((same (p .0) (q .0), same (p .1) (q .1)), refl)
+pub bintree-part : (w : World) → Fixes w bintree.part.ended (λ lifetimes. SameSlice) bintree.part.clauses
+bintree-part w _ _ = ((tt, refl), λ _ _ _ _ _. two w (λ p q. ((same (p .0) (q .0), same (p .1) (q .1)), refl)))
 
-pub bintree-is-alike : TellsApart bintree.is_alike.ended bintree.is_alike.Reads.Learnt
-bintree-is-alike _ _ _ _ _ _ p q = (same p q, refl)
+pub bintree-is-alike : (w : World) → TellsApart w bintree.is_alike.ended bintree.is_alike.clauses
+bintree-is-alike w _ _ = ((tt, refl), λ _ _ _ _ _. one w (λ p q. (same p q, refl)))
 
-pub bintree-note : TellsApart bintree.note.ended bintree.note.Reads.Learnt
-bintree-note _ _ _ _ _ _ p q = (refl, λ i. (same p q i, behind 2 tt))
+pub bintree-note : (w : World) → TellsApart w bintree.note.ended bintree.note.clauses
+bintree-note w _ _ = ((tt, refl), λ _ _ _ _ _. one w (λ p q. (refl, λ i. (same p q i, behind 2 tt))))
 
-pub bintree-copy : TellsApart bintree.copy.ended bintree.copy.Reads.Learnt
-bintree-copy _ _ _ _ _ _ p q = (refl, λ i. behind 1 (same p q i, behind 1 tt))
+pub bintree-copy : (w : World) → TellsApart w bintree.copy.ended bintree.copy.clauses
+bintree-copy w _ _ = ((tt, refl), λ _ _ _ _ _. one w (λ p q. (refl, λ i. behind 1 (same p q i, behind 1 tt))))
 
-pub bintree-join-halves : TellsApart bintree.join_halves.ended bintree.join_halves.Reads.Learnt
-bintree-join-halves _ _ _ _ _ _ p q = (refl, λ i. (same p q i, behind 4 tt))
+pub bintree-join-halves : (w : World) → TellsApart w bintree.join_halves.ended bintree.join_halves.clauses
+bintree-join-halves w _ _ = ((tt, refl), λ _ _ _ _ _. one w (λ p q. (refl, λ i. (same p q i, behind 4 tt))))
 
-pub written-refused : TellsApart bintree.Written.refused.ended bintree.Written.refused.Reads.Learnt
-written-refused _ _ _ _ _ _ p q = (same p q, refl)
+pub written-refused : (w : World) → TellsApart w bintree.Written.refused.ended bintree.Written.refused.clauses
+written-refused w _ _ = ((tt, refl), λ _ _ _ _ _. one w (λ p q. (same p q, refl)))
 
-pub written-short : TellsApart bintree.Written.short.ended bintree.Written.short.Reads.Learnt
-written-short _ _ _ _ _ _ p q = (same p q, refl)
+pub written-short : (w : World) → TellsApart w bintree.Written.short.ended bintree.Written.short.clauses
+written-short w _ _ = ((tt, refl), λ _ _ _ _ _. one w (λ p q. (same p q, refl)))
 
-pub written-done : TellsApart bintree.Written.done.ended bintree.Written.done.Reads.Learnt
-written-done _ _ _ _ _ _ p q = (same p q, refl)
+pub written-done : (w : World) → TellsApart w bintree.Written.done.ended bintree.Written.done.clauses
+written-done w _ _ = ((tt, refl), λ _ _ _ _ _. one w (λ p q. (same p q, refl)))
 
-pub bintree-merge : TellsApart bintree.merge.ended bintree.merge.Reads.Learnt
-bintree-merge _ _ _ _ _ _ p q = (same (p .0) (q .0), λ i. behind 2 (same (p .1) (q .1) i, tt))
+pub bintree-merge : (w : World) → TellsApart w bintree.merge.ended bintree.merge.clauses
+bintree-merge w _ _ = ((tt, refl), λ _ _ _ _ _. two w (λ p q. (same (p .0) (q .0), λ i. behind 2 (same (p .1) (q .1) i, tt))))

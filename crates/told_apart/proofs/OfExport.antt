@@ -1,64 +1,68 @@
--- Of each function of the face for C and Rust: two answers that its contract allows are equal, and so is what every lent buffer holds.
+-- Of each function of the face for C and Rust: its contract asks nothing, and two answers that it allows are equal, and so is what every lent buffer holds.
 use mathlib.Core.Path.{refl}
+use borrow.Fn.World.{World}
 use Rattle.export.proofs as export
 use Rattle.told_apart.specs.Answers.{TellsApart}
-use Rattle.told_apart.proofs.Alike.{same, behind}
+use Rattle.told_apart.proofs.Alike.{same, one, two, three, five, behind}
 
-pub durbizhan-room : TellsApart export.conversions.durbizhan_room.ended export.conversions.durbizhan_room.Reads.Learnt
-durbizhan-room _ _ _ _ _ _ p q = (same (p .0) (q .0), λ i. behind 3 (same (p .1) (q .1) i, tt))
+pub durbizhan-room : (w : World) → TellsApart w export.conversions.durbizhan_room.ended export.conversions.durbizhan_room.clauses
+durbizhan-room w _ _ = ((tt, refl), λ _ _ _ _ _. two w (λ p q. (same (p .0) (q .0), λ i. behind 3 (same (p .1) (q .1) i, tt))))
 
-pub durbizhan-leaves : TellsApart export.conversions.durbizhan_leaves.ended export.conversions.durbizhan_leaves.Reads.Learnt
-durbizhan-leaves _ _ _ _ _ _ p q = (same p q, refl)
+pub durbizhan-leaves : (w : World) → TellsApart w export.conversions.durbizhan_leaves.ended export.conversions.durbizhan_leaves.clauses
+durbizhan-leaves w _ _ = ((tt, refl), λ _ _ _ _ _. one w (λ p q. (same p q, refl)))
 
-pub durbizhan-raw-one : TellsApart export.conversions.durbizhan_raw_one.ended export.conversions.durbizhan_raw_one.Reads.Learnt
-durbizhan-raw-one _ _ _ _ _ _ p q = (same (p .0) (q .0), λ i. behind 4 (same (p .1 .1) (q .1 .1) i, (same (p .1 .0) (q .1 .0) i, tt)))
+pub durbizhan-raw-one : (w : World) → TellsApart w export.conversions.durbizhan_raw_one.ended export.conversions.durbizhan_raw_one.clauses
+durbizhan-raw-one w _ _ = ((tt, refl), λ _ _ _ _ _. three w (λ p q. (same (p .0) (q .0), λ i. behind 4 (same (p .2) (q .2) i, (same (p .1) (q .1) i, tt)))))
 
-pub durbizhan-raw-two : TellsApart export.conversions.durbizhan_raw_two.ended export.conversions.durbizhan_raw_two.Reads.Learnt
-durbizhan-raw-two _ _ _ _ _ _ p q = (same (p .0) (q .0), λ i. behind 5 (same (p .1 .1) (q .1 .1) i, (same (p .1 .0) (q .1 .0) i, tt)))
+pub durbizhan-raw-two : (w : World) → TellsApart w export.conversions.durbizhan_raw_two.ended export.conversions.durbizhan_raw_two.clauses
+durbizhan-raw-two w _ _ = ((tt, refl), λ _ _ _ _ _. three w (λ p q. (same (p .0) (q .0), λ i. behind 5 (same (p .2) (q .2) i, (same (p .1) (q .1) i, tt)))))
 
-pub durbizhan-merged-one : TellsApart export.conversions.durbizhan_merged_one.ended export.conversions.durbizhan_merged_one.Reads.Learnt
-durbizhan-merged-one _ _ _ _ _ _ p q = (same (p .0) (q .0), λ i. behind 4 (same (p .1 .1) (q .1 .1) i, (same (p .1 .0) (q .1 .0) i, tt)))
+pub durbizhan-merged-one : (w : World) → TellsApart w export.conversions.durbizhan_merged_one.ended export.conversions.durbizhan_merged_one.clauses
+durbizhan-merged-one w _ _ = ((tt, refl), λ _ _ _ _ _. three w (λ p q. (same (p .0) (q .0), λ i. behind 4 (same (p .2) (q .2) i, (same (p .1) (q .1) i, tt)))))
 
-pub durbizhan-merged-two : TellsApart export.conversions.durbizhan_merged_two.ended export.conversions.durbizhan_merged_two.Reads.Learnt
-durbizhan-merged-two _ _ _ _ _ _ p q = (same (p .0) (q .0), λ i. behind 5 (same (p .1 .1) (q .1 .1) i, (same (p .1 .0) (q .1 .0) i, tt)))
+pub durbizhan-merged-two : (w : World) → TellsApart w export.conversions.durbizhan_merged_two.ended export.conversions.durbizhan_merged_two.clauses
+durbizhan-merged-two w _ _ = ((tt, refl), λ _ _ _ _ _. three w (λ p q. (same (p .0) (q .0), λ i. behind 5 (same (p .2) (q .2) i, (same (p .1) (q .1) i, tt)))))
 
-pub durbizhan-verdict : TellsApart export.verdicts.durbizhan_verdict.ended export.verdicts.durbizhan_verdict.Reads.Learnt
-durbizhan-verdict _ _ _ _ _ _ p q = (same (p .0) (q .0), λ i. behind 7 (same (p .1 .1) (q .1 .1) i, (same (p .1 .0) (q .1 .0) i, tt)))
+pub durbizhan-verdict : (w : World) → TellsApart w export.verdicts.durbizhan_verdict.ended export.verdicts.durbizhan_verdict.clauses
+durbizhan-verdict w _ _ = ((tt, refl), λ _ _ _ _ _. three w (λ p q. (same (p .0) (q .0), λ i. behind 7 (same (p .2) (q .2) i, (same (p .1) (q .1) i, tt)))))
 
-pub durbizhan-scene : TellsApart export.documents.durbizhan_scene.ended export.documents.durbizhan_scene.Reads.Learnt
-durbizhan-scene _ _ _ _ _ _ p q =
-    let answer = same (p .1 .0) (q .1 .0) in
-    let rows = same (p .1 .1 .0) (q .1 .1 .0) in
-    let first = same (p .1 .1 .1 .0) (q .1 .1 .1 .0) in
-    let second = same (p .1 .1 .1 .1) (q .1 .1 .1 .1) in
-    (same (p .0) (q .0), λ i. (tt, (rows i, (first i, (second i, (answer i, tt))))))
+pub durbizhan-scene : (w : World) → TellsApart w export.documents.durbizhan_scene.ended export.documents.durbizhan_scene.clauses
+durbizhan-scene w _ _ = (
+  (tt, refl),
+  λ _ _ _ _ _. five w (λ p q.
+      let answer = same (p .1) (q .1) in
+      let rows = same (p .2) (q .2) in
+      let first = same (p .3) (q .3) in
+      let second = same (p .4) (q .4) in
+      (same (p .0) (q .0), λ i. (tt, (rows i, (first i, (second i, (answer i, tt))))))),
+)
 
-pub durbizhan-lines : TellsApart export.documents.durbizhan_lines.ended export.documents.durbizhan_lines.Reads.Learnt
-durbizhan-lines _ _ _ _ _ _ p q = (same (p .0) (q .0), λ i. behind 1 (same (p .1) (q .1) i, tt))
+pub durbizhan-lines : (w : World) → TellsApart w export.documents.durbizhan_lines.ended export.documents.durbizhan_lines.clauses
+durbizhan-lines w _ _ = ((tt, refl), λ _ _ _ _ _. two w (λ p q. (same (p .0) (q .0), λ i. behind 1 (same (p .1) (q .1) i, tt))))
 
-pub durbizhan-shape-read : TellsApart export.documents.durbizhan_shape_read.ended export.documents.durbizhan_shape_read.Reads.Learnt
-durbizhan-shape-read _ _ _ _ _ _ p q = (same (p .0) (q .0), λ i. behind 1 (same (p .1 .1) (q .1 .1) i, (same (p .1 .0) (q .1 .0) i, tt)))
+pub durbizhan-shape-read : (w : World) → TellsApart w export.documents.durbizhan_shape_read.ended export.documents.durbizhan_shape_read.clauses
+durbizhan-shape-read w _ _ = ((tt, refl), λ _ _ _ _ _. three w (λ p q. (same (p .0) (q .0), λ i. behind 1 (same (p .2) (q .2) i, (same (p .1) (q .1) i, tt)))))
 
-pub durbizhan-shape-write : TellsApart export.documents.durbizhan_shape_write.ended export.documents.durbizhan_shape_write.Reads.Learnt
-durbizhan-shape-write _ _ _ _ _ _ p q = (same (p .0) (q .0), λ i. behind 3 (same (p .1 .1) (q .1 .1) i, (same (p .1 .0) (q .1 .0) i, tt)))
+pub durbizhan-shape-write : (w : World) → TellsApart w export.documents.durbizhan_shape_write.ended export.documents.durbizhan_shape_write.clauses
+durbizhan-shape-write w _ _ = ((tt, refl), λ _ _ _ _ _. three w (λ p q. (same (p .0) (q .0), λ i. behind 3 (same (p .2) (q .2) i, (same (p .1) (q .1) i, tt)))))
 
-pub durbizhan-well-formed : TellsApart export.expressions.durbizhan_well_formed.ended export.expressions.durbizhan_well_formed.Reads.Learnt
-durbizhan-well-formed _ _ _ _ _ _ p q = (same p q, refl)
+pub durbizhan-well-formed : (w : World) → TellsApart w export.expressions.durbizhan_well_formed.ended export.expressions.durbizhan_well_formed.clauses
+durbizhan-well-formed w _ _ = ((tt, refl), λ _ _ _ _ _. one w (λ p q. (same p q, refl)))
 
-pub durbizhan-volume : TellsApart export.expressions.durbizhan_volume.ended export.expressions.durbizhan_volume.Reads.Learnt
-durbizhan-volume _ _ _ _ _ _ p q = (same (p .0) (q .0), λ i. behind 3 (same (p .1) (q .1) i, tt))
+pub durbizhan-volume : (w : World) → TellsApart w export.expressions.durbizhan_volume.ended export.expressions.durbizhan_volume.clauses
+durbizhan-volume w _ _ = ((tt, refl), λ _ _ _ _ _. two w (λ p q. (same (p .0) (q .0), λ i. behind 3 (same (p .1) (q .1) i, tt))))
 
-pub durbizhan-colour : TellsApart export.expressions.durbizhan_colour.ended export.expressions.durbizhan_colour.Reads.Learnt
-durbizhan-colour _ _ _ _ _ _ p q = (same (p .0) (q .0), λ i. behind 7 (same (p .1) (q .1) i, tt))
+pub durbizhan-colour : (w : World) → TellsApart w export.expressions.durbizhan_colour.ended export.expressions.durbizhan_colour.clauses
+durbizhan-colour w _ _ = ((tt, refl), λ _ _ _ _ _. two w (λ p q. (same (p .0) (q .0), λ i. behind 7 (same (p .1) (q .1) i, tt))))
 
-pub durbizhan-part : TellsApart export.expressions.durbizhan_part.ended export.expressions.durbizhan_part.Reads.Learnt
-durbizhan-part _ _ _ _ _ _ p q = (same (p .0) (q .0), λ i. behind 4 (same (p .1) (q .1) i, tt))
+pub durbizhan-part : (w : World) → TellsApart w export.expressions.durbizhan_part.ended export.expressions.durbizhan_part.clauses
+durbizhan-part w _ _ = ((tt, refl), λ _ _ _ _ _. two w (λ p q. (same (p .0) (q .0), λ i. behind 4 (same (p .1) (q .1) i, tt))))
 
-pub durbizhan-merge : TellsApart export.expressions.durbizhan_merge.ended export.expressions.durbizhan_merge.Reads.Learnt
-durbizhan-merge _ _ _ _ _ _ p q = (same (p .0) (q .0), λ i. behind 3 (same (p .1 .1) (q .1 .1) i, (same (p .1 .0) (q .1 .0) i, tt)))
+pub durbizhan-merge : (w : World) → TellsApart w export.expressions.durbizhan_merge.ended export.expressions.durbizhan_merge.clauses
+durbizhan-merge w _ _ = ((tt, refl), λ _ _ _ _ _. three w (λ p q. (same (p .0) (q .0), λ i. behind 3 (same (p .2) (q .2) i, (same (p .1) (q .1) i, tt)))))
 
-pub durbizhan-box : TellsApart export.proxies.durbizhan_box.ended export.proxies.durbizhan_box.Reads.Learnt
-durbizhan-box _ _ _ _ _ _ p q = (same (p .0) (q .0), λ i. behind 9 (same (p .1) (q .1) i, tt))
+pub durbizhan-box : (w : World) → TellsApart w export.proxies.durbizhan_box.ended export.proxies.durbizhan_box.clauses
+durbizhan-box w _ _ = ((tt, refl), λ _ _ _ _ _. two w (λ p q. (same (p .0) (q .0), λ i. behind 9 (same (p .1) (q .1) i, tt))))
 
-pub durbizhan-cut : TellsApart export.proxies.durbizhan_cut.ended export.proxies.durbizhan_cut.Reads.Learnt
-durbizhan-cut _ _ _ _ _ _ p q = (same (p .0) (q .0), λ i. behind 7 (same (p .1) (q .1) i, tt))
+pub durbizhan-cut : (w : World) → TellsApart w export.proxies.durbizhan_cut.ended export.proxies.durbizhan_cut.clauses
+durbizhan-cut w _ _ = ((tt, refl), λ _ _ _ _ _. two w (λ p q. (same (p .0) (q .0), λ i. behind 7 (same (p .1) (q .1) i, tt))))

@@ -1,1 +1,1 @@
-// No code: two answers that one contract allows are equal, for every public function.
+// No code: every public function asks nothing, and two answers that its contract allows are equal.
