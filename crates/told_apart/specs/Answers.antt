@@ -29,7 +29,7 @@ Likeness ended =
     Res (ended .signature) lifetimes → Res (ended .signature) lifetimes → Type 0
 
 module _ (w : World) (ended : Ended) (lifetimes : Lfts (ended .signature .lifetimes)) where
-  -- nothing is asked: the `requires` is the empty assertion
+  -- nothing is asked: the `requires` is the empty assertion, at some ghost value where a contract binds one
   abbrev pub AsksNothing : ClausesAt (w .𝓤) ended lifetimes → Type 2
   AsksNothing clauses = (ghost : clauses .ghost) × (clauses .requires ghost ≡ emp (w .𝓤))
 
