@@ -44,8 +44,16 @@ module _ (t : ℕ) where
   halves-below = and 7 lay-halves-kinds.ps (falls 7 lay-halves-kinds.ps _<_ μ-halves t) lay-halves.Pre
 
   abbrev block-claims : block-lts.Claims
-  block-claims =
-      (judge-reads.Asked, judge-reads.Learnt, symbol-of-reads.Asked, symbol-of-reads.Learnt, packed-reads.Asked, packed-reads.Learnt, halves-below, lay-halves.Post)
+  block-claims = (
+    judge-reads.Asked,
+    judge-reads.Learnt,
+    symbol-of-reads.Asked,
+    symbol-of-reads.Learnt,
+    packed-reads.Asked,
+    packed-reads.Learnt,
+    halves-below,
+    lay-halves.Post,
+  )
 
   abbrev halves-claims : halves-lts.Claims
   halves-claims =
