@@ -1,6 +1,6 @@
 -- Merging, by what `join` does to two merged parts: it makes one leaf of two leaves of one colour, and halves otherwise (`Joined`).
--- Replacements lead to the merged shape, none is left there, and every way of replacing until none is left ends there.
-use mathlib.Core.Path.{_≡_, refl, sym, ap, subst, _∙_}
+-- Replacements lead to the merged shape, none is left there, and every way of replacing until none is left ends there. What is not merged gets shorter.
+use mathlib.Core.Path.{_≡_, refl, sym, ap, ap₂, subst, _∙_}
 use mathlib.Core.Bool.{Bool, true, false, cond, not, _&&_}
 use mathlib.Core.List.{List, [], _∷_, _++_, append-assoc, append-nil}
 use Prim.Native.Nat.{ℕ, zero, suc, _+_, _-_, _≤_, _<_, max}
@@ -283,6 +283,30 @@ merged-size (halved a b) =
     let y = merged-size b in
     let z = join-size (joined (merged a) (merged b)) in
     omega arith
+
+-- THEOREM: a shape that merging makes no shorter is merged; so one that is not merged has strictly more symbols than its merged shape
+join-as-long : {a b j : Shape} → Joined a b j → suc (size a + size b) ≤ size j → j ≡ halved a b
+unfolding size
+join-as-long (one c) h = absurd (omega arith)
+join-as-long (two e) h = refl
+
+pub as-long-merged : (s : Shape) → size s ≤ size (merged s) → merged s ≡ s
+unfolding size merged
+as-long-merged (leaf c) h = refl
+as-long-merged (halved a b) h =
+    let x = merged-size a in
+    let y = merged-size b in
+    let z = join-size (joined (merged a) (merged b)) in
+    let low = as-long-merged a (omega arith) in
+    let high = as-long-merged b (omega arith) in
+    join-as-long (joined (merged a) (merged b)) (omega arith) ∙ ap₂ halved low high
+
+pub unmerged-longer : (s : Shape) → isMerged s ≡ false → size (merged s) < size s
+unmerged-longer s e = go (decLt (size (merged s)) (size s))
+  where
+    go : Dec (size (merged s) < size s) → size (merged s) < size s
+    go (yes h) = h
+    go (no h) = absurd (not-both (self-merged s (as-long-merged s (omega arith))) e)
 
 join-depth : {a b j : Shape} → Joined a b j → depth j ≤ suc (max (depth a) (depth b))
 unfolding depth

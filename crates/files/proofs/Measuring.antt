@@ -1,6 +1,6 @@
 -- Whether an expression is merged is told by its length: merging leaves it exactly where there was nothing to merge. Merging into no room answers the
 -- length needed, or 0 and the refusal 2 or 7 of what is no expression.
-use Prim.Native.Nat.{ℕ, suc, _+_, _≤_, _<_}
+use Prim.Native.Nat.{ℕ, _<_}
 use native.Mathlib.Omega.{arith}
 use native.Mathlib.Decide.{ℕ-discrete}
 use mathlib.Core.Path.{_≡_, refl, sym, ap, _∙_}
@@ -14,37 +14,19 @@ use Rattle.universe.specs.Refusals.{unless, badExpression, notMerged}
 use Rattle.universe.specs.Universe.{universeRefusal}
 use Rattle.universe.proofs.Refusing.{last-check}
 use Rattle.bintree.specs.declared.Written.{Written}
-use Rattle.bintree.specs.Shape.{Shape, leaf, halved, size}
+use Rattle.bintree.specs.Shape.{Shape, size}
 use Rattle.bintree.specs.Reading.{Reading, none, read, expression}
 use Rattle.bintree.specs.Merging.{merged, isMerged, mergedSymbols, mergeAnswer}
 use Rattle.bintree.specs.Answers.{wellFormedRefusal, writtenAnswer}
 use Rattle.bintree.proofs.Shape.{length-symbols, size-positive}
 use Rattle.bintree.proofs.Reading.{none-refused, shape-accepted, expression-at}
-use Rattle.bintree.proofs.Merging.{Joined, one, two, joined, merged-self, self-merged, merged-size}
+use Rattle.bintree.proofs.Merging.{merged-self, self-merged, as-long-merged}
 use Rattle.bintree.proofs.Answers.{checks-universe, checks-none, checks-read, written-refused, written-short}
 use Rattle.files.specs.Shapes.{mergedRefusal, symbolsRefusal}
 
--- a shape whose merged shape is as long is merged
-record Uncut (a b x y j : Shape) : Type 0 where
-  whole : j ≡ halved x y
-  low : size x ≡ size a
-  high : size y ≡ size b
-
-uncut :
-    (a b : Shape) {x y j : Shape} → Joined x y j → size j ≡ suc (size a + size b) → size x ≤ size a → size y ≤ size b → Uncut a b x y j
-unfolding size
-uncut a b (one c) e l h = absurd (omega (arith, size-positive a))
-uncut a b (two p) e l h = record { whole = refl; low = omega arith; high = omega arith }
-
-same-shape : (a : Shape) → size (merged a) ≡ size a → merged a ≡ a
-unfolding merged size
-same-shape (leaf c) e = refl
-same-shape (halved a b) e =
-    let w = uncut a b (joined (merged a) (merged b)) e (merged-size a) (merged-size b) in
-    w .whole ∙ rw (same-shape a (w .low), same-shape b (w .high))
-
+-- a shape is merged exactly where its merged shape is as long
 pub merged-by-size : (a : Shape) → size (merged a) ≡ size a → isMerged a ≡ true
-merged-by-size a e = self-merged a (same-shape a e)
+merged-by-size a e = self-merged a (as-long-merged a (omega arith))
 
 pub size-by-merged : (a : Shape) → isMerged a ≡ true → size (merged a) ≡ size a
 size-by-merged a e = ap size (merged-self a e)
