@@ -7,4 +7,5 @@ pub mod Grids
 pub mod Voxels
 pub mod Verdicts
 pub mod Fixed
+pub mod Shortest
 pub mod Theorems

@@ -9,9 +9,9 @@ use Rattle.universe.specs.Universe.{universeRefusal}
 use Rattle.universe.specs.Voxel.{windowRefusal}
 use Rattle.universe.proofs.Universes.{accepted}
 use Rattle.bintree.specs.declared.Verdict.{Verdict}
-use Rattle.bintree.specs.Shape.{Shape}
+use Rattle.bintree.specs.Shape.{Shape, symbols}
 use Rattle.bintree.specs.Reading.{read, expression}
-use Rattle.bintree.specs.Merging.{merged, isMerged}
+use Rattle.bintree.specs.Merging.{merged, isMerged, mergedSymbols}
 use Rattle.bintree.specs.Parts.{colourAt}
 use Rattle.bintree.specs.Counts.{volume}
 use Rattle.bintree.specs.Verdicts.{verdict}
@@ -24,9 +24,11 @@ use Rattle.demands.specs.Room.{RoomSuffices}
 use Rattle.demands.specs.Colours.{Shows, ColoursKept}
 use Rattle.demands.specs.Voxels.{Colouring, blackVoxels}
 use Rattle.demands.specs.Verdicts.{Judges}
+use Rattle.demands.specs.Shortest.{Has, Fewest}
 use Rattle.demands.proofs.Room.{room-suffices}
 use Rattle.demands.proofs.Colours.{raw-depth, merged-raw-depth, raw-shows, merged-shows, colours-kept, both-colour}
 use Rattle.demands.proofs.Fixed.{merged-fixed}
+use Rattle.demands.proofs.Shortest.{shape-fewest, merging-fewest}
 use Rattle.demands.proofs.Voxels.{volume-counts, volume-of}
 use Rattle.demands.proofs.Verdicts.{judges, verdict-once}
 
@@ -38,6 +40,15 @@ module _ (u : Universe) (e : universeRefusal u ≡ 0) where
   -- and the merged shape is the only merged one of which that holds
   pub merged-once : (surfaces : Surfaces) (t : Tree) (s : Shape) → isMerged s ≡ true → Shows u surfaces t s → s ≡ merged (raw u surfaces t)
   merged-once surfaces t s = merged-fixed u e surfaces t s
+
+  -- NOTHING SHORTER SAYS IT: of all well-formed lists of symbols with given colours, the merging of any of them has the fewest symbols, and one with as few is
+  -- that one, byte for byte; for the colours of a tree it is the merged expression
+  pub merged-shortest : (colours : Colouring) (x : List ℕ) → Has u colours x → Fewest u colours (mergedSymbols u x)
+  merged-shortest colours x = merging-fewest u e colours x
+
+  pub tree-shortest : (surfaces : Surfaces) (t : Tree) → Fewest u (treeColour surfaces u t) (symbols (merged (raw u surfaces t)))
+  tree-shortest surfaces t =
+      shape-fewest u e (treeColour surfaces u t) (raw u surfaces t) (raw-depth u e surfaces t) (raw-shows u e surfaces t .colours)
 
   -- DEMAND 3: the raw expression has a symbol for each block examined, and it and the merged one fit into the tree's room
   pub demand-3 : (surfaces : Surfaces) (t : Tree) → RoomSuffices u surfaces t

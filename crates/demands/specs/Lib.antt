@@ -3,3 +3,4 @@ pub mod Room
 pub mod Colours
 pub mod Voxels
 pub mod Verdicts
+pub mod Shortest

@@ -33,10 +33,30 @@ first-accepts n ns e = go (ℕ-discrete n 0)
 
 -- ---- the colour question, asked of a well-formed expression
 
-colour-accepted : (u : Universe) (s v : List ℕ) (a : Shape) → universeRefusal u ≡ 0 → expression u s ≡ read a → voxelRefusal u v ≡ 0 →
+pub colour-accepted : (u : Universe) (s v : List ℕ) (a : Shape) → universeRefusal u ≡ 0 → expression u s ≡ read a → voxelRefusal u v ≡ 0 →
     colourAnswer u s v ≡ doneColour (colourAt u a v)
 unfolding colourAnswer
 colour-accepted u s v a ok x w = sym (answer-last u 0 (sym ok) refusedColour _ (doneColour (colourAt u a v)) s (voxelRefusal u v) a refl x (rw (w, x)))
+
+-- ---- what holds of each end of a call that writes holds of the call
+
+module _ (before : ℕ) (out written : List ℕ) (Claim : Written → List ℕ → Type 0) where
+  pub at-its-end :
+      ((before ≡ 0 → ⊥) → Claim (refusedWriting before) out) →
+      (before ≡ 0 → length out < length written → Claim (shortWriting (length written)) out) →
+      (before ≡ 0 → length written ≤ length out → Claim (doneWriting (length written)) (written ++ drop (length written) out)) →
+      Claim (writtenAnswer before out written) (writtenBuffer before out written)
+  at-its-end refused short done = go (ℕ-discrete before 0) (decLe (length written) (length out))
+    where
+      by : {a b : Written} {l m : List ℕ} → a ≡ b → l ≡ m → Claim a l → Claim b m
+      by p q k = rw (← p, ← q) k
+
+      go : Dec (before ≡ 0) → Dec (length written ≤ length out) → Claim (writtenAnswer before out written) (writtenBuffer before out written)
+      go (no n) d = by (written-refused before out written n) (kept-refused before out written n) (refused n)
+      go (yes z) (no f) =
+          let h : length out < length written = omega arith in
+          by (written-short before out written z h) (kept-short before out written z h) (short z h)
+      go (yes z) (yes h) = by (written-all before out written z h) (left-all before out written z h) (done z h)
 
 -- ---- symbols that show colours, and fit
 
@@ -81,17 +101,7 @@ module _ (u : Universe) (before leaves : ℕ) (colours : List ℕ → Colour) (o
       }
 
   pub keeps : Keeps (writtenAnswer before out written) (writtenBuffer before out written)
-  keeps = go (ℕ-discrete before 0) (decLe (length written) (length out))
-    where
-      by : {a b : Written} {l m : List ℕ} → a ≡ b → l ≡ m → Keeps a l → Keeps b m
-      by p q k = rw (← p, ← q) k
-
-      go : Dec (before ≡ 0) → Dec (length written ≤ length out) → Keeps (writtenAnswer before out written) (writtenBuffer before out written)
-      go (no n) d = by (written-refused before out written n) (kept-refused before out written n) (refused n)
-      go (yes z) (no f) =
-          let h : length out < length written = omega arith in
-          by (written-short before out written z h) (kept-short before out written z h) (short z h)
-      go (yes z) (yes h) = by (written-all before out written z h) (left-all before out written z h) (done z)
+  keeps = at-its-end before out written Keeps refused short (λ z h. done z)
 
   -- written or not, the answer tells how many symbols there are
   pub length-told : before ≡ 0 → writtenAnswer before out written .length ≡ length written

@@ -1,5 +1,6 @@
 -- What is promised of the entry points, proved.
 pub mod Keeping
 pub mod Promises
+pub mod Shortest
 pub mod Centres
 pub mod Faces

@@ -79,7 +79,7 @@ module _ (u : Universe) (surfaces : Surfaces) (words : List ℕ) (out : List ℕ
   colours = treeColour surfaces u tree
 
   module _ (z : oneTreeRefusal u surfaces words ≡ 0) where
-    checks : (universeRefusal u ≡ 0) × (treeRefusal (named surfaces) words ≡ 0)
+    pub checks : (universeRefusal u ≡ 0) × (treeRefusal (named surfaces) words ≡ 0)
     unfolding oneTreeChecks
     checks =
         let third = treeRefusal (named surfaces) words in
@@ -169,7 +169,7 @@ module _ (u : Universe) (surfaces : Surfaces) (first second : List ℕ) where
   words = halfspaceWords first + halfspaceWords second
 
   module _ (z : twoTreesRefusal u surfaces first second ≡ 0) where
-    accepts : (universeRefusal u ≡ 0) × ((treeRefusal (named surfaces) first ≡ 0) × (treeRefusal (named surfaces) second ≡ 0))
+    pub accepts : (universeRefusal u ≡ 0) × ((treeRefusal (named surfaces) first ≡ 0) × (treeRefusal (named surfaces) second ≡ 0))
     unfolding twoTreesChecks
     accepts =
         let fourth = treeRefusal (named surfaces) second in
