@@ -16,6 +16,8 @@
  * rows: five numbers a0 to a4 to a halfspace, which holds where a0 + a1*x1 + .. + a4*x4 >= 0.
  * words: a tree in postfix order. 0 is WHITE, 1 BLACK; 2 joins by UNION, 3 by INTERSECTION, 4 by MINUS; 256 + i is
  * halfspace i.
+ * A MINUS B is A where B is not: reversed, a halfspace has the opposite colour wherever it is decided and at every
+ * centre, one on its plane too, so that A MINUS A is 'W' once merged.
  * expressions: one byte a symbol, '(' then the low and the high half, 'B' or 'W'.
  */
 #ifndef DURBIZHAN_H

@@ -28,7 +28,7 @@ use Rattle.csg.specs.Surfaces.{Surfaces}
 use Rattle.csg.specs.Tree.{Tree, plain, reversal}
 use Rattle.csg.specs.Words.{meaning, step, finish, run, parse, treeRefusal, treeOf, halfspaceWords}
 use Rattle.csg.specs.Marks.{unionMark, intersectionMark, unionColour, intersectionColour}
-use Rattle.csg.specs.Marks.{surfaceMark, surfaceColour, plainMark, plainColour}
+use Rattle.csg.specs.Marks.{surfaceMark, surfaceColour, sideMark, sideColour, plainMark, plainColour}
 use Rattle.csg.specs.Raw.{examine, raw}
 use Rattle.csg.proofs.Raw.{one-symbol}
 use Rattle.convert.specs.Answers.{oneTreeChecks, twoTreesChecks, clearanceChecks, rawOfOne, rawOfTwo, mergedOfOne, mergedOfTwo}
@@ -45,7 +45,7 @@ unfolding
     part colourAt colourAnswer volumeFrom volumeAnswer voxelsFrom firstFrame lastFrame voxelsIn verdict
     withinLimits rowsRefusal centreValue colourAtCentre least greatest markOver plain reversal
     meaning step finish run parse treeRefusal treeOf halfspaceWords
-    unionMark intersectionMark unionColour intersectionColour surfaceMark surfaceColour plainMark plainColour examine
+    unionMark intersectionMark unionColour intersectionColour surfaceMark surfaceColour sideMark sideColour plainMark plainColour examine
     oneTreeChecks twoTreesChecks clearanceChecks rawOfOne rawOfTwo mergedOfOne mergedOfTwo
     rawOfOneAnswer rawOfOneBuffer mergedOfOneAnswer mergedOfOneBuffer rawOfTwoAnswer rawOfTwoBuffer clearanceAnswer clearanceBuffer
 computed = refl

@@ -1,2 +1,3 @@
 -- The theorem.
 pub mod Cases
+pub mod CutFromItself

@@ -1,2 +1,3 @@
 -- Worked cases of the definitions that the contracts cite.
 pub mod Cases
+pub mod CutFromItself

@@ -423,11 +423,95 @@ fn refusals() {
     one_tree(b"BLACK less WHITE", &[], &[1, 0, 4]);
 }
 
+// As many words as a tree may have.
+const MOST_WORDS: usize = 255;
+
+// One word more behind those that stand there, where there is place for it: how many stand there then.
+fn push(words: &mut [u16; MOST_WORDS], count: usize, word: u16) -> usize {
+    if count < MOST_WORDS {
+        words[count] = word;
+        return count + 1;
+    }
+    count
+}
+
+// So many times two words more.
+fn push_pairs(
+    words: &mut [u16; MOST_WORDS],
+    count: usize,
+    pairs: usize,
+    one: u16,
+    two: u16,
+) -> usize {
+    let mut end = count;
+    for _ in 0..pairs {
+        end = push(words, end, one);
+        end = push(words, end, two);
+    }
+    end
+}
+
+// A halfspace, and so many more, each joined to those before it.
+fn push_long(words: &mut [u16; MOST_WORDS], count: usize, more: usize) -> usize {
+    let end = push(words, count, 256);
+    push_pairs(words, end, more, 257, 4)
+}
+
+// 32 shapes pending, and then joined.
+fn push_deep(words: &mut [u16; MOST_WORDS], count: usize) -> usize {
+    let leaves = push_pairs(words, count, 16, 256, 257);
+    let most = push_pairs(words, leaves, 15, 2, 3);
+    push(words, most, 2)
+}
+
+// A tree of so many words from the front.
+fn front(label: &[u8], rows: &[i64], words: [u16; MOST_WORDS], count: usize) {
+    if count <= MOST_WORDS {
+        one_tree(label, rows, &words[..count]);
+    }
+}
+
+// A MINUS A for A of 127 words; and for A with 32 shapes pending, which is taken by itself.
+fn long_cuts(rows: &[i64]) {
+    let mut words = [0u16; MOST_WORDS];
+    let once = push_long(&mut words, 0, 63);
+    let twice = push_long(&mut words, once, 63);
+    let end = push(&mut words, twice, 4);
+    front(b"127 words less themselves", rows, words, end);
+    let mut words = [0u16; MOST_WORDS];
+    let once = push_deep(&mut words, 0);
+    front(b"32 shapes pending", rows, words, once);
+    let twice = push_deep(&mut words, once);
+    let end = push(&mut words, twice, 4);
+    front(b"a 33rd shape", rows, words, end);
+}
+
+// A prop cut from itself leaves nothing, also where centres lie on its plane.
+fn cuts() {
+    let rows = [-3i64, 2, 0, 0, 0, 0, 1, -1, 0, 0, 0, 0, 0, 0, 0];
+    one_tree(b"a plane less itself", &rows, &[256, 256, 4]);
+    one_tree(b"all-zero reversed", &rows, &[1, 258, 4]);
+    one_tree(b"UNION less itself", &rows, &[256, 257, 2, 256, 257, 2, 4]);
+    one_tree(
+        b"INTERSECTION less itself",
+        &rows,
+        &[256, 257, 3, 256, 257, 3, 4],
+    );
+    one_tree(b"MINUS less itself", &rows, &[256, 257, 4, 256, 257, 4, 4]);
+    one_tree(
+        b"constants less themselves",
+        &rows,
+        &[1, 256, 4, 0, 2, 1, 256, 4, 0, 2, 4],
+    );
+    long_cuts(&rows);
+}
+
 fn main() {
     conversions();
     readings();
     readers();
     refusals();
+    cuts();
     scenes();
     shapes();
     blocks();

@@ -1,7 +1,7 @@
 -- Judging by low places and sides is judging their block: the two tests of a row's spread are those of its least and greatest values over the block,
 -- so the code of a tree is that of its mark there, and at level L that of its colour at the centre, which is the same wherever the mark is decided.
 use Prim.Native.Nat.{ℕ, zero, suc, _-_, _%_, _≤_, _<_}
-use mathlib.Core.Path.{_≡_, refl, sym, ap, ap₂, _∙_}
+use mathlib.Core.Path.{_≡_, refl, sym, ap, _∙_}
 use mathlib.Core.Bool.{Bool, true, false, cond, _&&_}
 use mathlib.Core.List.{List}
 use native.Mathlib.Nat.{le-refl, le-trans}
@@ -24,20 +24,20 @@ use Rattle.bintree.specs.declared.Colour.{Colour}
 use Rattle.bintree.specs.declared.Colour.the-variants.{White, Black}
 use Rattle.bintree.specs.Shape.{leaf, halved}
 use Rattle.csg.specs.Halfspace.{Halfspace, Mark, decided, undecided, rowCount, rowAt, withinLimits, rowsRefusal, mostRows, rowLength}
-use Rattle.csg.specs.Tree.{Tree, plain, reversal}
+use Rattle.csg.specs.Tree.{Tree, plain}
 use Rattle.csg.specs.Surfaces.{Surfaces, named, Surface, halfspace}
 use Rattle.csg.specs.Words.{treeRefusal, treeOf, AllNamed}
 use Rattle.csg.specs.Marks.{intersectionMark, surfaceMark, surfaceColour, plainMark, plainColour, treeMark, treeColour}
 use Rattle.csg.specs.Raw.{both, examine}
 use Rattle.csg.proofs.Words.{tree-named}
-use Rattle.csg.proofs.Marks.{intersection-colours, tree-sound}
+use Rattle.csg.proofs.Marks.{mark-over, mark-at, intersection-colours, tree-sound}
 use Rattle.csg.proofs.Raw.{examine-decided, examine-undecided, examine-voxel}
 use Rattle.convert.specs.Small.{SmallCoefficient, SmallHalfspace, JudgeReady}
-use Rattle.convert.specs.Codes.{spreadOf, blackBit, whiteBit, bitsOf, reversalUnit, codeOf, codeOfSurface, codeOfLeaf, codeOfTree}
+use Rattle.convert.specs.Codes.{spreadOf, blackBit, whiteBit, bitsOf, codeOfSurface, codeOfLeaf, codeOfTree}
 use Rattle.convert.specs.Blocks.{Ready, Standing, treesOf, blockLeft, judged}
 use Rattle.convert.proofs.Spreads.{black-test, white-test, centre-doubled}
 use Rattle.convert.proofs.Blocks.{low-small, side-small}
-use Rattle.convert.proofs.Codes.{mark-over, mark-at, code-tree, own-bits, code-of-marks, code-of-colours}
+use Rattle.convert.proofs.Codes.{code-tree, code-of-marks, code-of-colours}
 
 -- ---- rows that are not refused are small
 limit-most : (b : Bool) → cond b coefficientLimit 0 ≤ coefficientLimit
@@ -87,19 +87,17 @@ module _ {u : Universe} {surfaces : Surfaces} {first second : List ℕ} (r : Rea
       rw e (record { some = a .some-axes; few = a .few-axes; small = small; lows = low-small s; sides = side-small s })
 
   -- the code of a tree over a block
-  surface-over : (x : Surface) → codeOfSurface (u .axes) surfaces lows side false x ≡ codeOf (surfaceMark surfaces false x b) (surfaceMark surfaces true x b)
+  surface-over : (x : Surface) → codeOfSurface (u .axes) surfaces lows side false x ≡ bitsOf (surfaceMark surfaces x b)
   unfolding codeOfSurface surfaceMark
   surface-over (halfspace i) =
       let h = rowAt (surfaces .rows) i in
       code-of-marks h b (spreadOf (u .axes) h lows side) (black-test h b side (s .along)) (white-test h b side (s .along))
 
-  over-block : (t : Tree) → AllNamed (named surfaces) t →
-      codeOfTree (u .axes) surfaces lows side false t ≡ codeOf (plainMark surfaces (plain t) b) (plainMark surfaces (reversal t) b)
+  over-block : (t : Tree) → AllNamed (named surfaces) t → codeOfTree (u .axes) surfaces lows side false t ≡ bitsOf (treeMark surfaces t b)
   unfolding codeOfTree codeOfLeaf
   over-block t h =
-      code-tree (codeOfLeaf (u .axes) surfaces lows side false) (λ turned x. surfaceMark surfaces turned x b) refl refl (named surfaces)
-      (λ x n. surface-over x) t h
-      ∙ ap₂ codeOf (mark-over surfaces b (plain t)) (mark-over surfaces b (reversal t))
+      code-tree (codeOfLeaf (u .axes) surfaces lows side false) (λ x. surfaceMark surfaces x b) refl refl (named surfaces) (λ x n. surface-over x) t h
+      ∙ ap bitsOf (mark-over surfaces b (plain t))
 
 -- ---- a voxel's block holds its own low places, and is one unit long along each axis
 pub own-lows : (b : Block) → Within b (b .low)
@@ -113,30 +111,24 @@ module _ {u : Universe} {surfaces : Surfaces} {first second : List ℕ} (r : Rea
   unit : (i : ℕ) → i < u .axes → blockSide u (levels u - 0) i ≡ 1
   unit i l = let z : levels u - 0 ≡ levels u = omega arith in rw z (side-last u i l)
 
-  surface-at : (x : Surface) →
-      codeOfSurface (u .axes) surfaces lows side true x
-      ≡ codeOf (decided (surfaceColour surfaces u false x lows)) (decided (surfaceColour surfaces u true x lows))
+  surface-at : (x : Surface) → codeOfSurface (u .axes) surfaces lows side true x ≡ bitsOf (decided (surfaceColour surfaces u x lows))
   unfolding codeOfSurface surfaceColour
   surface-at (halfspace i) = let h = rowAt (surfaces .rows) i in rw (centre-doubled h v side (s .along) unit) (code-of-colours h u lows)
 
-  over-voxel : (t : Tree) → AllNamed (named surfaces) t → codeOfTree (u .axes) surfaces lows side true t
-      ≡ codeOf (decided (plainColour surfaces u (plain t) lows)) (decided (plainColour surfaces u (reversal t) lows))
+  over-voxel : (t : Tree) → AllNamed (named surfaces) t → codeOfTree (u .axes) surfaces lows side true t ≡ bitsOf (decided (treeColour surfaces u t lows))
   unfolding codeOfTree codeOfLeaf
   over-voxel t h =
-      code-tree (codeOfLeaf (u .axes) surfaces lows side true) (λ turned x. decided (surfaceColour surfaces u turned x lows)) refl refl (named surfaces)
+      code-tree (codeOfLeaf (u .axes) surfaces lows side true) (λ x. decided (surfaceColour surfaces u x lows)) refl refl (named surfaces)
       (λ x n. surface-at x) t h
-      ∙ ap₂ codeOf (mark-at surfaces u lows (plain t)) (mark-at surfaces u lows (reversal t))
+      ∙ ap bitsOf (mark-at surfaces u lows (plain t))
 
 -- ---- the code of a tree of the run says how it is judged
 judged-code : {u : Universe} {surfaces : Surfaces} {first second : List ℕ} → Ready u surfaces first second → (left : ℕ) {lows side : List ℕ} →
     Standing u left lows side → (t : Tree) → AllNamed (named surfaces) t →
-    codeOfTree (u .axes) surfaces lows side (eqb left 0) t % reversalUnit ≡ bitsOf (judged surfaces t left (blockLeft u left lows))
+    codeOfTree (u .axes) surfaces lows side (eqb left 0) t ≡ bitsOf (judged surfaces t left (blockLeft u left lows))
 unfolding judged
-judged-code {u} {surfaces} r zero {lows} s t h =
-    rw (over-voxel r s t h) (own-bits (decided (plainColour surfaces u (plain t) lows)) (decided (plainColour surfaces u (reversal t) lows)))
-judged-code {u} {surfaces} r (suc n) {lows} s t h =
-    let b = blockLeft u (suc n) lows in
-    rw (eqb·suc-zero n, over-block r s t h) (own-bits (plainMark surfaces (plain t) b) (plainMark surfaces (reversal t) b))
+judged-code r zero s t h = over-voxel r s t h
+judged-code r (suc n) s t h = rw (eqb·suc-zero n) (over-block r s t h)
 
 -- two trees intersected are judged by both
 both-judged : (surfaces : Surfaces) (t w : Tree) (n : ℕ) (b : Block) →
@@ -189,27 +181,27 @@ module _ {u : Universe} {surfaces : Surfaces} {first second : List ℕ} (r : Rea
   whole-is : whole ≡ intersectionMark (judgedBy first) (judgedBy second)
   whole-is = both-judged surfaces (treeOf (named surfaces) first) (treeOf (named surfaces) second) left (blockLeft u left lows)
 
-  bits-by : (words : List ℕ) → treeRefusal (named surfaces) words ≡ 0 → {z : ℕ} → z ≡ codeBy words → z % reversalUnit ≡ bitsOf (judgedBy words)
-  bits-by words a e = ap (λ (z : ℕ). z % reversalUnit) e ∙ rw d (judged-code r left s _ (tree-named (named surfaces) words a))
+  bits-by : (words : List ℕ) → treeRefusal (named surfaces) words ≡ 0 → {z : ℕ} → z ≡ codeBy words → z ≡ bitsOf (judgedBy words)
+  bits-by words a e = e ∙ rw d (judged-code r left s _ (tree-named (named surfaces) words a))
 
   module _ (x : ℕ) (p : x ≡ codeBy first) where
-    bits-one : x % reversalUnit ≡ bitsOf (judgedBy first)
+    bits-one : x ≡ bitsOf (judgedBy first)
     bits-one = bits-by first (r .accepted-first) p
 
-    pub first-white : x % reversalUnit ≡ whiteBit → whiteBit ≡ bitsOf whole
+    pub first-white : x ≡ whiteBit → whiteBit ≡ bitsOf whole
     first-white e = rw whole-is (sym (white-first _ _ (sym bits-one ∙ e)))
 
     module _ (y : ℕ) (q : y ≡ codeBy second) where
-      bits-other : y % reversalUnit ≡ bitsOf (judgedBy second)
+      bits-other : y ≡ bitsOf (judgedBy second)
       bits-other = bits-by second (r .accepted-second) q
 
-      pub second-white : y % reversalUnit ≡ whiteBit → whiteBit ≡ bitsOf whole
+      pub second-white : y ≡ whiteBit → whiteBit ≡ bitsOf whole
       second-white e = rw whole-is (sym (white-second _ _ (sym bits-other ∙ e)))
 
-      pub first-black : x % reversalUnit ≡ blackBit → y % reversalUnit ≡ bitsOf whole
+      pub first-black : x ≡ blackBit → y ≡ bitsOf whole
       first-black e = rw whole-is (bits-other ∙ sym (black-first _ _ (sym bits-one ∙ e)))
 
-      pub first-open : (x % reversalUnit ≡ whiteBit → ⊥) → (y % reversalUnit ≡ whiteBit → ⊥) → (x % reversalUnit ≡ blackBit → ⊥) → 0 ≡ bitsOf whole
+      pub first-open : (x ≡ whiteBit → ⊥) → (y ≡ whiteBit → ⊥) → (x ≡ blackBit → ⊥) → 0 ≡ bitsOf whole
       first-open f g h = rw whole-is (sym (open-first _ _ (λ e. f (bits-one ∙ e)) (λ e. h (bits-one ∙ e)) (λ e. g (bits-other ∙ e))))
 
 -- ---- what is written for a block, by how it is judged

@@ -1,5 +1,5 @@
 -- How code judges a tree by rules 2.3, 2.4 and 3.3 to 3.5: a row's value at the centre of a block and how far it
--- reaches, and a pending shape's mark with its reversal's in four bits.
+-- reaches, and a pending shape's mark in two bits, its code.
 use Prim.Native.Nat.{ℕ, zero, suc, _+_, _*_, _/_, _%_}
 use mathlib.Core.Bool.{Bool, true, false, cond}
 use mathlib.Core.List.{List}
@@ -36,30 +36,9 @@ bitsOf (decided Black) = blackBit
 bitsOf (decided White) = whiteBit
 bitsOf undecided = 0
 
--- a shape's mark and, above it, its reversal's
-abbrev pub reversalUnit : ℕ
-reversalUnit = 4
-
-abbrev pub codeOf : Mark → Mark → ℕ
-codeOf own other = bitsOf own + reversalUnit * bitsOf other
-
--- a shape that is BLACK, and WHITE reversed; one that is WHITE; one that is BLACK both ways; one that is undecided
-abbrev pub blackCode : ℕ
-blackCode = codeOf (decided Black) (decided White)
-
-abbrev pub whiteCode : ℕ
-whiteCode = codeOf (decided White) (decided Black)
-
-abbrev pub evenCode : ℕ
-evenCode = codeOf (decided Black) (decided Black)
-
-abbrev pub undecidedCode : ℕ
-undecidedCode = codeOf undecided undecided
-
--- the code of a halfspace with this spread: BLACK where least ≥ 0, else WHITE where greatest ≤ 0; its reversal has
--- −greatest and −least
+-- the code of a halfspace with this spread: BLACK where least ≥ 0, else WHITE where greatest ≤ 0
 abbrev pub testedCode : Bool → Bool → ℕ
-testedCode least greatest = cond least (cond greatest evenCode blackCode) (cond greatest whiteCode undecidedCode)
+testedCode least greatest = cond least blackBit (cond greatest whiteBit 0)
 
 abbrev pub spreadCode : ℤ → ℤ → ℕ
 spreadCode doubled reach = testedCode (leZ reach doubled) (leZ (doubled +ℤ reach) (pos 0))
@@ -73,15 +52,15 @@ leafCode true s = spreadCode (s .doubled) (pos 0)
 abbrev pub mixed : ℕ → ℕ → ℕ → ℕ → ℕ
 mixed either both a b = bitOr (bitAnd (bitOr a b) either) (bitAnd (bitAnd a b) both)
 
--- a shape's code from its reversal's
-abbrev pub reversedCode : ℕ → ℕ
-reversedCode a = a % reversalUnit * reversalUnit + a / reversalUnit
+-- the code of the opposite mark: the two bits exchanged
+abbrev pub oppositeCode : ℕ → ℕ
+oppositeCode a = a % whiteBit * whiteBit + a / whiteBit
 
--- UNION is BLACK where either shape is, and its reversal WHITE where either reversal is: the bits of BLACK's code
+-- UNION is BLACK where either shape is, and WHITE where both are; MINUS is INTERSECTION with the opposite
 unfoldable pub joinCode : Operator → ℕ → ℕ → ℕ
-joinCode union a b = mixed blackCode whiteCode a b
-joinCode intersection a b = mixed whiteCode blackCode a b
-joinCode minus a b = mixed whiteCode blackCode a (reversedCode b)
+joinCode union a b = mixed blackBit whiteBit a b
+joinCode intersection a b = mixed whiteBit blackBit a b
+joinCode minus a b = mixed whiteBit blackBit a (oppositeCode b)
 
 -- the code of a surface, of a leaf and of a tree over a block; `centre` where the block is a voxel that is judged at
 -- its centre
@@ -90,8 +69,8 @@ codeOfSurface axes surfaces low side centre (halfspace i) =
     leafCode centre (spreadOf axes (rowAt (surfaces .rows) i) low side)
 
 unfoldable pub codeOfLeaf : ℕ → Surfaces → List ℕ → List ℕ → Bool → Leaf → ℕ
-codeOfLeaf axes surfaces low side centre white = whiteCode
-codeOfLeaf axes surfaces low side centre black = blackCode
+codeOfLeaf axes surfaces low side centre white = whiteBit
+codeOfLeaf axes surfaces low side centre black = blackBit
 codeOfLeaf axes surfaces low side centre (surface s) = codeOfSurface axes surfaces low side centre s
 
 unfoldable pub codeOfTree : ℕ → Surfaces → List ℕ → List ℕ → Bool → Tree → ℕ

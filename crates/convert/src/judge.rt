@@ -1,9 +1,6 @@
 // Judging a tree over a block, or at the centre of a voxel, in one pass over its words.
 use crate::marks::BLACK_BIT;
-use crate::marks::BLACK_CODE;
-use crate::marks::REVERSAL_UNIT;
 use crate::marks::WHITE_BIT;
-use crate::marks::WHITE_CODE;
 use crate::marks::join_code;
 use crate::spread::code_at_centre;
 use crate::spread::code_of_spread;
@@ -62,9 +59,9 @@ fn code_of_word(
         );
     }
     if word == csg::WHITE {
-        WHITE_CODE
+        WHITE_BIT
     } else {
-        BLACK_CODE
+        BLACK_BIT
     }
 }
 
@@ -122,11 +119,11 @@ pub(crate) fn judge(
         ⌜ r ≡ bitsOf (judged surfaces trees left (blockLeft universe left (now (low .entry)))) ⌝ }
 {
     let centre = left == 0;
-    let a = code_of_tree(axes, rows, first, low, side, centre) % REVERSAL_UNIT;
+    let a = code_of_tree(axes, rows, first, low, side, centre);
     if a == WHITE_BIT {
         return WHITE_BIT;
     }
-    let b = code_of_tree(axes, rows, second, low, side, centre) % REVERSAL_UNIT;
+    let b = code_of_tree(axes, rows, second, low, side, centre);
     if b == WHITE_BIT {
         return WHITE_BIT;
     }

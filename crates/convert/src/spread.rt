@@ -1,14 +1,12 @@
 // The values of a row over a block: twice that at its centre, which is the least and the greatest together, and how far
 // the doubled values at the block's ends reach to either side of it.
-use crate::marks::BLACK_CODE;
-use crate::marks::EVEN_CODE;
-use crate::marks::UNDECIDED_CODE;
-use crate::marks::WHITE_CODE;
+use crate::marks::BLACK_BIT;
+use crate::marks::WHITE_BIT;
 use universe::Universe;
 ghost use mathlib.Core.Path.{_≡_};
 ghost use lib.IntN.{pos, natAbs};
 ghost use Rattle.csg.specs.Halfspace.{rowAt};
-ghost use Rattle.convert.specs.Codes.{spreadWith, spreadOf, spreadCode};
+ghost use Rattle.convert.specs.Codes.{spreadWith, spreadOf, testedCode, spreadCode};
 ghost use Rattle.convert.specs.Small.{SmallCoefficient, SmallPlace, SmallSpread, SmallDoubled, SpreadReady};
 
 // The spread of a row over a block.
@@ -73,24 +71,22 @@ pub(crate) fn spread_of_row(
     with_axis(three, rows[first + 4], low[3], side[3])
 }
 
+// The code by the tests of the least and of the greatest value, the least looked at first. There is no branch, since
+// which way a test goes is not to be foreseen.
+fn tested_code(least: bool, greatest: bool) -> u8
+    ensures { λ r. ⌜ r ≡ testedCode least greatest ⌝ }
+{
+    let black = least as u8;
+    let white = greatest as u8;
+    BLACK_BIT * black + WHITE_BIT * white * (1 - black)
+}
+
 // The code of a halfspace with this spread.
 pub(crate) fn code_of_spread(doubled: i64, reach: i64) -> u8
     requires { ⌜ SmallSpread doubled reach ⌝ }
     ensures { λ r. ⌜ r ≡ spreadCode doubled reach ⌝ }
 {
-    if reach <= doubled {
-        if doubled + reach <= 0 {
-            EVEN_CODE
-        } else {
-            BLACK_CODE
-        }
-    } else {
-        if doubled + reach <= 0 {
-            WHITE_CODE
-        } else {
-            UNDECIDED_CODE
-        }
-    }
+    tested_code(reach <= doubled, doubled + reach <= 0)
 }
 
 // The code of a halfspace at the centre of a voxel, where twice its value is this.

@@ -6,13 +6,13 @@ use mathlib.Core.Bool.{Bool, true, false, not, cond}
 use mathlib.Core.List.{List}
 use native.Mathlib.Omega.{arith}
 use native.Mathlib.Nat.{mul-le-mul-left}
-use lib.IntN.{ℤ, pos, negℤ, _+ℤ_, _*ℤ_}
+use lib.IntN.{ℤ, pos, _+ℤ_, _*ℤ_}
 use lib.Signed.{_≤ℤ_, _<ℤ_, leZ}
 use Rattle.lemmas.specs.Sums.{sum}
-use Rattle.lemmas.proofs.Whole.{up, dn, up-neg, dn-neg, one-part, leZ-true, leZ-false, le-leZ, lt-leZ}
-use Rattle.lemmas.proofs.Whole.{Is, is-le, is-lt, is-eq, le-is, lt-is, is-nat, is-self, is-add, is-neg, is-mul, is-scale}
-use Rattle.lemmas.proofs.Sums.{sum-cong, sum-zero, total-cong}
-use Rattle.lemmas.proofs.Totals.{below-negated, negated-below, total-is, weighted-le, weighted-lt, weightless}
+use Rattle.lemmas.proofs.Whole.{up, dn, one-part, leZ-true, leZ-false, le-leZ, lt-leZ}
+use Rattle.lemmas.proofs.Whole.{Is, is-le, is-lt, is-eq, le-is, lt-is, is-nat, is-self, is-add, is-mul, is-scale}
+use Rattle.lemmas.proofs.Sums.{sum-zero, total-cong}
+use Rattle.lemmas.proofs.Totals.{total-is, weighted-le, weighted-lt, weightless}
 use Rattle.lemmas.proofs.Totals.{centre-above, centre-below, centre-between}
 use Rattle.universe.specs.declared.Universe.{Universe}
 use Rattle.universe.specs.declared.Block.{Block}
@@ -21,7 +21,7 @@ use Rattle.universe.specs.Voxel.{placeAlong, Within}
 use Rattle.bintree.specs.declared.Colour.{Colour}
 use Rattle.bintree.specs.declared.Colour.the-variants.{White, Black}
 use Rattle.csg.specs.Halfspace.{Halfspace, Mark, decided, undecided, corner, valueAt, centreValue, colourAtCentre}
-use Rattle.csg.specs.Halfspace.{lesser, greater, atLow, atHigh, least, greatest, markOver, negated}
+use Rattle.csg.specs.Halfspace.{lesser, greater, atLow, atHigh, least, greatest, markOver}
 
 -- ---- values as differences of natural sums
 -- how many axes a block has, and its high end along axis i
@@ -279,38 +279,7 @@ voxel-sum h b one =
     next : (i : ℕ) → i < axesOf b → endAlong b i ≡ lowAlong b i + 1
     next i m = ap (λ (t : ℕ). lowAlong b i + t) (one i m)
 
--- ---- a reversed halfspace: what adds takes off, and the other way round
-module _ (h : Halfspace) where
-  rise-negated : (d : ℕ) (x : ℕ → ℕ) → rise (negated h) d x ≡ fall h d x
-  unfolding rise fall
-  rise-negated d x = sum-cong d _ _ (λ i m. ap (λ (t : ℕ). t * x i) (up-neg (h .coefficient i)))
-
-  fall-negated : (d : ℕ) (x : ℕ → ℕ) → fall (negated h) d x ≡ rise h d x
-  unfolding rise fall
-  fall-negated d x = sum-cong d _ _ (λ i m. ap (λ (t : ℕ). t * x i) (dn-neg (h .coefficient i)))
-
-  pub least-negated : (b : Block) → least (negated h) b ≡ negℤ (greatest h b)
-  least-negated b =
-      is-eq (least-is (negated h) b) (is-neg (greatest-is h b))
-      (omega (arith, up-neg (h .offset), dn-neg (h .offset), rise-negated (axesOf b) (lowAlong b), fall-negated (axesOf b) (endAlong b)))
-
-  pub greatest-negated : (b : Block) → greatest (negated h) b ≡ negℤ (least h b)
-  greatest-negated b =
-      is-eq (greatest-is (negated h) b) (is-neg (least-is h b))
-      (omega (arith, up-neg (h .offset), dn-neg (h .offset), rise-negated (axesOf b) (endAlong b), fall-negated (axesOf b) (lowAlong b)))
-
-  pub centre-negated : (u : Universe) (v : List ℕ) → centreValue u (negated h) v ≡ negℤ (centreValue u h v)
-  centre-negated u v =
-      is-eq (centre-is u (negated h) v) (is-neg (centre-is u h v))
-      (omega (arith, up-neg (h .offset), dn-neg (h .offset), rise-negated (u .axes) (middle v), fall-negated (u .axes) (middle v)))
-
-  -- reversed, a leaf is BLACK where max ≤ 0, otherwise WHITE where min ≥ 0, otherwise active
-  pub negated-marks : (b : Block) →
-      markOver (negated h) b ≡ cond (leZ (greatest h b) (pos 0)) (decided Black) (cond (leZ (pos 0) (least h b)) (decided White) undecided)
-  unfolding markOver
-  negated-marks b = rw (least-negated b, greatest-negated b, below-negated (greatest h b), negated-below (least h b))
-
--- ---- the all-zero halfspace is BLACK over every block, and so is its reversal
+-- ---- the all-zero halfspace is BLACK over every block
 module _ (h : Halfspace) (b : Block) (no-offset : h .offset ≡ pos 0) (no-slope : (i : ℕ) → i < axesOf b → h .coefficient i ≡ pos 0) where
   zero-slope : slope h (axesOf b) ≡ 0
   unfolding slope up dn
@@ -322,7 +291,5 @@ module _ (h : Halfspace) (b : Block) (no-offset : h .offset ≡ pos 0) (no-slope
       let level = flat h (axesOf b) zero-slope in
       is-le (is-nat 0) (least-is h b) (omega (arith, ap dn no-offset, level (lowAlong b), level (endAlong b)))
 
-pub zero-black : (h : Halfspace) (b : Block) → h .offset ≡ pos 0 → ((i : ℕ) → i < axesOf b → h .coefficient i ≡ pos 0) →
-    (markOver h b ≡ decided Black) × (markOver (negated h) b ≡ decided Black)
-zero-black h b e z =
-    (mark-black h b (zero-least h b e z), mark-black (negated h) b (zero-least (negated h) b (ap negℤ e) (λ i m. ap negℤ (z i m))))
+  pub zero-black : markOver h b ≡ decided Black
+  zero-black = mark-black h b zero-least

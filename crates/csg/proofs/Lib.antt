@@ -6,5 +6,6 @@ pub mod Tree
 pub mod Words
 pub mod Checking
 pub mod Evaluation
+pub mod Beneath
 pub mod Marks
 pub mod Raw

@@ -1,4 +1,4 @@
--- Trees and plain trees. Reversal is turning a plain tree over: each side the other way, each colour the other one, UNION and INTERSECTION
+-- Trees and plain trees. Reversal is turning a plain tree over: each side the other way, each colour the opposite one, UNION and INTERSECTION
 -- exchanged. Turning twice gives the tree back, and neither MINUS nor reversal adds or drops a halfspace.
 use Prim.Native.Nat.{_+_}
 use mathlib.Core.Path.{_≡_, refl, sym, ap, ap₂, _∙_}
@@ -8,21 +8,18 @@ use Rattle.bintree.specs.declared.Colour.the-variants.{White, Black}
 use Rattle.csg.specs.Surfaces.{Surface}
 use Rattle.csg.specs.Tree.{white, black, surface, union, intersection, minus, Tree, leaf, node}
 use Rattle.csg.specs.Tree.{Plain, colour, side, unionOf, intersectionOf, plain, reversal, leaves, sides}
-
-abbrev pub exchanged : Colour → Colour
-exchanged Black = White
-exchanged White = Black
+use Rattle.csg.specs.Marks.{oppositeColour}
 
 -- a plain tree turned over
 unfoldable pub turned : Plain → Plain
-turned (colour c) = colour (exchanged c)
+turned (colour c) = colour (oppositeColour c)
 turned (side flag s) = side (not flag) s
 turned (unionOf a b) = intersectionOf (turned a) (turned b)
 turned (intersectionOf a b) = unionOf (turned a) (turned b)
 
-exchanged-twice : (c : Colour) → exchanged (exchanged c) ≡ c
-exchanged-twice Black = refl
-exchanged-twice White = refl
+opposite-twice : (c : Colour) → oppositeColour (oppositeColour c) ≡ c
+opposite-twice Black = refl
+opposite-twice White = refl
 
 not-twice : (b : Bool) → not (not b) ≡ b
 not-twice true = refl
@@ -30,7 +27,7 @@ not-twice false = refl
 
 pub turned-twice : (p : Plain) → turned (turned p) ≡ p
 unfolding turned
-turned-twice (colour c) = ap colour (exchanged-twice c)
+turned-twice (colour c) = ap colour (opposite-twice c)
 turned-twice (side flag s) = ap (λ (b : Bool). side b s) (not-twice flag)
 turned-twice (unionOf a b) = ap₂ unionOf (turned-twice a) (turned-twice b)
 turned-twice (intersectionOf a b) = ap₂ intersectionOf (turned-twice a) (turned-twice b)

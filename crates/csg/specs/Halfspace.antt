@@ -1,9 +1,9 @@
--- Rules 2.1 to 2.5: rows, values at a centre, least and greatest over a block, marks; and a halfspace reversed (3.4).
+-- Rules 2.1 to 2.5: rows, values at a centre, least and greatest over a block, marks.
 use Prim.Native.Nat.{ℕ, suc, _+_, _*_, _/_, _%_}
 use mathlib.Core.Bool.{Bool, cond, _&&_}
 use mathlib.Core.List.{List}
 use lib.Dec.{ltb, leb, eqb}
-use lib.IntN.{ℤ, pos, negℤ, natAbs, _+ℤ_, _*ℤ_}
+use lib.IntN.{ℤ, pos, natAbs, _+ℤ_, _*ℤ_}
 use lib.Signed.{leZ}
 use lib.ListN.{length, getD}
 use Rattle.lemmas.specs.Sums.{total, every}
@@ -100,7 +100,3 @@ unfoldable pub markOver : Halfspace → Block → Mark
 markOver h b =
     cond (leZ (pos 0) (least h b)) (decided Black)
     (cond (leZ (greatest h b) (pos 0)) (decided White) undecided)
-
--- rule 3.4: a halfspace reversed
-abbrev pub negated : Halfspace → Halfspace
-negated h = record { offset = negℤ (h .offset); coefficient = λ i. negℤ (h .coefficient i) }

@@ -2,12 +2,11 @@
 use Prim.Native.Nat.{ℕ}
 use mathlib.Core.Bool.{Bool, cond}
 use mathlib.Core.List.{List}
-use lib.IntN.{ℤ}
 use Rattle.universe.specs.declared.Universe.{Universe}
 use Rattle.universe.specs.declared.Block.{Block}
 use Rattle.bintree.specs.declared.Colour.{Colour}
 use Rattle.bintree.specs.declared.Colour.the-variants.{White, Black}
-use Rattle.csg.specs.Halfspace.{Halfspace, Mark, decided, undecided, rowAt, negated, markOver, colourAtCentre}
+use Rattle.csg.specs.Halfspace.{Mark, decided, undecided, rowAt, markOver, colourAtCentre}
 use Rattle.csg.specs.Surfaces.{Surfaces, Surface, halfspace}
 use Rattle.csg.specs.Tree.{Tree, Plain, colour, side, unionOf, intersectionOf, plain}
 
@@ -35,26 +34,39 @@ unfoldable pub intersectionColour : Colour → Colour → Colour
 intersectionColour White b = White
 intersectionColour Black b = b
 
--- rule 3.4: a halfspace of the rows, as it is or reversed
-abbrev pub turnedRow : List ℤ → Bool → ℕ → Halfspace
-turnedRow rows turned i = cond turned (negated (rowAt rows i)) (rowAt rows i)
+-- the opposite colour, and the opposite mark: decided exactly where the mark is
+abbrev pub oppositeColour : Colour → Colour
+oppositeColour Black = White
+oppositeColour White = Black
 
--- the mark over a block, and the colour at a centre, of a surface as it is or reversed
-unfoldable pub surfaceMark : Surfaces → Bool → Surface → Block → Mark
-surfaceMark surfaces turned (halfspace i) b = markOver (turnedRow (surfaces .rows) turned i) b
+abbrev pub oppositeMark : Mark → Mark
+oppositeMark (decided c) = decided (oppositeColour c)
+oppositeMark undecided = undecided
 
-unfoldable pub surfaceColour : Surfaces → Universe → Bool → Surface → List ℕ → Colour
-surfaceColour surfaces u turned (halfspace i) v = colourAtCentre u (turnedRow (surfaces .rows) turned i) v
+-- the mark over a block, and the colour at a centre, of a surface as it is
+unfoldable pub surfaceMark : Surfaces → Surface → Block → Mark
+surfaceMark surfaces (halfspace i) b = markOver (rowAt (surfaces .rows) i) b
+
+unfoldable pub surfaceColour : Surfaces → Universe → Surface → List ℕ → Colour
+surfaceColour surfaces u (halfspace i) v = colourAtCentre u (rowAt (surfaces .rows) i) v
+
+-- and of a side of it, as it is or reversed: reversed it has the opposite mark and the opposite colour (rule 3.4)
+unfoldable pub sideMark : Surfaces → Bool → Surface → Block → Mark
+sideMark surfaces turned s b = cond turned (oppositeMark (surfaceMark surfaces s b)) (surfaceMark surfaces s b)
+
+unfoldable pub sideColour : Surfaces → Universe → Bool → Surface → List ℕ → Colour
+sideColour surfaces u turned s v =
+    cond turned (oppositeColour (surfaceColour surfaces u s v)) (surfaceColour surfaces u s v)
 
 unfoldable pub plainMark : Surfaces → Plain → Block → Mark
 plainMark surfaces (colour c) b = decided c
-plainMark surfaces (side turned s) b = surfaceMark surfaces turned s b
+plainMark surfaces (side turned s) b = sideMark surfaces turned s b
 plainMark surfaces (unionOf p q) b = unionMark (plainMark surfaces p b) (plainMark surfaces q b)
 plainMark surfaces (intersectionOf p q) b = intersectionMark (plainMark surfaces p b) (plainMark surfaces q b)
 
 unfoldable pub plainColour : Surfaces → Universe → Plain → List ℕ → Colour
 plainColour surfaces u (colour c) v = c
-plainColour surfaces u (side turned s) v = surfaceColour surfaces u turned s v
+plainColour surfaces u (side turned s) v = sideColour surfaces u turned s v
 plainColour surfaces u (unionOf p q) v = unionColour (plainColour surfaces u p v) (plainColour surfaces u q v)
 plainColour surfaces u (intersectionOf p q) v =
     intersectionColour (plainColour surfaces u p v) (plainColour surfaces u q v)

@@ -45,8 +45,8 @@ unfoldable mutual
   plain (node intersection a b) = intersectionOf (plain a) (plain b)
   plain (node minus a b) = intersectionOf (plain a) (reversal b)
 
-  -- rule 3.4: BLACK for WHITE, a surface reversed, UNION for INTERSECTION over reversed sons; of A MINUS B the union of
-  -- A reversed with B
+  -- rule 3.4: BLACK for WHITE, a surface's other side, UNION for INTERSECTION over reversed sons; of A MINUS B the
+  -- union of A reversed with B
   pub reversal : Tree → Plain
   reversal (leaf white) = colour Black
   reversal (leaf black) = colour White

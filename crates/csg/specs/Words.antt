@@ -1,7 +1,7 @@
 -- Rules 3.1, 3.2, 3.6 and 8.6: a tree's words in postfix order, its limits, and its refusals 4 and 5 in their order.
 use Prim.Native.Nat.{ℕ, _+_, _-_}
 use mathlib.Core.Bool.{Bool, cond, _&&_, _||_}
-use mathlib.Core.List.{List, [], _∷_}
+use mathlib.Core.List.{List, [], _∷_, _++_}
 use lib.Dec.{ltb, leb, eqb}
 use lib.ListN.{length}
 use Rattle.universe.specs.Refusals.{badTree, overfullTree}
@@ -36,6 +36,13 @@ namesSurface names w = namesHalfspace w && ltb (w - firstHalfspace) (names .half
 abbrev pub surfaceOf : ℕ → Surface
 surfaceOf w = halfspace (w - firstHalfspace)
 
+-- the word of MINUS, and the words of A MINUS A from those of A
+abbrev pub minusWord : ℕ
+minusWord = 4
+
+abbrev pub minusItself : List ℕ → List ℕ
+minusItself words = words ++ (words ++ (minusWord ∷ []))
+
 -- rule 3.1: what each word means; one that names no row means as little as one that is no word
 unfoldable pub meaning : Named → ℕ → Word
 meaning names w =
@@ -43,7 +50,7 @@ meaning names w =
     (cond (eqb w 1) (push black)
     (cond (eqb w 2) (join union)
     (cond (eqb w 3) (join intersection)
-    (cond (eqb w 4) (join minus)
+    (cond (eqb w minusWord) (join minus)
     (cond (namesSurface names w) (push (surface (surfaceOf w))) unknown)))))
 
 -- the same by a word's number alone: whether it joins, and with what; whether it pushes, and which leaf (`meaning-is`

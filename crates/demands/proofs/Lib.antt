@@ -8,4 +8,5 @@ pub mod Voxels
 pub mod Verdicts
 pub mod Fixed
 pub mod Shortest
+pub mod Reversal
 pub mod Theorems

@@ -3,7 +3,7 @@
 -- each undecided block above level L. That is room; the raw expression has a symbol for each block examined, the merged one no more.
 use Prim.Native.Nat.{ℕ, _+_, _*_, _-_, _≤_}
 use mathlib.Core.Path.{_≡_, refl, ap}
-use mathlib.Core.Bool.{Bool}
+use mathlib.Core.Bool.{Bool, true, false, cond}
 use mathlib.Core.Logic.{_⊎_, ⊎-elim}
 use native.Mathlib.Omega.{arith}
 use native.Mathlib.Nat.{le-min, le-trans, le-of-eq}
@@ -22,13 +22,13 @@ use Rattle.bintree.specs.Shape.{symbols}
 use Rattle.bintree.specs.Merging.{merged}
 use Rattle.bintree.proofs.Shape.{length-symbols}
 use Rattle.bintree.proofs.Merging.{merged-size}
-use Rattle.csg.specs.Halfspace.{Mark, decided, undecided}
+use Rattle.csg.specs.Halfspace.{Mark, decided, undecided, rowAt}
 use Rattle.csg.specs.Surfaces.{Surfaces, Surface, halfspace, countHalfspace}
 use Rattle.csg.specs.Tree.{Tree, Plain, colour, side, unionOf, intersectionOf, plain, leaves, sides}
-use Rattle.csg.specs.Marks.{turnedRow, surfaceMark, plainMark, treeMark}
+use Rattle.csg.specs.Marks.{oppositeMark, surfaceMark, sideMark, plainMark, treeMark}
 use Rattle.csg.specs.Raw.{raw, blocksExamined}
 use Rattle.csg.proofs.Tree.{sides-plain}
-use Rattle.csg.proofs.Marks.{union-undecided, intersection-undecided}
+use Rattle.csg.proofs.Marks.{side-mark, union-undecided, intersection-undecided}
 use Rattle.csg.proofs.Raw.{raw-length}
 use Rattle.demands.specs.Room.{RoomSuffices}
 use Rattle.demands.proofs.Counting.{below, gridBlock, level-grid, countUndecided, examined-most}
@@ -38,6 +38,16 @@ use Rattle.demands.proofs.Crossing.{active-blocks}
 sons-most : (o m n : Mark) → (o ≡ undecided → (m ≡ undecided) ⊎ (n ≡ undecided)) → countUndecided o ≤ countUndecided m + countUndecided n
 sons-most (decided c) m n h = omega arith
 sons-most undecided m n h = ⊎-elim (λ e. rw e (omega arith)) (λ e. rw e (omega arith)) (h refl)
+
+-- and a side only where its surface is
+side-most : (surfaces : Surfaces) (turned : Bool) (s : Surface) (b : Block) →
+    countUndecided (sideMark surfaces turned s b) ≤ countUndecided (surfaceMark surfaces s b)
+side-most surfaces turned s b = rw (side-mark surfaces turned s b) (by turned (surfaceMark surfaces s b))
+  where
+    by : (t : Bool) (m : Mark) → countUndecided (cond t (oppositeMark m) m) ≤ countUndecided m
+    by true (decided c) = omega arith
+    by true undecided = omega arith
+    by false m = omega arith
 
 one-most : (m : Mark) → countUndecided m ≤ 1
 one-most (decided c) = omega arith
@@ -63,17 +73,22 @@ module _ (u : Universe) (accept : Accepted u) (surfaces : Surfaces) (l : ℕ) wh
       (le-of-eq (grid-add (u .axes) (blocksAlong u l) _ _))
 
   -- a surface is active over as many at most as the blocks of the level are more than the inner ones, times what it counts
-  by-surface : (turned : Bool) (s : Surface) →
-      grid (u .axes) (blocksAlong u l) (λ q. countUndecided (surfaceMark surfaces turned s (gridBlock u l q))) + countHalfspace s * innerBlocksAt u l
+  by-surface : (s : Surface) →
+      grid (u .axes) (blocksAlong u l) (λ q. countUndecided (surfaceMark surfaces s (gridBlock u l q))) + countHalfspace s * innerBlocksAt u l
       ≤ countHalfspace s * blocksAt u l
   unfolding surfaceMark
-  by-surface turned (halfspace i) = omega (arith, active-blocks u (accept .few-axes) l (turnedRow (surfaces .rows) turned i))
+  by-surface (halfspace i) = omega (arith, active-blocks u (accept .few-axes) l (rowAt (surfaces .rows) i))
 
   -- and so is a tree undecided, times what its surfaces count
   by-sides : (p : Plain) → undecidedBlocks p + sides p * innerBlocksAt u l ≤ sides p * blocksAt u l
   unfolding plainMark sides
   by-sides (colour c) = omega (arith, grid-const (u .axes) (blocksAlong u l) 0)
-  by-sides (side turned s) = by-surface turned s
+  by-sides (side turned s) =
+      omega (
+        arith,
+        grid-mono (u .axes) (blocksAlong u l) _ _ (λ q. side-most surfaces turned s (gridBlock u l q)),
+        by-surface s,
+      )
   by-sides (unionOf a b) =
       omega (arith, of-sons a b (unionOf a b) (λ q. union-undecided (plainMark surfaces a q) (plainMark surfaces b q)), by-sides a, by-sides b)
   by-sides (intersectionOf a b) =

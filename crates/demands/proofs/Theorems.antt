@@ -9,7 +9,8 @@ use Rattle.universe.specs.Universe.{universeRefusal}
 use Rattle.universe.specs.Voxel.{windowRefusal}
 use Rattle.universe.proofs.Universes.{accepted}
 use Rattle.bintree.specs.declared.Verdict.{Verdict}
-use Rattle.bintree.specs.Shape.{Shape, symbols}
+use Rattle.bintree.specs.declared.Colour.the-variants.{White}
+use Rattle.bintree.specs.Shape.{Shape, leaf, symbols}
 use Rattle.bintree.specs.Reading.{read, expression}
 use Rattle.bintree.specs.Merging.{merged, isMerged, mergedSymbols}
 use Rattle.bintree.specs.Parts.{colourAt}
@@ -17,11 +18,12 @@ use Rattle.bintree.specs.Counts.{volume}
 use Rattle.bintree.specs.Verdicts.{verdict}
 use Rattle.bintree.proofs.Reading.{read-is}
 use Rattle.csg.specs.Surfaces.{Surfaces}
-use Rattle.csg.specs.Tree.{Tree}
+use Rattle.csg.specs.Tree.{Tree, node, minus}
 use Rattle.csg.specs.Marks.{intersectionColour, treeColour}
 use Rattle.csg.specs.Raw.{raw, both}
 use Rattle.demands.specs.Room.{RoomSuffices}
 use Rattle.demands.specs.Colours.{Shows, ColoursKept}
+use Rattle.demands.specs.Reversal.{Opposite}
 use Rattle.demands.specs.Voxels.{Colouring, blackVoxels}
 use Rattle.demands.specs.Verdicts.{Judges}
 use Rattle.demands.specs.Shortest.{Has, Fewest}
@@ -29,6 +31,7 @@ use Rattle.demands.proofs.Room.{room-suffices}
 use Rattle.demands.proofs.Colours.{raw-depth, merged-raw-depth, raw-shows, merged-shows, colours-kept, both-colour}
 use Rattle.demands.proofs.Fixed.{merged-fixed}
 use Rattle.demands.proofs.Shortest.{shape-fewest, merging-fewest}
+use Rattle.demands.proofs.Reversal.{opposite, merged-white}
 use Rattle.demands.proofs.Voxels.{volume-counts, volume-of}
 use Rattle.demands.proofs.Verdicts.{judges, verdict-once}
 
@@ -49,6 +52,10 @@ module _ (u : Universe) (e : universeRefusal u ≡ 0) where
   pub tree-shortest : (surfaces : Surfaces) (t : Tree) → Fewest u (treeColour surfaces u t) (symbols (merged (raw u surfaces t)))
   tree-shortest surfaces t =
       shape-fewest u e (treeColour surfaces u t) (raw u surfaces t) (raw-depth u e surfaces t) (raw-shows u e surfaces t .colours)
+
+  -- A TREE LESS ITSELF leaves nothing: its merged shape is one WHITE leaf
+  pub minus-itself : (surfaces : Surfaces) (t : Tree) → merged (raw u surfaces (node minus t t)) ≡ leaf White
+  minus-itself surfaces t = merged-white u surfaces t e
 
   -- DEMAND 3: the raw expression has a symbol for each block examined, and it and the merged one fit into the tree's room
   pub demand-3 : (surfaces : Surfaces) (t : Tree) → RoomSuffices u surfaces t
@@ -82,3 +89,7 @@ module _ (u : Universe) (e : universeRefusal u ≡ 0) where
 -- and that fixes the verdict
 pub one-verdict : (u : Universe) (colours : Colouring) (first last : ℕ) (x y : Verdict) → Judges u colours first last x → Judges u colours first last y → x ≡ y
 one-verdict u colours first last x y = verdict-once x y
+
+-- REVERSAL: that of every tree is decided exactly where the tree is, with the opposite colour, over every block and at every centre
+pub reversal-opposite : (surfaces : Surfaces) (t : Tree) → Opposite surfaces t
+reversal-opposite surfaces t = opposite surfaces t

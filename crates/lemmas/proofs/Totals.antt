@@ -1,12 +1,11 @@
 -- Sums of whole numbers by their two parts: where each term is p i − n i, the total is Σ p − Σ n, so that facts of totals are facts of sums
 -- of natural numbers. And weighted sums, Σ u i · x i: they grow with x, and doubled centres lie between doubled ends.
 use Prim.Native.Nat.{ℕ, zero, suc, _+_, _*_, _≤_, _<_}
-use mathlib.Core.Path.{_≡_, refl, sym, ap}
+use mathlib.Core.Path.{_≡_, refl, ap}
 use native.Mathlib.Omega.{arith}
 use native.Mathlib.Nat.{mul-le-mul-left}
-use lib.Dec.{leb·zero, leb·suc-zero}
-use lib.IntN.{ℤ, pos, negsuc, negℤ}
-use lib.Signed.{_≤ℤ_, leZ}
+use lib.IntN.{ℤ}
+use lib.Signed.{_≤ℤ_}
 use Rattle.lemmas.specs.Sums.{sum, total}
 use Rattle.lemmas.proofs.Sums.{below, top, sum-mono}
 use Rattle.lemmas.proofs.Whole.{Is, is-nat, is-add, le-in, le-out}
@@ -14,17 +13,6 @@ use Rattle.lemmas.proofs.Whole.{Is, is-nat, is-add, le-in, le-out}
 -- whole numbers in order
 pub le-then-le : {a b c : ℤ} → a ≤ℤ b → b ≤ℤ c → a ≤ℤ c
 le-then-le h k = le-in (omega (arith, le-out h, le-out k))
-
--- a negated number beside 0
-pub below-negated : (z : ℤ) → leZ (pos 0) (negℤ z) ≡ leZ z (pos 0)
-below-negated (pos zero) = refl
-below-negated (pos (suc n)) = sym (leb·suc-zero n)
-below-negated (negsuc n) = leb·zero (suc n)
-
-pub negated-below : (z : ℤ) → leZ (negℤ z) (pos 0) ≡ leZ (pos 0) z
-negated-below (pos zero) = refl
-negated-below (pos (suc n)) = sym (leb·zero (suc n))
-negated-below (negsuc n) = leb·suc-zero n
 
 -- the parts of a total are the sums of the parts
 pub total-is : (n : ℕ) (f : ℕ → ℤ) (p q : ℕ → ℕ) → ((i : ℕ) → i < n → Is (f i) (p i) (q i)) → Is (total n f) (sum n p) (sum n q)

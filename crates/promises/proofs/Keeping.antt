@@ -58,6 +58,15 @@ module _ (before : ℕ) (out written : List ℕ) (Claim : Written → List ℕ �
           by (written-short before out written z h) (kept-short before out written z h) (short z h)
       go (yes z) (yes h) = by (written-all before out written z h) (left-all before out written z h) (done z h)
 
+-- ---- written or not, the answer tells how many symbols there are
+
+pub length-told : (before : ℕ) (out written : List ℕ) → before ≡ 0 → writtenAnswer before out written .length ≡ length written
+length-told before out written z = go (decLe (length written) (length out))
+  where
+    go : Dec (length written ≤ length out) → writtenAnswer before out written .length ≡ length written
+    go (yes h) = rw (← written-all before out written z h)
+    go (no f) = rw (← written-short before out written z (let h : length out < length written = omega arith in h))
+
 -- ---- symbols that show colours, and fit
 
 pub record Showing (u : Universe) (leaves : ℕ) (colours : List ℕ → Colour) (written : List ℕ) : Type 0 where
@@ -102,11 +111,3 @@ module _ (u : Universe) (before leaves : ℕ) (colours : List ℕ → Colour) (o
 
   pub keeps : Keeps (writtenAnswer before out written) (writtenBuffer before out written)
   keeps = at-its-end before out written Keeps refused short (λ z h. done z)
-
-  -- written or not, the answer tells how many symbols there are
-  pub length-told : before ≡ 0 → writtenAnswer before out written .length ≡ length written
-  length-told z = go (decLe (length written) (length out))
-    where
-      go : Dec (length written ≤ length out) → writtenAnswer before out written .length ≡ length written
-      go (yes h) = rw (← written-all before out written z h)
-      go (no f) = rw (← written-short before out written z (let h : length out < length written = omega arith in h))

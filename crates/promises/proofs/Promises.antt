@@ -105,7 +105,7 @@ module _ (u : Universe) (surfaces : Surfaces) (words : List ℕ) (out : List ℕ
   pub raw-of-one-blocks : oneTreeRefusal u surfaces words ≡ 0 → rawOfOneAnswer u surfaces words out .length ≡ blocksExamined u surfaces tree
   unfolding rawOfOneAnswer rawOfOne
   raw-of-one-blocks z =
-      length-told u _ (halfspaceWords words) colours out _ (λ y. raw-showing u surfaces tree _ (checks y .0) (few y) colours (λ v. refl)) z
+      length-told _ out _ z
       ∙ demand-3 u (checks z .0) surfaces tree .raw-counts
 
   pub merged-of-one-blocks : oneTreeRefusal u surfaces words ≡ 0 → mergedOfOneAnswer u surfaces words out .length ≤ blocksExamined u surfaces tree
@@ -113,7 +113,7 @@ module _ (u : Universe) (surfaces : Surfaces) (words : List ℕ) (out : List ℕ
   merged-of-one-blocks z =
       omega (
         arith,
-        length-told u _ (halfspaceWords words) colours out _ (λ y. merged-showing u surfaces tree _ (checks y .0) (few y) colours (λ v. refl)) z,
+        length-told _ out (mergedOfOne u surfaces words) z,
         merged-shorter u surfaces tree _ (checks z .0) (few z) colours (λ v. refl),
         demand-3 u (checks z .0) surfaces tree .raw-counts,
       )
@@ -208,7 +208,7 @@ module _ (u : Universe) (surfaces : Surfaces) (first second : List ℕ) where
         rawOfTwoAnswer u surfaces first second out .length ≡ blocksExamined u surfaces (both tree₁ tree₂)
     unfolding rawOfTwoAnswer rawOfTwo
     raw-of-two-blocks z =
-        length-told u _ words shared out (rawOfTwo u surfaces first second) raw-shown z
+        length-told _ out (rawOfTwo u surfaces first second) z
         ∙ demand-3 u (accepts z .0) surfaces (both tree₁ tree₂) .raw-counts
 
     pub merged-of-two-blocks : twoTreesRefusal u surfaces first second ≡ 0 →
@@ -217,7 +217,7 @@ module _ (u : Universe) (surfaces : Surfaces) (first second : List ℕ) where
     merged-of-two-blocks z =
         omega (
           arith,
-          length-told u _ words shared out (mergedOfTwo u surfaces first second) merged-shown z,
+          length-told _ out (mergedOfTwo u surfaces first second) z,
           merged-shorter u surfaces (both tree₁ tree₂) words (accepts z .0) (few-both z) shared (both-colour surfaces u tree₁ tree₂),
           demand-3 u (accepts z .0) surfaces (both tree₁ tree₂) .raw-counts,
         )

@@ -3,3 +3,4 @@ pub mod Promises
 pub mod Shortest
 pub mod Centres
 pub mod Faces
+pub mod CutFromItself

@@ -10,6 +10,7 @@ const WHITE: u8 = 2;
 #[derive(Clone, Copy)]
 enum Word {
     Leaf([i64; 5]),
+    Reversed([i64; 5]),
     Colour(u8),
     Union,
     Intersection,
@@ -27,6 +28,7 @@ fn flatten(tree: &Tree, words: &mut Vec<Word>) {
         Tree::White => words.push(Word::Colour(WHITE)),
         Tree::Black => words.push(Word::Colour(BLACK)),
         Tree::Halfspace(row) => words.push(Word::Leaf(*row)),
+        Tree::Reversed(row) => words.push(Word::Reversed(*row)),
         Tree::Union(a, b) => {
             flatten(a, words);
             flatten(b, words);
@@ -41,6 +43,12 @@ fn flatten(tree: &Tree, words: &mut Vec<Word>) {
     }
 }
 
+/// The opposite mark: undecided where the mark is, else of the other colour.
+#[inline(always)]
+fn opposite(mark: u8) -> u8 {
+    mark >> 1 | mark << 1 & WHITE
+}
+
 /// Takes the marks of a postfix tree together. At most 33 shapes are pending: 32, and the first of two trees.
 #[inline(always)]
 fn fold(words: &[Word], leaf: impl Fn(&[i64; 5]) -> u8) -> u8 {
@@ -50,6 +58,10 @@ fn fold(words: &[Word], leaf: impl Fn(&[i64; 5]) -> u8) -> u8 {
         match word {
             Word::Leaf(row) => {
                 stack[top & 63] = leaf(row);
+                top += 1;
+            }
+            Word::Reversed(row) => {
+                stack[top & 63] = opposite(leaf(row));
                 top += 1;
             }
             Word::Colour(mark) => {
@@ -262,7 +274,7 @@ impl Run {
         if read.len() == 2 {
             words.push(Word::Intersection);
         }
-        let leaves = words.iter().filter(|word| matches!(word, Word::Leaf(_))).count() as u64;
+        let leaves = words.iter().filter(|word| matches!(word, Word::Leaf(_) | Word::Reversed(_))).count() as u64;
         let room = room_of(&universe, leaves);
         Ok(Run { universe, words, room })
     }

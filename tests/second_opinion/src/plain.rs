@@ -159,12 +159,15 @@ pub enum Tree {
     White,
     Black,
     Halfspace(Row),
+    /// A halfspace reversed: decided exactly where the halfspace is, and of the opposite colour there and at every
+    /// centre.
+    Reversed(Row),
     Union(Box<Tree>, Box<Tree>),
     Intersection(Box<Tree>, Box<Tree>),
     Minus(Box<Tree>, Box<Tree>),
 }
 
-use Tree::{Halfspace, Intersection, Minus, Union};
+use Tree::{Halfspace, Intersection, Minus, Reversed, Union};
 
 pub fn tree_checked(rows: &[Row], words: &[u16]) -> Answer<Tree> {
     if words.is_empty() {
@@ -216,7 +219,8 @@ pub fn reversed(tree: Tree) -> Tree {
     match tree {
         Tree::White => Tree::Black,
         Tree::Black => Tree::White,
-        Halfspace(row) => Halfspace(row.map(|number| -number)),
+        Halfspace(row) => Reversed(row),
+        Reversed(row) => Halfspace(row),
         Union(a, b) => Intersection(Box::new(reversed(*a)), Box::new(reversed(*b))),
         Intersection(a, b) => Union(Box::new(reversed(*a)), Box::new(reversed(*b))),
         Minus(a, b) => Union(Box::new(reversed(*a)), b),
@@ -241,6 +245,17 @@ pub enum Mark {
     Undecided,
 }
 
+impl Mark {
+    /// Decided where this one is, and then the opposite colour.
+    pub fn opposite(self) -> Mark {
+        match self {
+            Mark::White => Mark::Black,
+            Mark::Black => Mark::White,
+            Mark::Undecided => Mark::Undecided,
+        }
+    }
+}
+
 /// The value of a halfspace's five numbers at a point of whole coordinates.
 fn value(row: &Row, point: &[i64; 4]) -> i64 {
     row[0] + (0..4).map(|axis| row[axis + 1] * point[axis]).sum::<i64>()
@@ -263,21 +278,25 @@ pub fn extremes(universe: &Universe, row: &Row, block: &Block) -> (i64, i64) {
     (min, max)
 }
 
+/// The mark of a halfspace over a block.
+fn halfspace_mark(universe: &Universe, row: &Row, block: &Block) -> Mark {
+    let (min, max) = extremes(universe, row, block);
+    if min >= 0 {
+        Mark::Black
+    } else if max <= 0 {
+        Mark::White
+    } else {
+        Mark::Undecided
+    }
+}
+
 /// The mark of a tree with no MINUS over a block.
 pub fn mark(universe: &Universe, tree: &Tree, block: &Block) -> Mark {
     match tree {
         Tree::White => Mark::White,
         Tree::Black => Mark::Black,
-        Halfspace(row) => {
-            let (min, max) = extremes(universe, row, block);
-            if min >= 0 {
-                Mark::Black
-            } else if max <= 0 {
-                Mark::White
-            } else {
-                Mark::Undecided
-            }
-        }
+        Halfspace(row) => halfspace_mark(universe, row, block),
+        Reversed(row) => halfspace_mark(universe, row, block).opposite(),
         Union(a, b) => match (mark(universe, a, block), mark(universe, b, block)) {
             (Mark::Black, _) | (_, Mark::Black) => Mark::Black,
             (Mark::White, Mark::White) => Mark::White,
@@ -292,15 +311,19 @@ pub fn mark(universe: &Universe, tree: &Tree, block: &Block) -> Mark {
     }
 }
 
+/// Whether a halfspace is BLACK at a voxel's centre.
+fn halfspace_black(row: &Row, axes: usize, voxel: &[i64; 4]) -> bool {
+    let sum: i64 = (0..axes).map(|axis| row[axis + 1] * (2 * voxel[axis] + 1)).sum();
+    2 * row[0] + sum >= 0
+}
+
 /// Whether a tree with no MINUS is BLACK at a voxel's centre.
 pub fn black_at_centre(tree: &Tree, axes: usize, voxel: &[i64; 4]) -> bool {
     match tree {
         Tree::White => false,
         Tree::Black => true,
-        Halfspace(row) => {
-            let sum: i64 = (0..axes).map(|axis| row[axis + 1] * (2 * voxel[axis] + 1)).sum();
-            2 * row[0] + sum >= 0
-        }
+        Halfspace(row) => halfspace_black(row, axes, voxel),
+        Reversed(row) => !halfspace_black(row, axes, voxel),
         Union(a, b) => black_at_centre(a, axes, voxel) || black_at_centre(b, axes, voxel),
         Intersection(a, b) => black_at_centre(a, axes, voxel) && black_at_centre(b, axes, voxel),
         Minus(..) => unreachable!("no MINUS is left"),

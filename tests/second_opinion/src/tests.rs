@@ -236,10 +236,15 @@ fn trees_are_refused_in_order() {
 #[test]
 fn reversal_and_minus() {
     let all_zero = Halfspace([0; 5]);
-    let minus = without_minus(Tree::Minus(Box::new(all_zero.clone()), Box::new(all_zero)));
     let universe = Universe::checked(2, 2).unwrap();
-    assert_eq!(raw_of(&universe, &minus), b"B");
-    // reversing twice gives the same marks
+    assert_eq!(raw_of(&universe, &all_zero), b"B");
+    assert_eq!(raw_of(&universe, &reversed(all_zero)), b"W");
+    // a centre on the plane: of voxel (1, 0) the value of (-3, 2, 0) is 0
+    assert_eq!(2 * -3 + 2 * (2 * 1 + 1), 0);
+    let (_, merged, black) = raw_text(2, &rows_of(&[[-3, 2, 0]]), &[256, 256, 4]);
+    assert_eq!((merged.as_str(), black), ("W", 0));
+    // a reversal is decided where the tree is, and has the opposite colour; reversing twice gives the same marks; and a
+    // tree less itself is WHITE
     let mut random = Random::new(17);
     for _ in 0..2000 {
         let (axes, bits) = generate::small_universe(&mut random, 6);
@@ -247,8 +252,18 @@ fn reversal_and_minus() {
         let rows = generate::rows(&mut random, axes, bits);
         let words = generate::tree(&mut random, rows.len() / 5);
         let read = tree_checked(&rows_checked(&universe, &rows).unwrap(), &words).unwrap();
+        let opposite = raw_of(&universe, &without_minus(reversed(read.clone())));
         let twice = without_minus(reversed(reversed(read.clone())));
-        assert_eq!(raw_of(&universe, &twice), raw_of(&universe, &without_minus(read)));
+        let itself = Tree::Minus(Box::new(read.clone()), Box::new(read.clone()));
+        let raw = raw_of(&universe, &without_minus(read));
+        assert_eq!(raw_of(&universe, &twice), raw);
+        let turned = |symbol: &u8| match symbol {
+            b'B' => b'W',
+            b'W' => b'B',
+            _ => b'(',
+        };
+        assert_eq!(opposite, raw.iter().map(turned).collect::<Vec<u8>>());
+        assert_eq!(merged_by_replacement(&raw_of(&universe, &without_minus(itself))), b"W");
     }
 }
 

@@ -17,7 +17,7 @@ returns-3 : tie.Need-returns-3
 unfolding joinCode
 returns-3 c =
     let k = c .before .before in
-    simp (ne-eqb _ _ (k .before .if1 .left), ne-eqb _ _ (k .if2 .left), ← c .before .reversed-code .ensures) (c .mixed3 .ensures)
+    simp (ne-eqb _ _ (k .before .if1 .left), ne-eqb _ _ (k .if2 .left), ← c .before .opposite-code .ensures) (c .mixed3 .ensures)
 
 pub join-code-spec : {M : Type 1} → statement M
 join-code-spec =
