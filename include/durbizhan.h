@@ -105,10 +105,13 @@ uint64_t durbizhan_verdict(uint64_t axes, uint64_t bits,
 /* Whether an expression is well-formed: ACCEPTED, or BAD_UNIVERSE or BAD_EXPRESSION. */
 uint64_t durbizhan_well_formed(uint64_t axes, uint64_t bits, const uint8_t *expression, size_t expression_count);
 
-/* answer[0]: the black voxels of an expression. */
-uint64_t durbizhan_volume(uint64_t axes, uint64_t bits,
-                          const uint8_t *expression, size_t expression_count,
-                          uint64_t answer[1]);
+/* The black voxels of an expression in the whole universe, and whether it has one in frames first_frame to last_frame,
+ * both ends in. answer: volume, hit (0 Clear, 1 Hit), first frame, last frame, black voxels in the window. Read the
+ * number first: a refused verdict is Clear. */
+uint64_t durbizhan_numbers(uint64_t axes, uint64_t bits,
+                           const uint8_t *expression, size_t expression_count,
+                           uint64_t first_frame, uint64_t last_frame,
+                           uint64_t answer[5]);
 
 /* answer[0]: the colour at a voxel, 0 WHITE or 1 BLACK. Its place along the last axis is its frame; above the axes it is
  * 0. */

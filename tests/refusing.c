@@ -1,7 +1,7 @@
 /* tests/refusing.c: stands in for the library where an example is to meet every refusal. The room question and the
- * verdict return the numbers that ROOM_NUMBER and VERDICT_NUMBER name in the environment; as with the library, all else
- * of a refused answer is zero, which is Clear, and on NO_ROOM the length needed is 77. Accepted, room is ROOM and the
- * verdict is Clear.
+ * verdict return the numbers that ROOM_NUMBER and VERDICT_NUMBER name in the environment, and the question for an
+ * expression's numbers that of NUMBERS_NUMBER; as with the library, all else of a refused answer is zero, which is Clear,
+ * and on NO_ROOM the length needed is 77. Accepted, room is ROOM and the verdict is Clear.
  */
 #include <stdlib.h>
 #include <string.h>
@@ -46,6 +46,16 @@ uint64_t durbizhan_verdict(uint64_t axes, uint64_t bits,
     if (number == DURBIZHAN_ACCEPTED) answer[4] = LENGTH;
     if (number == DURBIZHAN_NO_ROOM) answer[4] = NEEDED;
     return number;
+}
+
+uint64_t durbizhan_numbers(uint64_t axes, uint64_t bits,
+                           const uint8_t *expression, size_t expression_count,
+                           uint64_t first_frame, uint64_t last_frame,
+                           uint64_t answer[5])
+{
+    (void)axes, (void)bits, (void)expression, (void)expression_count, (void)first_frame, (void)last_frame;
+    memset(answer, 0, 5 * sizeof answer[0]);
+    return named("NUMBERS_NUMBER");
 }
 
 uint64_t durbizhan_lines(const uint8_t *scene, size_t scene_count, uint8_t out[256])

@@ -79,7 +79,7 @@ static void verdict(void)
 
 static void well_formed(void) { number = durbizhan_well_formed(axes, bits, bytes, bytes_count); }
 
-static void volume(void) { number = durbizhan_volume(axes, bits, bytes, bytes_count, answer); }
+static void numbers(void) { number = durbizhan_numbers(axes, bits, bytes, bytes_count, 0, last_frame, answer); }
 
 static void colour(void)
 {
@@ -241,13 +241,13 @@ static void express(enum shape shape)
 /* The calls of a question to an expression, or of one that writes, with all room and with too little. */
 static void questions(void (*call)(void), uint64_t where_black, uint64_t where_short)
 {
-    const uint64_t numbers[] = {DURBIZHAN_ACCEPTED, DURBIZHAN_ACCEPTED, where_black, DURBIZHAN_BAD_EXPRESSION};
+    const uint64_t wanted[] = {DURBIZHAN_ACCEPTED, DURBIZHAN_ACCEPTED, where_black, DURBIZHAN_BAD_EXPRESSION};
     for (enum shape shape = IN_LOW; shape <= UNENDED; shape++) {
         express(shape);
         lent = ROOM;
-        take(call, numbers[shape]);
+        take(call, wanted[shape]);
         lent = 0;
-        take(call, numbers[shape] == DURBIZHAN_ACCEPTED ? where_short : numbers[shape]);
+        take(call, wanted[shape] == DURBIZHAN_ACCEPTED ? where_short : wanted[shape]);
     }
     axes = 5;
     take(call, DURBIZHAN_BAD_UNIVERSE);
@@ -329,7 +329,7 @@ static void scenes(const char *named, void (*call)(void), uint64_t of_strip)
 /* The calls of what reads a shape file. */
 static void shapes(void)
 {
-    const uint64_t numbers[] = {
+    const uint64_t wanted[] = {
         DURBIZHAN_ACCEPTED, DURBIZHAN_ACCEPTED, DURBIZHAN_NOT_MERGED, DURBIZHAN_BAD_EXPRESSION,
     };
     begin("durbizhan_shape_read");
@@ -343,9 +343,9 @@ static void shapes(void)
         put(count, 4);
         bytes_count += count;
         lent = ROOM;
-        take(shape_read, numbers[shape]);
+        take(shape_read, wanted[shape]);
         lent = 0;
-        take(shape_read, numbers[shape] == DURBIZHAN_ACCEPTED ? DURBIZHAN_NO_ROOM : numbers[shape]);
+        take(shape_read, wanted[shape] == DURBIZHAN_ACCEPTED ? DURBIZHAN_NO_ROOM : wanted[shape]);
     }
     bytes[5] = 5;
     take(shape_read, DURBIZHAN_BAD_UNIVERSE);
@@ -391,8 +391,12 @@ int main(void)
     begin("durbizhan_well_formed");
     questions(well_formed, DURBIZHAN_ACCEPTED, DURBIZHAN_ACCEPTED);
     end();
-    begin("durbizhan_volume");
-    questions(volume, DURBIZHAN_ACCEPTED, DURBIZHAN_ACCEPTED);
+    begin("durbizhan_numbers");
+    last_frame = 1023;
+    questions(numbers, DURBIZHAN_ACCEPTED, DURBIZHAN_ACCEPTED);
+    express(IN_HIGH);
+    last_frame = 1024;
+    take(numbers, DURBIZHAN_OUTSIDE);
     end();
     questions_at_places();
     begin("durbizhan_merge");

@@ -7,11 +7,12 @@ mod durbizhan;
 #[path = "second_opinion/src/face.rs"]
 mod face;
 
-use durbizhan::{Clearance, Refused, Universe, Verdict, Window, ACCEPTED, NO_ROOM};
+use durbizhan::{Clearance, Numbers, Refused, Universe, Verdict, Window, ACCEPTED, NO_ROOM};
 
 /// The numbers that each function has.
 const ROOM: &[u64] = &[0, 2];
 const VERDICT: &[u64] = &[0, 2, 3, 4, 5, 6, 9];
+const NUMBERS: &[u64] = &[0, 2, 7, 9];
 const LINES: &[u64] = &[0, 1, 2, 3, 4, 5, 6, 9];
 
 /// Two trees over rows, and a window.
@@ -120,6 +121,37 @@ fn verdicts() -> Vec<u64> {
     cases.iter().map(|case| case.0).collect()
 }
 
+fn numbers() -> Vec<u64> {
+    let cases: [(u64, u64, u64, &[u8], u64, u64); 11] = [
+        (0, 2, 2, b"(W(((WBW((BWW", 0, 3),
+        (0, 2, 2, b"(W(((WBW((BWW", 2, 2),
+        (0, 2, 2, b"(W(((WBW((BWW", 3, 3),
+        (0, 1, 0, b"W", 0, 0),
+        (2, 0, 2, b"B", 0, 0),
+        (2, 4, 11, b"(", 1, 0),
+        (7, 2, 2, b"", 0, 0),
+        (7, 2, 2, b"(B", 1, 0),
+        (7, 2, 2, b"BB", 0, 4),
+        (9, 2, 2, b"B", 0, 4),
+        (9, 2, 2, b"B", 2, 1),
+    ];
+    for (wanted, axes, bits, expression, first, last) in cases {
+        let mut answer = [u64::MAX; 5];
+        let number = face::numbers(axes, bits, expression, first, last, &mut answer);
+        let faced = match (number, answer) {
+            (ACCEPTED, [volume, 0, 0, 0, 0]) => Ok(Numbers { volume, verdict: Verdict::Clear }),
+            (ACCEPTED, [volume, 1, first, last, voxels]) => {
+                Ok(Numbers { volume, verdict: Verdict::Hit { first, last, voxels } })
+            }
+            (number, [0, 0, 0, 0, 0]) => Err(Refused { number, needed: 0 }),
+            _ => panic!("numbers: number {number}, answer {answer:?}"),
+        };
+        let wrapped = durbizhan::numbers(Universe { axes, bits }, expression, Window { first, last });
+        held("numbers", wanted, number, wrapped, faced);
+    }
+    cases.map(|case| case.0).to_vec()
+}
+
 /// The number that the lines refuse with.
 fn number_of(lines: &[u8]) -> u64 {
     lines.strip_prefix(b"refused ").map_or(0, |rest| u64::from(rest[0] - b'0'))
@@ -141,7 +173,7 @@ fn lines() -> Vec<u64> {
 fn main() {
     leaves();
     let mut tried = 0;
-    for (numbers, cases) in [(ROOM, rooms()), (VERDICT, verdicts()), (LINES, lines())] {
+    for (numbers, cases) in [(ROOM, rooms()), (VERDICT, verdicts()), (NUMBERS, numbers()), (LINES, lines())] {
         for number in numbers {
             assert!(cases.contains(number), "number {number} is not tried, of {numbers:?}");
         }

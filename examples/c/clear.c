@@ -15,6 +15,7 @@
  */
 #include <inttypes.h>
 #include <stdio.h>
+#include <string.h>
 
 #include "durbizhan.h"
 
@@ -63,7 +64,7 @@ int main(int count, char **words)
     if (count > 1) return lines_of(words[1]);
 
     uint8_t out[32];
-    uint64_t room[1], verdict[5];
+    uint64_t room[1], verdict[5], numbers[5];
 
     uint64_t leaves = durbizhan_leaves(first, COUNT(first)) + durbizhan_leaves(second, COUNT(second));
     uint64_t number = durbizhan_room(AXES, BITS, leaves, room);
@@ -74,6 +75,11 @@ int main(int count, char **words)
     number = durbizhan_verdict(AXES, BITS, rows, COUNT(rows), first, COUNT(first), second, COUNT(second),
                                FIRST_FRAME, LAST_FRAME, out, sizeof out, verdict);
     if (number != DURBIZHAN_ACCEPTED) return refused(number, verdict[4]);
+
+    /* Asked for its numbers, the expression that was written has the same verdict; its volume stands before that. */
+    number = durbizhan_numbers(AXES, BITS, out, verdict[4], FIRST_FRAME, LAST_FRAME, numbers);
+    if (number != DURBIZHAN_ACCEPTED) return refused(number, 0);
+    if (memcmp(numbers + 1, verdict, 4 * sizeof numbers[0]) != 0) return 1;
 
     printf("axes %d bits %d\n", AXES, BITS);
     printf("leaves %" PRIu64 " raw %" PRIu64 " room %" PRIu64 "\n", leaves, verdict[4], room[0]);

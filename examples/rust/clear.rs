@@ -38,6 +38,9 @@ fn judged() -> Result<String, Refused> {
     let room = durbizhan::room(universe, leaves)?;
     let mut out = vec![0; room as usize];
     let found = durbizhan::verdict(universe, &ROWS, &FIRST, &SECOND, window, &mut out)?;
+    // asked for its numbers, the expression that was written has the same verdict
+    let numbers = durbizhan::numbers(universe, &out[..found.length], window)?;
+    assert_eq!(numbers.verdict, found.verdict);
     let last = match found.verdict {
         Verdict::Clear => "clear".to_string(),
         Verdict::Hit { first, last, voxels } => format!("hit first {first} last {last} voxels {voxels}"),

@@ -24,6 +24,16 @@ mod face {
             answer: *mut [u64; 5],
         ) -> u64;
 
+        pub fn durbizhan_numbers(
+            axes: u64,
+            bits: u64,
+            expression: *const u8,
+            expression_count: usize,
+            first_frame: u64,
+            last_frame: u64,
+            answer: *mut [u64; 5],
+        ) -> u64;
+
         pub fn durbizhan_lines(scene: *const u8, scene_count: usize, out: *mut [u8; 256]) -> u64;
     }
 }
@@ -50,6 +60,13 @@ pub enum Verdict {
 pub struct Clearance {
     pub verdict: Verdict,
     pub length: usize,
+}
+
+/// The black voxels of a whole expression, and its verdict over a window.
+#[derive(Debug, PartialEq)]
+pub struct Numbers {
+    pub volume: u64,
+    pub verdict: Verdict,
 }
 
 /// Axes and bits.
@@ -108,8 +125,35 @@ pub fn verdict(
     if number != ACCEPTED {
         return Err(Refused { number, needed: length });
     }
-    let verdict = if hit == 0 { Verdict::Clear } else { Verdict::Hit { first, last, voxels } };
-    Ok(Clearance { verdict, length: length as usize })
+    Ok(Clearance { verdict: verdict_of(hit, first, last, voxels), length: length as usize })
+}
+
+fn verdict_of(hit: u64, first: u64, last: u64, voxels: u64) -> Verdict {
+    if hit == 0 {
+        Verdict::Clear
+    } else {
+        Verdict::Hit { first, last, voxels }
+    }
+}
+
+pub fn numbers(universe: Universe, expression: &[u8], window: Window) -> Result<Numbers, Refused> {
+    let mut answer = [0; 5];
+    let number = unsafe {
+        face::durbizhan_numbers(
+            universe.axes,
+            universe.bits,
+            expression.as_ptr(),
+            expression.len(),
+            window.first,
+            window.last,
+            &mut answer,
+        )
+    };
+    let [volume, hit, first, last, voxels] = answer;
+    if number != ACCEPTED {
+        return Err(Refused { number, needed: 0 });
+    }
+    Ok(Numbers { volume, verdict: verdict_of(hit, first, last, voxels) })
 }
 
 /// The lines that the program prints for a scene file; a refusal is the one line `refused n`.

@@ -1,7 +1,6 @@
 -- Counts of black voxels: halving a block halves its voxels, so merging keeps volume and frames; and the frames add up to the volume.
 use mathlib.Core.Path.{_≡_, refl, sym, ap, ap₂, _∙_}
 use mathlib.Core.Bool.{Bool, true, false}
-use mathlib.Core.List.{List}
 use Prim.Native.Nat.{ℕ, zero, suc, _+_, _*_, _/_, _%_, _≤_, _<_}
 use native.Mathlib.Nat.{le-max-left, le-max-right, div-eq-of-lt-le}
 use native.Mathlib.Decide.{ℕ-discrete}
@@ -18,11 +17,7 @@ use Rattle.bintree.specs.declared.Colour.{Colour}
 use Rattle.bintree.specs.declared.Colour.the-variants.{White, Black}
 use Rattle.bintree.specs.Shape.{Shape, leaf, halved, depth}
 use Rattle.bintree.specs.Merging.{merged}
-use Rattle.bintree.specs.declared.Counted.{Counted}
-use Rattle.bintree.specs.Reading.{expression}
-use Rattle.bintree.specs.Answers.{ofShape, wellFormedRefusal}
-use Rattle.bintree.specs.Counts.{volumeFrom, volume, refusedCount, doneCount, volumeAnswer, frames, voxelsEach, ofHalves, voxelsFrom, voxelsAt}
-use Rattle.bintree.proofs.Answers.{number-of}
+use Rattle.bintree.specs.Counts.{volumeFrom, volume, frames, voxelsEach, ofHalves, voxelsFrom, voxelsAt}
 use Rattle.bintree.proofs.Merging.{Joined, one, two, joined}
 
 -- a halved shape that is not too deep below level l: the level has halves, and its parts are not too deep below the next
@@ -199,10 +194,3 @@ module _ (u : Universe) (some : 0 < u .axes) where
       ap (λ m. sum m (voxelsAt u s)) (sym (side-first u (frameAxis u)))
       ∙ sum-cong n (voxelsAt u s) (λ c. voxelsFrom u 0 s (0 * n + c)) (λ c k. let e : c ≡ 0 * n + c = omega arith in ap (voxelsFrom u 0 s) e)
       ∙ block-frames 0 s (omega arith) 0
-
--- the answer's number
-pub counted-number : (u : Universe) (s : List ℕ) (r : Counted) → r ≡ volumeAnswer u s → r .refusal ≡ wellFormedRefusal u s
-unfolding volumeAnswer
-counted-number u s r e =
-    ap (λ (z : Counted). z .refusal) e
-    ∙ number-of refusedCount (doneCount (ofShape (expression u s) 0 (volume u))) (wellFormedRefusal u s) (λ z. z .refusal) (λ m. refl) refl

@@ -1,5 +1,5 @@
--- Laws of the definitions, one file for each; then those of the functions, by module of src/ (Owed: count.rt and window.rt, Walks: count.rt, Voxels:
--- voxel.rt, Lays and Merges: lay.rt, Places: place.rt, Watches, Watching and WindowAnswers: window.rt).
+-- Laws of the definitions, one file for each; then those of the functions, by module of src/ (Owed: walk.rt and window.rt, Walks: walk.rt, Voxels:
+-- voxel.rt, Lays and Merges: lay.rt, Places: place.rt, Frames, Watches, Watching and WindowAnswers: window.rt).
 pub mod Shape
 pub mod Reading
 pub mod Answers
@@ -14,6 +14,7 @@ pub mod Voxels
 pub mod Lays
 pub mod Merges
 pub mod Places
+pub mod Frames
 pub mod Watches
 pub mod Watching
 pub mod WindowAnswers

@@ -19,8 +19,8 @@ use Rattle.universe.proofs.Questions.{levels-told}
 use Rattle.bintree.specs.declared.Colour.{Colour}
 use Rattle.bintree.specs.declared.Colour.the-variants.{White, Black}
 use Rattle.bintree.specs.declared.Placed.{Placed}
-use Rattle.bintree.specs.declared.count.Walked.{Walked}
-use Rattle.bintree.specs.declared.count.Walked.the-variants.{Past, Nowhere}
+use Rattle.bintree.specs.declared.walk.Walked.{Walked}
+use Rattle.bintree.specs.declared.walk.Walked.the-variants.{Past, Nowhere}
 use Rattle.bintree.specs.declared.place.Traced.{Traced}
 use Rattle.bintree.specs.declared.place.Traced.the-variants.{Led, Lost}
 use Rattle.bintree.specs.Shape.{Shape, leaf, halved, openSymbol, symbolOf, size}
@@ -91,13 +91,13 @@ unfolding traced
 led p q k m path x w = rw (w .is, w .after, w .starts, w .long)
 
 -- the laws of `all`: the whole tree is its part at the empty path
-module _ (p n q v : ℕ) (x : Reading) (r : Walked) (e : r ≡ walked p n x) (f : r ≡ Past q v) where
+module _ (p q : ℕ) (x : Reading) (r : Walked) (e : r ≡ walked p x) (f : r ≡ Past q) where
   pub all-ordered : p ≤ q
-  all-ordered = omega (arith, passed p n q v x (sym f ∙ e) .after)
+  all-ordered = omega (arith, passed p q x (sym f ∙ e) .after)
 
   pub all-past : Led q p (q - p) ≡ traced p x []
   all-past =
-      let w = passed p n q v x (sym f ∙ e) in
+      let w = passed p q x (sym f ∙ e) in
       led p q p (q - p) [] x (record {
         shape =
             w .shape;
@@ -108,8 +108,8 @@ module _ (p n q v : ℕ) (x : Reading) (r : Walked) (e : r ≡ walked p n x) (f 
             (arith, w .after, ap size (part-empty (w .shape)));
       })
 
-pub all-nowhere : (p n : ℕ) (x : Reading) (r : Walked) → r ≡ walked p n x → r ≡ Nowhere → Lost ≡ traced p x []
-all-nowhere p n x r e f = traced-none p [] (nowhere-none p n x (sym f ∙ e))
+pub all-nowhere : (p : ℕ) (x : Reading) (r : Walked) → r ≡ walked p x → r ≡ Nowhere → Lost ≡ traced p x []
+all-nowhere p x r e f = traced-none p [] (nowhere-none p x (sym f ∙ e))
 
 pub ruleset all-laws = (needs, all-ordered, all-past, all-nowhere)
 
@@ -171,27 +171,27 @@ module _ (s path : List ℕ) (n p i : ℕ) where
         (r : Traced) → r ≡ traced (p + 1) (readAt s (n - 1) (p + 1)) (drop (i + 1) path) → r ≡ Lost → Lost ≡ traced p (readAt s n p) (drop i path)
     trace-low-lost r f g = traced-none p (drop i path) (low-missing s n p e deep (lost-none (p + 1) (drop (i + 1) path) (readAt s (n - 1) (p + 1)) (sym g ∙ f)))
 
-    pub trace-low-nowhere : (r : Walked) → r ≡ walked (p + 1) (n - 1) (readAt s (n - 1) (p + 1)) → r ≡ Nowhere → Lost ≡ traced p (readAt s n p) (drop i path)
-    trace-low-nowhere r f g = traced-none p (drop i path) (low-missing s n p e deep (nowhere-none (p + 1) (n - 1) (readAt s (n - 1) (p + 1)) (sym g ∙ f)))
+    pub trace-low-nowhere : (r : Walked) → r ≡ walked (p + 1) (readAt s (n - 1) (p + 1)) → r ≡ Nowhere → Lost ≡ traced p (readAt s n p) (drop i path)
+    trace-low-nowhere r f g = traced-none p (drop i path) (low-missing s n p e deep (nowhere-none (p + 1) (readAt s (n - 1) (p + 1)) (sym g ∙ f)))
 
     -- the path leads into the low part, where it was followed, and the high part was walked over
     module _
         (q k m : ℕ) (r₁ : Traced) (r₂ : Walked) (f : r₁ ≡ traced (p + 1) (readAt s (n - 1) (p + 1)) (drop (i + 1) path))
-        (g : r₁ ≡ Led q k m) (j : r₂ ≡ walked q (n - 1) (readAt s (n - 1) q)) where
+        (g : r₁ ≡ Led q k m) (j : r₂ ≡ walked q (readAt s (n - 1) q)) where
       low-followed : Followed (p + 1) q k m (drop (i + 1) path) (readAt s (n - 1) (p + 1))
       low-followed = followed (p + 1) q k m (drop (i + 1) path) (readAt s (n - 1) (p + 1)) (sym g ∙ f)
 
       pub trace-high-nowhere : r₂ ≡ Nowhere → Lost ≡ traced p (readAt s n p) (drop i path)
       trace-high-nowhere h =
           let w = low-followed in
-          let gone = nowhere-none q (n - 1) (readAt s (n - 1) q) (sym h ∙ j) in
+          let gone = nowhere-none q (readAt s (n - 1) q) (sym h ∙ j) in
           traced-none p (drop i path) (high-missing s n p e deep (w .shape) (w .is) (ap (readAt s (n - 1)) (sym (w .after)) ∙ gone))
 
-      pub trace-lower : (t v : ℕ) → i < length path → getD path i 0 ≡ 0 → r₂ ≡ Past t v → Led t k m ≡ traced p (readAt s n p) (drop i path)
+      pub trace-lower : (t : ℕ) → i < length path → getD path i 0 ≡ 0 → r₂ ≡ Past t → Led t k m ≡ traced p (readAt s n p) (drop i path)
       unfolding size
-      trace-lower t v h z l =
+      trace-lower t h z l =
           let w = low-followed in
-          let y = passed q (n - 1) t v (readAt s (n - 1) q) (sym l ∙ j) in
+          let y = passed q t (readAt s (n - 1) q) (sym l ∙ j) in
           led p t k m (drop i path) (readAt s n p) (record {
             shape = halved (w .shape) (y .shape);
             is = both-read s n p e deep (w .shape) (y .shape) (w .is) (ap (readAt s (n - 1)) (sym (w .after)) ∙ y .is);
@@ -202,13 +202,13 @@ module _ (s path : List ℕ) (n p i : ℕ) where
 
     -- the path leads into the high part, where it was followed after the low part was walked over
     pub trace-upper :
-        (q v : ℕ) (r₁ : Walked) (r₂ : Traced) → i < length path → (getD path i 0 ≡ 0 → ⊥) → r₁ ≡ walked (p + 1) (n - 1) (readAt s (n - 1) (p + 1)) →
-        r₁ ≡ Past q v → r₂ ≡ traced q (readAt s (n - 1) q) (drop (i + 1) path) → r₂ ≡ traced p (readAt s n p) (drop i path)
+        (q : ℕ) (r₁ : Walked) (r₂ : Traced) → i < length path → (getD path i 0 ≡ 0 → ⊥) → r₁ ≡ walked (p + 1) (readAt s (n - 1) (p + 1)) →
+        r₁ ≡ Past q → r₂ ≡ traced q (readAt s (n - 1) q) (drop (i + 1) path) → r₂ ≡ traced p (readAt s n p) (drop i path)
     unfolding size
-    trace-upper q v r₁ r₂ h z f g j = go r₂ refl
+    trace-upper q r₁ r₂ h z f g j = go r₂ refl
       where
-        w : Passed (p + 1) (n - 1) q v (readAt s (n - 1) (p + 1))
-        w = passed (p + 1) (n - 1) q v (readAt s (n - 1) (p + 1)) (sym g ∙ f)
+        w : Passed (p + 1) q (readAt s (n - 1) (p + 1))
+        w = passed (p + 1) q (readAt s (n - 1) (p + 1)) (sym g ∙ f)
 
         at-high : readAt s (n - 1) (p + 1 + size (w .shape)) ≡ readAt s (n - 1) q
         at-high = ap (readAt s (n - 1)) (sym (w .after))

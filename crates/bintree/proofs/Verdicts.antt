@@ -16,8 +16,8 @@ use Rattle.bintree.specs.declared.Contact.{Contact}
 use Rattle.bintree.specs.declared.Verdict.the-variants.{Clear, Hit}
 use Rattle.bintree.specs.Shape.{Shape}
 use Rattle.bintree.specs.Reading.{read, expression}
-use Rattle.bintree.specs.Counts.{voxelsAt}
-use Rattle.bintree.specs.Verdicts.{windowLength, firstFrame, lastFrame, voxelsIn, isHit, verdict, refusedVerdict, doneVerdict, verdictAnswer}
+use Rattle.bintree.specs.Counts.{volume, voxelsAt}
+use Rattle.bintree.specs.Verdicts.{windowLength, firstFrame, lastFrame, voxelsIn, isHit, verdict, refusedNumbers, doneNumbers, numbersAnswer}
 use Rattle.bintree.proofs.Answers.{answer-last}
 
 -- both ends are in: a window of one frame has one, and its frames are first to last
@@ -225,10 +225,10 @@ one-hit u s c h =
     let f : w .0 .last ≡ c = omega (arith, v .last-from, v .last-to) in
     w .1 ∙ ap Hit (contact-eq (w .0) c c (voxelsAt u s c) e f (v .count ∙ one-sum c (voxelsAt u s)))
 
--- THEOREM: a well-formed expression's verdict over a window of its universe is its shape's
-pub verdict-accepted :
+-- THEOREM: a well-formed expression's numbers over a window of its universe are its shape's
+pub numbers-accepted :
     (u : Universe) (s : List ℕ) (first last : ℕ) (a : Shape) → universeRefusal u ≡ 0 → expression u s ≡ read a → windowRefusal u first last ≡ 0 →
-    verdictAnswer u s first last ≡ doneVerdict (verdict u a first last)
-unfolding verdictAnswer
-verdict-accepted u s first last a ok x w =
-    sym (answer-last u 0 (sym ok) refusedVerdict _ (doneVerdict (verdict u a first last)) s (windowRefusal u first last) a refl x (rw (w, x)))
+    numbersAnswer u s first last ≡ doneNumbers (volume u a) (verdict u a first last)
+unfolding numbersAnswer
+numbers-accepted u s first last a ok x w =
+    sym (answer-last u 0 (sym ok) refusedNumbers _ (doneNumbers (volume u a) (verdict u a first last)) s (windowRefusal u first last) a refl x (rw (w, x)))

@@ -1,161 +1,33 @@
--- What the walk of src/window.rt calls and carries: the bits of a block's frames by the levels left to it, a black block joined to a contact, the first frame
--- of a high half; then what holds of a block and of its halves, and what an answer says of the symbols. Each law takes its premises in the form that code
--- leaves them.
+-- What the walk of src/window.rt calls and carries: a black block joined to a contact; then what holds of a block and of its halves, and what an answer says of
+-- the symbols. Each law takes its premises in the form that code leaves them.
 use mathlib.Core.Path.{_≡_, refl, sym, ap, _∙_}
 use mathlib.Core.Bool.{cond}
-use mathlib.Core.List.{List}
-use Prim.Native.Nat.{ℕ, zero, suc, _+_, _-_, _*_, _%_, _^_, _≤_, _<_, min, max}
-use native.Mathlib.Nat.{mul-le-mul, eq-of-mul-eq-mul-left, le-refl, mod-eq-of-lt, pow-suc, sub-self, sub-zero}
-use native.Mathlib.Decide.{ℕ-discrete, decLe}
+use Prim.Native.Nat.{ℕ, suc, _+_, _-_, _*_, _%_, _^_, _≤_, _<_, min, max}
+use native.Mathlib.Nat.{mul-le-mul, eq-of-mul-eq-mul-left, le-refl, mod-eq-of-lt, pow-suc, sub-self}
+use native.Mathlib.Decide.{decLe}
 use native.Mathlib.Omega.{arith}
 use borrow.Author.Needs.{needs}
-use borrow.Author.Tests.{eq-eqb, ne-eqb, le-leb, lt-leb}
-use lib.Dec.{eqb, leb}
-use lib.ListN.{length, getD, set, length-set}
+use borrow.Author.Tests.{le-leb, lt-leb}
+use lib.Dec.{leb}
 use lib.Pow.{pow-pos, pow-mono, pow-add}
-use lib.Seq.{getD-set-same, getD-set-other}
 use Rattle.lemmas.specs.Sums.{product}
 use Rattle.lemmas.proofs.Machine.{shifted-one}
 use Rattle.universe.specs.declared.Universe.{Universe}
-use Rattle.universe.specs.Questions.{levelsAnswer, axesLeft}
-use Rattle.universe.specs.Universe.{universeRefusal, bitsAlong, levels, mostBits, mostLevels, longestSide, axisAt, frameAxis, frameCount, halvings, blockSide}
+use Rattle.universe.specs.Universe.{universeRefusal, levels, mostBits, mostLevels, longestSide, frameAxis, frameCount, blockSide}
 use Rattle.universe.proofs.Universes.{accepted, levels-few, side-few, voxels-left}
-use Rattle.universe.proofs.Universes.{halvings-first, halvings-here, halvings-kept, halvings-mono, halvings-most, halvings-all}
-use Rattle.universe.proofs.Questions.{levels-told, axes-left-at}
 use Rattle.bintree.specs.declared.Colour.the-variants.{Black}
 use Rattle.bintree.specs.declared.Contact.{Contact}
 use Rattle.bintree.specs.declared.window.Window.{Window}
+use Rattle.bintree.specs.declared.window.Watched.{Watched}
 use Rattle.bintree.specs.declared.window.Watched.the-variants.{Until, Nothing}
 use Rattle.bintree.specs.Shape.{Shape, leaf, halved, size}
 use Rattle.bintree.specs.Reading.{Reading, none, read}
-use Rattle.bintree.specs.Counts.{frames, voxelsEach}
+use Rattle.bintree.specs.Counts.{volumeFrom, volume, frames, voxelsEach}
 use Rattle.bintree.specs.Verdicts.{windowLength}
-use Rattle.bintree.specs.Windows.{withFrames, touched, contactFrom, frameBits, FrameTable, Carried, watched}
-use Rattle.bintree.proofs.Answers.{place-fits, place-room}
+use Rattle.bintree.specs.Windows.{noContact, withFrames, touched, contactFrom, frameBits, watched}
 use Rattle.bintree.proofs.Counts.{block-voxels}
 use Rattle.bintree.proofs.Owed.{bit-under}
-
--- ---- the bits of a block's frames, by the levels left to it: one more for each halving across the frame axis
-module _ (u : Universe) (ok : universeRefusal u ≡ 0) where
-  frame-axis : frameAxis u < u .axes
-  frame-axis = omega (arith, accepted u ok .some-axes)
-
-  pub bits-last : frameBits u 0 ≡ 0
-  unfolding frameBits
-  bits-last = let e : levels u - 0 ≡ levels u = omega arith in rw e (omega (arith, halvings-all u (frameAxis u) frame-axis))
-
-  module _ (n : ℕ) (h : n < levels u) where
-    level : ℕ
-    level = levels u - suc n
-
-    next : levels u - n ≡ suc level
-    unfolding level
-    next = omega arith
-
-    pub bits-across : axisAt u (levels u - suc n) ≡ frameAxis u → frameBits u (suc n) ≡ frameBits u n + 1
-    unfolding frameBits level
-    bits-across e =
-        let here : halvings u (suc level) (frameAxis u) ≡ suc (halvings u level (frameAxis u)) = rw e at (halvings-here u level) in
-        rw next (omega (arith, halvings-most u (suc level) (frameAxis u) frame-axis (omega arith)))
-
-    pub bits-along : (axisAt u (levels u - suc n) ≡ frameAxis u → ⊥) → frameBits u (suc n) ≡ frameBits u n
-    unfolding frameBits level
-    bits-along e = rw (next, halvings-kept u level (frameAxis u) e)
-
-    pub bits-grow : frameBits u n ≤ frameBits u (suc n)
-    unfolding frameBits
-    bits-grow = omega (arith, halvings-mono u (levels u - suc n) (levels u - n) (frameAxis u) (omega arith))
-
-    bits-once : frameBits u (suc n) ≤ suc (frameBits u n)
-    bits-once = go (ℕ-discrete (axisAt u (levels u - suc n)) (frameAxis u))
-      where
-        go : Dec (axisAt u (levels u - suc n) ≡ frameAxis u) → frameBits u (suc n) ≤ suc (frameBits u n)
-        go (yes e) = omega (arith, bits-across e)
-        go (no e) = omega (arith, bits-along e)
-
-  pub bits-left : (n : ℕ) → n ≤ levels u → frameBits u n ≤ n
-  bits-left zero h = omega (arith, bits-last)
-  bits-left (suc n) h = omega (arith, bits-left n (omega arith), bits-once n (omega arith))
-
-  pub bits-first : frameBits u (levels u) ≡ bitsAlong u (frameAxis u)
-  unfolding frameBits
-  bits-first = rw (sub-self (levels u), halvings-first u (frameAxis u), sub-zero (bitsAlong u (frameAxis u)))
-
--- the laws of `frame_halvings`
-module _ (u : Universe) (i : ℕ) where
-  pub frame-axes : universeRefusal u ≡ 0 → 1 ≤ u .axes
-  frame-axes ok = accepted u ok .some-axes
-
-  pub once-across : i ≡ u .axes - 1 → _≡_ {A = ℕ} 1 (cond (eqb i (frameAxis u)) 1 0)
-  once-across e = rw (eq-eqb i (frameAxis u) e)
-
-  pub never-along : (i ≡ u .axes - 1 → ⊥) → _≡_ {A = ℕ} 0 (cond (eqb i (frameAxis u)) 1 0)
-  never-along n = rw (ne-eqb i (frameAxis u) n)
-
-pub ruleset halving-laws = (needs, frame-axes, once-across, never-along)
-
--- ---- the laws of `frame_bits`: the table is right up to n levels left
-pub record Tabled (u : Universe) (table : List ℕ) (n : ℕ) : Type 0 where
-  pub few : n ≤ levels u
-  pub long : length table ≡ suc mostLevels
-  pub holds : (m : ℕ) → m ≤ n → getD table m 0 ≡ frameBits u m
-
-module _ (u : Universe) (ok : universeRefusal u ≡ 0) where
-  pub tabled-first : (table : List ℕ) → length table ≡ suc mostLevels → getD table 0 0 ≡ 0 → Tabled u table 0
-  tabled-first table e f =
-      record { few = omega arith; long = e; holds = λ m h. let z : m ≡ 0 = omega arith in rw z (f ∙ sym (bits-last u ok)) }
-
-  module _ (table axes : List ℕ) (n count : ℕ) (a : axes ≡ axesLeft u) (c : count ≡ levelsAnswer u) (w : Tabled u table n) where
-    its-levels : count ≡ levels u
-    its-levels = levels-told u refl ok c
-
-    module _ (h : n < count) where
-      level-there : n < levels u
-      level-there = omega (arith, its-levels)
-
-      most : n < mostLevels
-      most = omega (arith, level-there, levels-few u (accepted u ok))
-
-      pub table-place : n < suc mostLevels
-      table-place = omega (arith, most)
-
-      pub table-next : n + 1 < suc mostLevels
-      table-next = omega (arith, most)
-
-      pub table-next-room : (n + 1) * 8 < 2 ^ 64
-      table-next-room = omega (arith, most)
-
-      module _ (one : ℕ) (o : one ≡ cond (eqb (getD axes n 0) (frameAxis u)) 1 0) where
-        more : getD table n 0 + one ≡ frameBits u (suc n)
-        more = go (ℕ-discrete (axisAt u (levels u - suc n)) (frameAxis u))
-          where
-            axis : getD axes n 0 ≡ axisAt u (levels u - suc n)
-            axis = ap (λ l. getD l n 0) a ∙ axes-left-at u ok n level-there
-
-            go : Dec (axisAt u (levels u - suc n) ≡ frameAxis u) → getD table n 0 + one ≡ frameBits u (suc n)
-            go (yes e) =
-                rw (o, axis, eq-eqb (axisAt u (levels u - suc n)) (frameAxis u) e, w .holds n (omega arith)) (sym (bits-across u ok n level-there e))
-            go (no e) =
-                rw (o, axis, ne-eqb (axisAt u (levels u - suc n)) (frameAxis u) e, w .holds n (omega arith)) (omega (arith, bits-along u ok n level-there e))
-
-        pub table-fits : getD table n 0 + one < 2 ^ 64
-        table-fits = omega (arith, more, most, bits-left u ok (suc n) level-there)
-
-        pub tabled-next : Tabled u (set table (n + 1) (getD table n 0 + one)) (n + 1)
-        tabled-next =
-            record
-            { few = omega (arith, level-there); long = length-set table (n + 1) (getD table n 0 + one) ∙ w .long; holds = λ m k. at m k (ℕ-discrete m (n + 1)) }
-          where
-            at : (m : ℕ) → m ≤ n + 1 → Dec (m ≡ n + 1) → getD (set table (n + 1) (getD table n 0 + one)) m 0 ≡ frameBits u m
-            at m k (yes e) =
-                let s : n + 1 ≡ suc n = omega arith in
-                rw e (getD-set-same table (n + 1) (getD table n 0 + one) 0 (omega (arith, table-next, w .long)) ∙ rw s more)
-            at m k (no e) = getD-set-other table (n + 1) m (getD table n 0 + one) 0 e ∙ w .holds m (omega arith)
-
-    pub table-whole : count ≤ n → FrameTable u table
-    table-whole h = record { long = w .long; holds = λ m k. w .holds m (omega (arith, its-levels)) }
-
-pub ruleset table-laws = (needs, place-fits, place-room, tabled-first, table-place, table-next, table-next-room, table-fits, tabled-next, table-whole)
+use Rattle.bintree.proofs.Frames.{bits-left, bits-grow}
 
 -- ---- 2 to the bits of so few frames, as code makes it
 pub shifted : (bits : ℕ) → bits ≤ mostBits → (1 * 2 ^ bits) % 2 ^ 64 ≡ 2 ^ bits
@@ -230,30 +102,18 @@ touched-most k first last frame n each some = go (decLe from to)
         rw (le-leb from to h) (omega arith)
     go (no h) = rw (lt-leb from to (omega arith)) (omega arith)
 
--- the laws of `high_frame`
-module _ (frame bits below : ℕ) (less : below ≤ bits) (h : frame + 2 ^ bits ≤ longestSide) where
-  pub shift-fits : bits < 64
-  shift-fits = omega (arith, few-frames frame bits h)
-
-  pub shift-below-fits : below < 64
-  shift-below-fits = omega (arith, few-frames frame bits h)
-
-  pub shift-less : (1 * 2 ^ below) % 2 ^ 64 ≤ (1 * 2 ^ bits) % 2 ^ 64
-  shift-less = rw (shifted bits (few-frames frame bits h), shifted below (omega (arith, few-frames frame bits h))) (pow-mono less)
-
-  pub high-fits : frame + ((1 * 2 ^ bits) % 2 ^ 64 - (1 * 2 ^ below) % 2 ^ 64) < 2 ^ 64
-  high-fits = rw (shifted bits (few-frames frame bits h)) (omega arith)
-
-  pub high-is : frame + ((1 * 2 ^ bits) % 2 ^ 64 - (1 * 2 ^ below) % 2 ^ 64) ≡ frame + (2 ^ bits - 2 ^ below)
-  high-is = rw (shifted bits (few-frames frame bits h), shifted below (omega (arith, few-frames frame bits h)))
-
-pub ruleset high-laws = (needs, shift-fits, shift-below-fits, shift-less, high-fits, high-is)
-
 -- where the frames of a block's high half begin
 abbrev pub highFrame : ℕ → ℕ → ℕ → ℕ
 highFrame frame bits below = frame + (2 ^ bits - 2 ^ below)
 
--- what the walk carries: the lengths of a block by the levels left
+-- what the walk carries of a block: its levels left, its least frame, and the voxels that are counted before it or owed behind it
+pub record Carried (u : Universe) (left frame voxels : ℕ) : Type 0 where
+  pub accepts : universeRefusal u ≡ 0
+  pub few : left ≤ levels u
+  pub inside : frame + 2 ^ frameBits u left ≤ frameCount u
+  pub most : voxels + 2 ^ left ≤ 2 ^ levels u
+
+-- the lengths of a block by the levels left
 module _ (u : Universe) (left frame voxels : ℕ) (w : Carried u left frame voxels) where
   abbrev bits : ℕ
   bits = frameBits u left
@@ -275,6 +135,10 @@ module _ (u : Universe) (left frame voxels : ℕ) (w : Carried u left frame voxe
       let all : 2 ^ bits * 2 ^ (left - bits) ≡ product (u .axes) (blockSide u l) =
       sym (pow-add 2 bits (left - bits)) ∙ ap (λ (x : ℕ). 2 ^ x) split ∙ sym (voxels-left u some left l (omega (arith, w .few))) in
       eq-of-mul-eq-mul-left (2 ^ bits) (pow-pos bits) (2 ^ (left - bits)) (voxelsEach u l) (all ∙ sym (block-voxels u some l) ∙ rw frames-are)
+
+  pub black-volume : 2 ^ left ≡ volumeFrom u (levels u - left) (leaf Black)
+  unfolding volumeFrom
+  black-volume = sym (voxels-left u (accepted u (w .accepts) .some-axes) left (levels u - left) (omega (arith, w .few)))
 
   pub black-touches :
       (first last : ℕ) (k j : Contact) → j ≡ touched k first last frame (2 ^ bits) (2 ^ (left - bits)) →
@@ -332,6 +196,11 @@ module _ (u : Universe) (left frame voxels : ℕ) (w : Carried u left frame voxe
     pub high-inside : highFrame frame bits below + 2 ^ below ≤ frameCount u
     high-inside = omega (arith, w .inside, pow-mono below-less)
 
+    pub halves-volume :
+        (a b : Shape) → volumeFrom u (levels u - (left - 1)) a + volumeFrom u (levels u - (left - 1)) b ≡ volumeFrom u (levels u - left) (halved a b)
+    unfolding volumeFrom
+    halves-volume a b = rw next-level
+
     pub halves-contact :
         (first last : ℕ) (a b : Shape) (k j c : Contact) →
         j ≡ contactFrom u first last (levels u - (left - 1)) frame a k →
@@ -345,30 +214,48 @@ pub both-after : (p q t : ℕ) (a b : Shape) → q ≡ p + 1 + size a → t ≡ 
 unfolding size
 both-after p q t a b e f = omega arith
 
--- an answer from what is read, and what is read from an answer
-module _ (v : Window) (p left frame : ℕ) (k : Contact) where
-  pub watched-none : {x : Reading} → x ≡ none → Nothing ≡ watched v p left frame k x
-  unfolding watched
-  watched-none e = rw e
+-- the place after the tree that is read at p and stands for a block with `left` levels left; and the n voxels and the contact found before, with the tree's
+unfoldable pub seen : Window → ℕ → ℕ → ℕ → ℕ → Contact → Reading → Watched
+seen v p left frame n k none = Nothing
+seen v p left frame n k (read a) =
+    let u = v .universe in
+    Until (p + size a) (n + volumeFrom u (levels u - left) a) (contactFrom u (v .first) (v .last) (levels u - left) frame a k)
 
-  pub watched-read :
-      (q : ℕ) (j : Contact) (a : Shape) {x : Reading} → x ≡ read a → q ≡ p + size a →
-      j ≡ contactFrom (v .universe) (v .first) (v .last) (levels (v .universe) - left) frame a k → Until q j ≡ watched v p left frame k x
-  unfolding watched
-  watched-read q j a e f g = rw (e, f, g)
+module _ (v : Window) (p left frame n : ℕ) (k : Contact) where
+  pub seen-none : {x : Reading} → x ≡ none → Nothing ≡ seen v p left frame n k x
+  unfolding seen
+  seen-none e = rw e
 
-  pub nothing-none : (x : Reading) → Nothing ≡ watched v p left frame k x → x ≡ none
+  pub seen-read :
+      (q m : ℕ) (j : Contact) (a : Shape) {x : Reading} → x ≡ read a → q ≡ p + size a → m ≡ n + volumeFrom (v .universe) (levels (v .universe) - left) a →
+      j ≡ contactFrom (v .universe) (v .first) (v .last) (levels (v .universe) - left) frame a k → Until q m j ≡ seen v p left frame n k x
+  unfolding seen
+  seen-read q m j a e f g h = rw (e, f, g, h)
+
+-- of the whole universe it is what the walk tells
+pub seen-whole : (v : Window) (x : Reading) → seen v 0 (levels (v .universe)) 0 0 (noContact (v .first) (v .last)) x ≡ watched v x
+unfolding seen watched
+seen-whole v none = refl
+seen-whole v (read a) =
+    let p : 0 + size a ≡ size a = omega arith in
+    let n : 0 + volume (v .universe) a ≡ volume (v .universe) a = omega arith in
+    rw (sub-self (levels (v .universe)), p, n)
+
+-- what is read from an answer
+module _ (v : Window) where
+  pub nothing-none : (x : Reading) → Nothing ≡ watched v x → x ≡ none
   unfolding watched
   nothing-none none e = refl
   nothing-none (read a) e = let z : _≡_ {A = ℕ} 0 1 = cc in absurd (omega arith)
 
-  pub record Reached (q : ℕ) (j : Contact) (x : Reading) : Type 0 where
+  pub record Reached (q n : ℕ) (k : Contact) (x : Reading) : Type 0 where
     pub shape : Shape
     pub is : x ≡ read shape
-    pub after : q ≡ p + size shape
-    pub contact : j ≡ contactFrom (v .universe) (v .first) (v .last) (levels (v .universe) - left) frame shape k
+    pub after : q ≡ size shape
+    pub voxels : n ≡ volume (v .universe) shape
+    pub contact : k ≡ contactFrom (v .universe) (v .first) (v .last) 0 0 shape (noContact (v .first) (v .last))
 
-  pub reached : (q : ℕ) (j : Contact) (x : Reading) → Until q j ≡ watched v p left frame k x → Reached q j x
+  pub reached : (q n : ℕ) (k : Contact) (x : Reading) → Until q n k ≡ watched v x → Reached q n k x
   unfolding watched
-  reached q j none e = let z : _≡_ {A = ℕ} 0 1 = cc in absurd (omega arith)
-  reached q j (read a) e = record { shape = a; is = refl; after = (cc); contact = (cc) }
+  reached q n k none e = let z : _≡_ {A = ℕ} 0 1 = cc in absurd (omega arith)
+  reached q n k (read a) e = record { shape = a; is = refl; after = (cc); voxels = (cc); contact = (cc) }

@@ -1,18 +1,14 @@
--- Rules 4.8 and 5.2: black voxels of a shape, all of them (its volume) and those of one frame; and what the question
--- for the volume answers. A shape stands for a block of level l.
+-- Rules 4.8 and 5.2: black voxels of a shape, all of them (its volume) and those of one frame. A shape stands for a
+-- block of level l.
 use Prim.Native.Nat.{ℕ, suc, _+_}
 use mathlib.Core.Bool.{Bool, true, false}
-use mathlib.Core.List.{List}
 use lib.Dec.{eqb}
 use Rattle.lemmas.specs.Sums.{product}
 use Rattle.universe.specs.declared.Universe.{Universe}
 use Rattle.universe.specs.Universe.{axisAt, frameAxis, blockSide}
 use Rattle.universe.specs.Voxel.{halfAt}
 use Rattle.bintree.specs.declared.Colour.the-variants.{White, Black}
-use Rattle.bintree.specs.declared.Counted.{Counted}
 use Rattle.bintree.specs.Shape.{Shape, leaf, halved}
-use Rattle.bintree.specs.Reading.{expression}
-use Rattle.bintree.specs.Answers.{ofShape, unlessRefused, wellFormedRefusal}
 
 -- rule 4.8: a black block of level l counts the voxels in it, the product of its lengths
 unfoldable pub volumeFrom : Universe → ℕ → Shape → ℕ
@@ -22,17 +18,6 @@ volumeFrom u l (halved a b) = volumeFrom u (suc l) a + volumeFrom u (suc l) b
 
 abbrev pub volume : Universe → Shape → ℕ
 volume u s = volumeFrom u 0 s
-
--- the answer: a refusal and 0, or 0 and the black voxels of the expression
-abbrev pub refusedCount : ℕ → Counted
-refusedCount number = record { refusal = number; voxels = 0 }
-
-abbrev pub doneCount : ℕ → Counted
-doneCount voxels = record { refusal = 0; voxels = voxels }
-
-unfoldable pub volumeAnswer : Universe → List ℕ → Counted
-volumeAnswer u s =
-    unlessRefused (wellFormedRefusal u s) refusedCount (doneCount (ofShape (expression u s) 0 (volume u)))
 
 -- how many frames a block of level l has, and how many voxels each of them: its other lengths multiplied
 abbrev pub frames : Universe → ℕ → ℕ

@@ -1,5 +1,5 @@
 -- Rules 5.1, 5.2 and 5.4: over a window, Clear where no voxel is black, else Hit with the first and the last frame that
--- has a black voxel, and how many there are; and what the question for the verdict answers.
+-- has a black voxel, and how many there are; and what the question for the numbers of an expression answers.
 use Prim.Native.Nat.{ℕ, zero, suc, _+_, _-_}
 use mathlib.Core.Bool.{Bool, cond}
 use mathlib.Core.List.{List, [], _∷_}
@@ -11,11 +11,11 @@ use Rattle.universe.specs.Universe.{universeRefusal}
 use Rattle.universe.specs.Voxel.{windowRefusal}
 use Rattle.bintree.specs.declared.Verdict.{Verdict}
 use Rattle.bintree.specs.declared.Verdict.the-variants.{Clear, Hit}
-use Rattle.bintree.specs.declared.VerdictAnswer.{VerdictAnswer}
+use Rattle.bintree.specs.declared.Numbers.{Numbers}
 use Rattle.bintree.specs.Shape.{Shape}
 use Rattle.bintree.specs.Reading.{expression, expressionRefusal}
 use Rattle.bintree.specs.Answers.{ofShape, unlessRefused}
-use Rattle.bintree.specs.Counts.{voxelsAt}
+use Rattle.bintree.specs.Counts.{volume, voxelsAt}
 
 -- rule 5.1: how many frames a window holds, both its ends in it
 abbrev pub windowLength : ℕ → ℕ → ℕ
@@ -49,17 +49,18 @@ verdict u s first last =
     }))
     Clear
 
--- the answer, 9 after 7: a refusal and Clear, or 0 and the verdict of the expression over the window
-abbrev pub refusedVerdict : ℕ → VerdictAnswer
-refusedVerdict number = record { refusal = number; verdict = Clear }
+-- the answer, 9 after 7: a refusal with volume 0 and Clear, or 0 with the volume of the whole expression and its
+-- verdict over the window
+abbrev pub refusedNumbers : ℕ → Numbers
+refusedNumbers number = record { refusal = number; volume = 0; verdict = Clear }
 
-abbrev pub doneVerdict : Verdict → VerdictAnswer
-doneVerdict v = record { refusal = 0; verdict = v }
+abbrev pub doneNumbers : ℕ → Verdict → Numbers
+doneNumbers voxels v = record { refusal = 0; volume = voxels; verdict = v }
 
 abbrev pub windowChecks : Universe → List ℕ → ℕ → ℕ → List ℕ
 windowChecks u s first last = universeRefusal u ∷ expressionRefusal u s ∷ windowRefusal u first last ∷ []
 
-unfoldable pub verdictAnswer : Universe → List ℕ → ℕ → ℕ → VerdictAnswer
-verdictAnswer u s first last =
-    unlessRefused (firstRefusal (windowChecks u s first last)) refusedVerdict
-    (doneVerdict (ofShape (expression u s) Clear (λ a. verdict u a first last)))
+unfoldable pub numbersAnswer : Universe → List ℕ → ℕ → ℕ → Numbers
+numbersAnswer u s first last =
+    unlessRefused (firstRefusal (windowChecks u s first last)) refusedNumbers
+    (ofShape (expression u s) (doneNumbers 0 Clear) (λ a. doneNumbers (volume u a) (verdict u a first last)))

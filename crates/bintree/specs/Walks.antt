@@ -1,6 +1,6 @@
--- How walks over an expression meet rules 4.4, 4.6 and 4.8 to 4.10: what each tells, from the shape that is read where
--- it begins. A block with n levels left has 2ⁿ voxels.
-use Prim.Native.Nat.{ℕ, _+_, _-_, _^_}
+-- How walks over an expression meet rules 4.4, 4.6, 4.9 and 4.10: what each tells, from the shape that is read where it
+-- begins.
+use Prim.Native.Nat.{ℕ, _+_}
 use mathlib.Core.Path.{_≡_}
 use mathlib.Core.Bool.{Bool, false, cond}
 use mathlib.Core.List.{List}
@@ -13,8 +13,8 @@ use Rattle.bintree.specs.declared.Colour.{Colour}
 use Rattle.bintree.specs.declared.Colour.the-variants.{White, Black}
 use Rattle.bintree.specs.declared.Coloured.{Coloured}
 use Rattle.bintree.specs.declared.Placed.{Placed}
-use Rattle.bintree.specs.declared.count.Walked.{Walked}
-use Rattle.bintree.specs.declared.count.Walked.the-variants.{Past, Nowhere}
+use Rattle.bintree.specs.declared.walk.Walked.{Walked}
+use Rattle.bintree.specs.declared.walk.Walked.the-variants.{Past, Nowhere}
 use Rattle.bintree.specs.declared.lay.Laid.{Laid}
 use Rattle.bintree.specs.declared.lay.Laid.the-variants.{Done, Unread}
 use Rattle.bintree.specs.declared.place.Traced.{Traced}
@@ -25,16 +25,10 @@ use Rattle.bintree.specs.Merging.{merged}
 use Rattle.bintree.specs.Answers.{unlessRefused}
 use Rattle.bintree.specs.Parts.{part, partStart, pathRefusal, refusedPlace, donePlace, refusedColour, doneColour}
 
--- black voxels of a block with n levels left
-unfoldable pub voxelsBelow : ℕ → Shape → ℕ
-voxelsBelow n (leaf Black) = 2 ^ n
-voxelsBelow n (leaf White) = 0
-voxelsBelow n (halved a b) = voxelsBelow (n - 1) a + voxelsBelow (n - 1) b
-
--- the place after the tree that begins at p, and its black voxels
-unfoldable pub walked : ℕ → ℕ → Reading → Walked
-walked p n none = Nowhere
-walked p n (read a) = Past (p + size a) (voxelsBelow n a)
+-- the place after the tree that begins at p
+unfoldable pub walked : ℕ → Reading → Walked
+walked p none = Nowhere
+walked p (read a) = Past (p + size a)
 
 -- the colour that a symbol stands for
 abbrev pub symbolColour : ℕ → Colour

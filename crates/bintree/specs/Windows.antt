@@ -1,36 +1,28 @@
--- How one walk over an expression meets rule 5.2, and finds the contact of its shape with a window: block by block,
--- each black block joins its frames in the window. A contact with no black voxel yet has voxels 0 and the window's ends
--- the other way round, so that the first frames joined take their places.
-use Prim.Native.Nat.{ℕ, suc, _+_, _-_, _*_, _^_, _≤_, min, max}
+-- How one walk over an expression meets rule 5.4, and finds the volume of its shape and its contact with a window:
+-- block by block, each black block adds its voxels and joins its frames in the window. A contact with no black voxel
+-- yet has voxels 0 and the window's ends the other way round, so that the first frames joined take their places.
+use Prim.Native.Nat.{ℕ, suc, _+_, _-_, _*_, _^_, _≤_, _<_, min, max}
 use mathlib.Core.Path.{_≡_}
 use mathlib.Core.Bool.{cond}
 use mathlib.Core.List.{List}
 use lib.Dec.{eqb, leb}
 use lib.ListN.{length, getD}
 use Rattle.universe.specs.declared.Universe.{Universe}
-use Rattle.universe.specs.Universe.{
-  universeRefusal,
-  bitsAlong,
-  levels,
-  mostLevels,
-  frameAxis,
-  frameCount,
-  halvings,
-}
+use Rattle.universe.specs.Universe.{bitsAlong, levels, mostLevels, frameAxis, halvings}
 use Rattle.universe.specs.Voxel.{windowRefusal}
 use Rattle.bintree.specs.declared.Colour.the-variants.{White, Black}
 use Rattle.bintree.specs.declared.Contact.{Contact}
 use Rattle.bintree.specs.declared.Verdict.{Verdict}
 use Rattle.bintree.specs.declared.Verdict.the-variants.{Clear, Hit}
-use Rattle.bintree.specs.declared.VerdictAnswer.{VerdictAnswer}
+use Rattle.bintree.specs.declared.Numbers.{Numbers}
 use Rattle.bintree.specs.declared.window.Window.{Window}
 use Rattle.bintree.specs.declared.window.Watched.{Watched}
 use Rattle.bintree.specs.declared.window.Watched.the-variants.{Until, Nothing}
 use Rattle.bintree.specs.Shape.{Shape, leaf, halved, size}
 use Rattle.bintree.specs.Reading.{Reading, none, read}
 use Rattle.bintree.specs.Answers.{unlessRefused}
-use Rattle.bintree.specs.Counts.{frames, voxelsEach}
-use Rattle.bintree.specs.Verdicts.{windowLength, refusedVerdict, doneVerdict}
+use Rattle.bintree.specs.Counts.{volume, frames, voxelsEach}
+use Rattle.bintree.specs.Verdicts.{windowLength, refusedNumbers, doneNumbers}
 
 -- a contact with no black voxel yet
 abbrev pub noContact : ℕ → ℕ → Contact
@@ -61,28 +53,31 @@ contactFrom u first last l frame (halved a b) k =
 unfoldable pub frameBits : Universe → ℕ → ℕ
 frameBits u n = bitsAlong u (frameAxis u) - halvings u (levels u - n) (frameAxis u)
 
--- a table of them, by the levels left
+-- and the frames of a high half with n levels left begin later than its block's by as many as it has fewer
+abbrev pub laterFrames : Universe → ℕ → ℕ
+laterFrames u n = 2 ^ frameBits u (suc n) - 2 ^ frameBits u n
+
+-- tables of both, by the levels left
 pub record FrameTable (u : Universe) (table : List ℕ) : Type 0 where
   pub long : length table ≡ suc mostLevels
   pub holds : (n : ℕ) → n ≤ levels u → getD table n 0 ≡ frameBits u n
 
--- what the walk carries of a block: its levels left, its least frame, and the voxels counted before it
-pub record Carried (u : Universe) (left frame voxels : ℕ) : Type 0 where
-  pub accepts : universeRefusal u ≡ 0
-  pub few : left ≤ levels u
-  pub inside : frame + 2 ^ frameBits u left ≤ frameCount u
-  pub most : voxels + 2 ^ left ≤ 2 ^ levels u
+pub record LaterTable (u : Universe) (table : List ℕ) : Type 0 where
+  pub long : length table ≡ mostLevels
+  pub holds : (n : ℕ) → n < levels u → getD table n 0 ≡ laterFrames u n
 
--- the place after the tree that begins at p and has `left` levels, and the contact with it joined
-unfoldable pub watched : Window → ℕ → ℕ → ℕ → Contact → Reading → Watched
-watched w p left frame k none = Nothing
-watched w p left frame k (read a) =
-    Until (p + size a) (contactFrom (w .universe) (w .first) (w .last) (levels (w .universe) - left) frame a k)
+-- the place after the tree that the whole universe's expression is, its volume and its contact with the window
+unfoldable pub watched : Window → Reading → Watched
+watched w none = Nothing
+watched w (read a) =
+    let none-yet = noContact (w .first) (w .last) in
+    Until (size a) (volume (w .universe) a) (contactFrom (w .universe) (w .first) (w .last) 0 0 a none-yet)
 
 -- the verdict that a contact is
 abbrev pub verdictOf : Contact → Verdict
 verdictOf k = cond (eqb (k .voxels) 0) Clear (Hit k)
 
 -- the answer for a window of a well-formed expression
-unfoldable pub windowAnswer : Universe → ℕ → ℕ → Contact → VerdictAnswer
-windowAnswer u first last k = unlessRefused (windowRefusal u first last) refusedVerdict (doneVerdict (verdictOf k))
+unfoldable pub windowAnswer : Window → ℕ → Contact → Numbers
+windowAnswer w voxels k =
+    unlessRefused (windowRefusal (w .universe) (w .first) (w .last)) refusedNumbers (doneNumbers voxels (verdictOf k))

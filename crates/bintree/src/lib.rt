@@ -1,12 +1,10 @@
 // Expressions: what their symbols say.
-mod count;
 mod lay;
 mod place;
 mod voxel;
+mod walk;
 mod window;
 
-pub use count::volume;
-pub use count::well_formed;
 pub use lay::copy;
 pub use lay::is_alike;
 pub use lay::join_halves;
@@ -16,12 +14,12 @@ pub use place::part;
 pub use place::part_place;
 pub use place::part_refusal;
 pub use voxel::colour_at;
-pub use window::verdict_of;
+pub use walk::well_formed;
+pub use window::numbers_of;
 ghost use mathlib.Core.Path.{_≡_};
 ghost use Rattle.bintree.specs.Answers.{refusedWriting, shortWriting, doneWriting};
-ghost use Rattle.bintree.specs.Counts.{refusedCount, doneCount};
 ghost use Rattle.bintree.specs.Parts.{refusedColour, doneColour, refusedPlace, donePlace};
-ghost use Rattle.bintree.specs.Verdicts.{refusedVerdict, doneVerdict};
+ghost use Rattle.bintree.specs.Verdicts.{refusedNumbers, doneNumbers};
 
 // The two colours of a voxel.
 pub enum Colour {
@@ -82,32 +80,6 @@ impl Written {
     }
 }
 
-// What `volume` answers: a refusal and 0, or 0 and the black voxels.
-pub struct Counted {
-    pub refusal: u64,
-    pub voxels: u64,
-}
-
-impl Counted {
-    pub(crate) fn refused(number: u64) -> Counted
-        ensures { λ r. ⌜ r ≡ refusedCount number ⌝ }
-    {
-        Counted {
-            refusal: number,
-            voxels: 0,
-        }
-    }
-
-    pub(crate) fn done(voxels: u64) -> Counted
-        ensures { λ r. ⌜ r ≡ doneCount voxels ⌝ }
-    {
-        Counted {
-            refusal: 0,
-            voxels: voxels,
-        }
-    }
-}
-
 // What `colour_at` answers: a refusal and White, or 0 and the colour.
 pub struct Coloured {
     pub refusal: u64,
@@ -163,27 +135,31 @@ impl Placed {
     }
 }
 
-// What `verdict_of` answers: a refusal and Clear, or 0 and the verdict.
-pub struct VerdictAnswer {
+// What `numbers_of` answers: a refusal, 0 and Clear, or 0, the black voxels of the whole universe and the verdict over
+// the window.
+pub struct Numbers {
     pub refusal: u64,
+    pub volume: u64,
     pub verdict: Verdict,
 }
 
-impl VerdictAnswer {
-    pub(crate) fn refused(number: u64) -> VerdictAnswer
-        ensures { λ r. ⌜ r ≡ refusedVerdict number ⌝ }
+impl Numbers {
+    pub(crate) fn refused(number: u64) -> Numbers
+        ensures { λ r. ⌜ r ≡ refusedNumbers number ⌝ }
     {
-        VerdictAnswer {
+        Numbers {
             refusal: number,
+            volume: 0,
             verdict: Verdict::Clear,
         }
     }
 
-    pub(crate) fn done(verdict: Verdict) -> VerdictAnswer
-        ensures { λ r. ⌜ r ≡ doneVerdict verdict ⌝ }
+    pub(crate) fn done(volume: u64, verdict: Verdict) -> Numbers
+        ensures { λ r. ⌜ r ≡ doneNumbers volume verdict ⌝ }
     {
-        VerdictAnswer {
+        Numbers {
             refusal: 0,
+            volume: volume,
             verdict: verdict,
         }
     }

@@ -9,8 +9,8 @@ ghost use Rattle.bintree.specs.Reading.{readAt};
 ghost use Rattle.bintree.specs.Parts.{pathRefusal, partRefusal, placeAnswer, partAnswer, partPointer};
 ghost use Rattle.bintree.specs.Walks.{traced, pathAnswer};
 use crate::Placed;
-use crate::count::Walked;
-use crate::count::walk;
+use crate::walk::Walked;
+use crate::walk::walk;
 use universe::Universe;
 use universe::refusals;
 
@@ -45,7 +45,7 @@ fn all(expression: &[u8], at: usize, left: u64) -> Traced
     ensures { λ r. ⌜ r ≡ traced at (readAt (now (expression .entry)) left at) [] ⌝ }
 {
     match walk(expression, at, left) {
-        Walked::Past(end, _) => Traced::Led(end, at, end - at),
+        Walked::Past(end) => Traced::Led(end, at, end - at),
         Walked::Nowhere => Traced::Lost,
     }
 }
@@ -70,14 +70,14 @@ pub(crate) fn trace(expression: &[u8], at: usize, left: u64, path: &[u8], step: 
     if path[step] == 0 {
         match trace(expression, at + 1, left - 1, path, step + 1) {
             Traced::Led(middle, start, length) => match walk(expression, middle, left - 1) {
-                Walked::Past(end, _) => Traced::Led(end, start, length),
+                Walked::Past(end) => Traced::Led(end, start, length),
                 Walked::Nowhere => Traced::Lost,
             },
             Traced::Lost => Traced::Lost,
         }
     } else {
         match walk(expression, at + 1, left - 1) {
-            Walked::Past(middle, _) => trace(expression, middle, left - 1, path, step + 1),
+            Walked::Past(middle) => trace(expression, middle, left - 1, path, step + 1),
             Walked::Nowhere => Traced::Lost,
         }
     }

@@ -20,8 +20,8 @@ use Rattle.bintree.specs.Reading.{readLeaf, withHigh, readHalves, readAt, exact
 use Rattle.bintree.specs.Answers.{doneWriting, writtenAnswer, writtenBuffer}
 use Rattle.bintree.specs.Merging.{join, merged, mergeAnswer, mergeBuffer}
 use Rattle.bintree.specs.Parts.{part, colourAt, colourAnswer}
-use Rattle.bintree.specs.Counts.{volumeFrom, volumeAnswer, voxelsFrom}
-use Rattle.bintree.specs.Verdicts.{firstFrame, lastFrame, voxelsIn, verdict}
+use Rattle.bintree.specs.Counts.{volumeFrom, voxelsFrom}
+use Rattle.bintree.specs.Verdicts.{firstFrame, lastFrame, voxelsIn, verdict, numbersAnswer}
 use Rattle.bintree.proofs.Answers.{written-all}
 use Rattle.csg.specs.Halfspace.{withinLimits, rowsRefusal, centreValue, colourAtCentre, least, greatest, markOver}
 use Rattle.csg.specs.Surfaces.{Surfaces}
@@ -42,7 +42,7 @@ unfolding
     round rounds universeRefusal bitsAlong levels order axisAt halvings blocksAlong blockSide
     voxelRefusal windowRefusal pathFrom blocksAt innerBlocksAt levelCount room roomAnswer
     symbols size readLeaf withHigh readHalves readAt exactly expression expressionRefusal writtenAnswer writtenBuffer join merged mergeAnswer mergeBuffer
-    part colourAt colourAnswer volumeFrom volumeAnswer voxelsFrom firstFrame lastFrame voxelsIn verdict
+    part colourAt colourAnswer volumeFrom voxelsFrom firstFrame lastFrame voxelsIn verdict numbersAnswer
     withinLimits rowsRefusal centreValue colourAtCentre least greatest markOver plain reversal
     meaning step finish run parse treeRefusal treeOf halfspaceWords
     unionMark intersectionMark unionColour intersectionColour surfaceMark surfaceColour sideMark sideColour plainMark plainColour examine

@@ -1,3 +1,4 @@
--- The theorem.
+-- The theorems.
 pub mod Cases
 pub mod CutFromItself
+pub mod Numbers

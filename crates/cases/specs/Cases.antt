@@ -15,14 +15,13 @@ use Rattle.universe.specs.Room.{roomAnswer}
 use Rattle.bintree.specs.declared.Colour.{Colour}
 use Rattle.bintree.specs.declared.Colour.the-variants.{White, Black}
 use Rattle.bintree.specs.declared.Coloured.{Coloured}
-use Rattle.bintree.specs.declared.Counted.{Counted}
 use Rattle.bintree.specs.declared.Verdict.{Verdict}
 use Rattle.bintree.specs.declared.Verdict.the-variants.{Clear, Hit}
 use Rattle.bintree.specs.declared.Written.{Written}
 use Rattle.bintree.specs.Answers.{wellFormedRefusal, doneWriting}
 use Rattle.bintree.specs.Merging.{mergeAnswer, mergeBuffer}
 use Rattle.bintree.specs.Parts.{colourAnswer, doneColour}
-use Rattle.bintree.specs.Counts.{volumeAnswer, doneCount}
+use Rattle.bintree.specs.Verdicts.{numbersAnswer}
 use Rattle.csg.specs.Halfspace.{rowAt, centreValue}
 use Rattle.csg.specs.Surfaces.{Surfaces, surfacesOf, named}
 use Rattle.csg.specs.Words.{treeRefusal, treeOf, halfspaceWords}
@@ -112,7 +111,6 @@ pub data Value : Type 0 where
   value : ℤ → Value
   colour : Colour → Value
   room : RoomAnswer → Value
-  count : Counted → Value
   coloured : Coloured → Value
   written : Written → List ℕ → Value
   judged : Clearance → List ℕ → Value
@@ -147,6 +145,10 @@ expressionOf s =
     take
     (rawOfOneAnswer square (s .surfaces) (s .words) (roomOf s) .length)
     (rawOfOneBuffer square (s .surfaces) (s .words) (roomOf s))
+
+-- its volume, which the question for its numbers answers over any window
+abbrev pub volumeOf : Scene → ℕ
+volumeOf s = numbersAnswer square (expressionOf s) 0 3 .volume
 
 -- the colour of a scene's tree at a voxel's centre, and that of its raw expression at the voxel
 abbrev pub treeAt : Scene → List ℕ → Value
@@ -204,13 +206,13 @@ closed =
     (number (oneTreeRefusal square (slanted .surfaces) (slanted .words)) is number 0)
     ∷ (rawOf slanted is writes 15 "(((W(BWW(B((BWB" 8)
     ∷ (mergedOf slanted is writes 15 "(((W(BWW(B((BWB" 8)
-    ∷ (count (volumeAnswer square (expressionOf slanted)) is count (doneCount 8))
+    ∷ (number (volumeOf slanted) is number 8)
     ∷ (room (roomAnswer square (halfspaceWords (slanted .words))) is room (doneRoom 23))
     -- 2
     ∷ (number (oneTreeRefusal square (triangle .surfaces) (triangle .words)) is number 0)
     ∷ (rawOf triangle is writes 11 "(W(W((BB(BW" 20)
     ∷ (mergedOf triangle is writes 9 "(W(W(B(BW" 22)
-    ∷ (count (volumeAnswer square (expressionOf triangle)) is count (doneCount 3))
+    ∷ (number (volumeOf triangle) is number 3)
     -- 3
     ∷ (value (centreValue square (rowAt (triangle .surfaces .rows) 2) (3 ∷ 2 ∷ 0 ∷ 0 ∷ [])) is value (pos 0))
     ∷ (treeAt triangle (3 ∷ 2 ∷ 0 ∷ 0 ∷ []) is colour Black)

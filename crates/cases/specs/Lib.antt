@@ -1,3 +1,4 @@
 -- Worked cases of the definitions that the contracts cite.
 pub mod Cases
 pub mod CutFromItself
+pub mod Numbers

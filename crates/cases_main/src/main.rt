@@ -57,10 +57,7 @@ fn two_trees(label: &[u8], rows: &[i64], first: &[u16], second: &[u16], room: &m
     written(label, answer, room);
 }
 
-fn verdict(answer: Clearance, room: &[u8]) {
-    let refusal = answer.refusal;
-    let length = answer.length;
-    let verdict = answer.verdict;
+fn say_verdict(verdict: Verdict) {
     match verdict {
         Verdict::Clear => say(b"clear"),
         Verdict::Hit(contact) => {
@@ -72,6 +69,13 @@ fn verdict(answer: Clearance, room: &[u8]) {
             number(contact.voxels);
         }
     }
+}
+
+fn verdict(answer: Clearance, room: &[u8]) {
+    let refusal = answer.refusal;
+    let length = answer.length;
+    let verdict = answer.verdict;
+    say_verdict(verdict);
     show(b"", refusal, length, room);
 }
 
@@ -118,16 +122,26 @@ fn window(first_frame: u64, last_frame: u64, room: &mut [u8]) {
     verdict(answer, room);
 }
 
-// The questions over an expression: well-formed, volume, the colour at (3, 2) and (3, 3), merged, the part for a path.
+// The numbers of an expression over a window: refusal, volume, verdict.
+fn numbers(universe: Universe, expression: &[u8], first_frame: u64, last_frame: u64) {
+    let answer = bintree::numbers_of(universe, expression, first_frame, last_frame);
+    let refusal = answer.refusal;
+    let volume = answer.volume;
+    let verdict = answer.verdict;
+    say(b" numbers ");
+    number(refusal);
+    say(b" ");
+    number(volume);
+    say(b" ");
+    say_verdict(verdict);
+}
+
+// The questions over an expression: well-formed, numbers, the colour at (3, 2) and (3, 3), merged, the part for a path.
 fn questions(expression: &[u8], path: &[u8]) {
     say(expression);
     say(b" well-formed ");
     number(bintree::well_formed(square(), expression));
-    let counted = bintree::volume(square(), expression);
-    say(b" volume ");
-    number(counted.refusal);
-    say(b" ");
-    number(counted.voxels);
+    numbers(square(), expression, 0, 3);
     colour(expression, [3, 2, 0, 0]);
     colour(expression, [3, 3, 0, 0]);
     colour(expression, [4, 0, 0, 0]);
@@ -401,6 +415,48 @@ fn readings() {
     window(0, 4, &mut [b'.'; 12]);
 }
 
+// The numbers of an expression over a window, on a line.
+fn over(axes: u64, bits: u64, expression: &[u8], first_frame: u64, last_frame: u64) {
+    number(axes);
+    say(b" ");
+    number(bits);
+    say(b" ");
+    say(expression);
+    say(b" over ");
+    number(first_frame);
+    say(b" ");
+    number(last_frame);
+    let universe = Universe {
+        axes: axes,
+        bits: bits,
+    };
+    numbers(universe, expression, first_frame, last_frame);
+    say(b"\n");
+}
+
+// Windows at both ends, one with no black voxel, no bits, one axis, the most voxels; then 2, 7 and 9, each with another
+// fault behind it.
+fn windows() {
+    over(2, 2, b"(((W(BWW(B((BWB", 0, 3);
+    over(2, 2, b"(((W(BWW(B((BWB", 0, 0);
+    over(2, 2, b"(((W(BWW(B((BWB", 3, 3);
+    over(2, 2, b"(W(W((BB(BW", 3, 3);
+    over(2, 2, b"(W(W(B(BW", 2, 2);
+    over(2, 2, b"(W(W(B(BW", 0, 1);
+    over(4, 0, b"B", 0, 0);
+    over(4, 0, b"W", 0, 0);
+    over(1, 2, b"((WBB", 0, 3);
+    over(1, 2, b"((WBB", 0, 0);
+    over(4, 10, b"B", 1_023, 1_023);
+    over(5, 2, b"(B", 2, 1);
+    over(2, 11, b"B", 2, 1);
+    over(2, 2, b"(B", 2, 1);
+    over(2, 2, b"BB", 0, 4);
+    over(2, 2, b"B", 2, 1);
+    over(2, 2, b"B", 0, 4);
+    over(4, 0, b"B", 0, 1);
+}
+
 // Refusals of what is converted, in their order.
 fn refusals() {
     one_tree(b"a number short of fives", &[0, 0, 0, 0], &[9]);
@@ -509,6 +565,7 @@ fn cuts() {
 fn main() {
     conversions();
     readings();
+    windows();
     readers();
     refusals();
     cuts();

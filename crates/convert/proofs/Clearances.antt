@@ -11,14 +11,14 @@ use lib.ListN.{length, take, drop, length-append}
 use lib.Seq.{take-append-seam}
 use Rattle.universe.specs.declared.Universe.{Universe}
 use Rattle.universe.specs.Voxel.{windowRefusal}
-use Rattle.bintree.specs.declared.VerdictAnswer.{VerdictAnswer}
+use Rattle.bintree.specs.declared.Numbers.{Numbers}
 use Rattle.bintree.specs.declared.Written.{Written}
 use Rattle.bintree.specs.declared.Verdict.{Verdict}
 use Rattle.bintree.specs.Reading.{read, expression}
-use Rattle.bintree.specs.Verdicts.{verdict, verdictAnswer}
+use Rattle.bintree.specs.Verdicts.{verdict, numbersAnswer}
 use Rattle.bintree.specs.Answers.{refusedWriting}
 use Rattle.bintree.proofs.Answers.{written-short, written-all, left-all}
-use Rattle.bintree.proofs.Verdicts.{verdict-accepted}
+use Rattle.bintree.proofs.Verdicts.{numbers-accepted}
 use Rattle.csg.specs.Surfaces.{Surfaces}
 use Rattle.csg.specs.Raw.{raw}
 use Rattle.demands.proofs.Colours.{raw-shows}
@@ -98,12 +98,12 @@ module _ (u : Universe) (surfaces : Surfaces) (first second : List ℕ) (from to
           front : take (w .length) now ≡ written
           front = rw (long, now-is) (take-append-seam written (drop (length written) out))
 
-          pub judged-front : Ready u surfaces first second → {judged : VerdictAnswer} → judged ≡ verdictAnswer u (take (w .length) now) from to →
+          pub judged-front : Ready u surfaces first second → {judged : Numbers} → judged ≡ numbersAnswer u (take (w .length) now) from to →
               {answer : Clearance} → answer ≡ doneClearance (judged .verdict) (w .length) → Answered answer now
           unfolding rawOfTwo
           judged-front r {judged} j k =
               let t = treesOf surfaces first second in
               let reads : expression u written ≡ read (raw u surfaces t) = raw-shows u (r .accepted-universe) surfaces t .reads in
-              let a = verdict-accepted u written from to (raw u surfaces t) (r .accepted-universe) reads (sym q ∙ y) in
-              let d : judged .verdict ≡ v = ap (λ (x : VerdictAnswer). x .verdict) (j ∙ ap (λ (s : List ℕ). verdictAnswer u s from to) front ∙ a) in
+              let a = numbers-accepted u written from to (raw u surfaces t) (r .accepted-universe) reads (sym q ∙ y) in
+              let d : judged .verdict ≡ v = ap (λ (x : Numbers). x .verdict) (j ∙ ap (λ (s : List ℕ). numbersAnswer u s from to) front ∙ a) in
               answered accepted (k ∙ rw (eq-eqb (w .refusal) 0 done) (ap (λ (x : Verdict). doneClearance x (w .length)) d))

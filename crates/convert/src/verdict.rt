@@ -74,7 +74,7 @@ pub fn verdict_of_two(
         return Clearance::refused(written.refusal, written.length);
     }
     let length = written.length as usize;
-    let judged = bintree::verdict_of(universe, &out[..length], first_frame, last_frame);
+    let judged = bintree::numbers_of(universe, &out[..length], first_frame, last_frame);
     let verdict = judged.verdict;
     Clearance::done(verdict, written.length)
 }

@@ -11,7 +11,7 @@ use Rattle.bintree.specs.declared.Colour.the-variants.{White, Black}
 use Rattle.bintree.specs.declared.Verdict.{Verdict}
 use Rattle.bintree.specs.declared.Verdict.the-variants.{Clear, Hit}
 use Rattle.bintree.specs.declared.Written.{Written}
-use Rattle.bintree.specs.declared.Counted.{Counted}
+use Rattle.bintree.specs.declared.Numbers.{Numbers}
 use Rattle.bintree.specs.declared.Coloured.{Coloured}
 use Rattle.bintree.specs.declared.Placed.{Placed}
 use Rattle.convert.specs.declared.verdict.Clearance.{Clearance}
@@ -20,6 +20,7 @@ use Rattle.files.specs.declared.ShapeRead.{ShapeRead}
 use Rattle.standin.specs.declared.Triple.{Triple}
 use Rattle.standin.specs.declared.Solid.the-variants.{Box, Cut}
 use Rattle.standin.specs.declared.Proxy.{Proxy}
+use Rattle.export.specs.declared.verdicts.Told.{Told}
 
 -- a universe of its two numbers
 abbrev pub universeOf : ℕ → ℕ → Universe
@@ -33,18 +34,20 @@ roomArray a = a .symbols ∷ []
 abbrev pub lengthArray : Written → List ℕ
 lengthArray a = a .length ∷ []
 
--- rule 11.2: a verdict as hit (0 Clear, 1 Hit), first frame, last frame and voxels; then the raw expression's length,
--- needed on 6
-abbrev pub verdictArray : Verdict → ℕ → List ℕ
-verdictArray Clear length = 0 ∷ 0 ∷ 0 ∷ 0 ∷ length ∷ []
-verdictArray (Hit contact) length = 1 ∷ contact .first ∷ contact .last ∷ contact .voxels ∷ length ∷ []
+-- rule 11.2: a verdict as hit (0 Clear, 1 Hit), first frame, last frame and voxels
+abbrev pub toldOf : Verdict → Told
+toldOf Clear = record { hit = 0; first = 0; last = 0; voxels = 0 }
+toldOf (Hit contact) = record { hit = 1; first = contact .first; last = contact .last; voxels = contact .voxels }
 
+-- then the raw expression's length, needed on 6
 abbrev pub clearanceArray : Clearance → List ℕ
-clearanceArray a = verdictArray (a .verdict) (a .length)
+clearanceArray a =
+    let told = toldOf (a .verdict) in told .hit ∷ told .first ∷ told .last ∷ told .voxels ∷ a .length ∷ []
 
--- the black voxels
-abbrev pub voxelsArray : Counted → List ℕ
-voxelsArray a = a .voxels ∷ []
+-- the volume, and a verdict behind it
+abbrev pub numbersArray : Numbers → List ℕ
+numbersArray a =
+    let told = toldOf (a .verdict) in a .volume ∷ told .hit ∷ told .first ∷ told .last ∷ told .voxels ∷ []
 
 -- rule 11.2: a colour as a number
 abbrev pub colourNumber : Colour → ℕ

@@ -4,10 +4,9 @@ use universe::Universe;
 ghost use mathlib.Core.Path.{_≡_};
 ghost use mathlib.Core.List.{[], _∷_};
 ghost use Rattle.bintree.specs.Answers.{wellFormedRefusal};
-ghost use Rattle.bintree.specs.Counts.{volumeAnswer};
 ghost use Rattle.bintree.specs.Parts.{colourAnswer, placeAnswer};
 ghost use Rattle.bintree.specs.Merging.{mergeAnswer, mergeBuffer};
-ghost use Rattle.export.specs.Arrays.{universeOf, lengthArray, voxelsArray};
+ghost use Rattle.export.specs.Arrays.{universeOf, lengthArray};
 ghost use Rattle.export.specs.Arrays.{colourNumber, colourArray, placeArray};
 
 // Whether an expression is well-formed.
@@ -20,27 +19,6 @@ pub extern "C" fn durbizhan_well_formed(axes: u64, bits: u64, expression: &[u8])
         bits: bits,
     };
     bintree::well_formed(universe, expression)
-}
-
-// The black voxels of an expression.
-#[no_mangle]
-pub extern "C" fn durbizhan_volume(
-    axes: u64,
-    bits: u64,
-    expression: &[u8],
-    answer: &mut [u64; 1],
-) -> u64
-    ensures { λ r. ⌜ r ≡ volumeAnswer (universeOf axes bits) (now (expression .entry)) .refusal ⌝ }
-    ensures { λ _. let u = universeOf axes bits in
-        ⌜ now (answer .exit) ≡ voxelsArray (volumeAnswer u (now (expression .entry))) ⌝ }
-{
-    let universe = Universe {
-        axes: axes,
-        bits: bits,
-    };
-    let counted = bintree::volume(universe, expression);
-    *answer = [counted.voxels];
-    counted.refusal
 }
 
 // 0 for WHITE and 1 for BLACK.

@@ -1,18 +1,36 @@
-// The verdict of two trees over a window of frames.
+// Verdicts over a window of frames: of two trees, and of a lent expression with its volume.
 use bintree::Verdict;
 use universe::Universe;
 ghost use mathlib.Core.Path.{_≡_};
 ghost use Rattle.csg.specs.Surfaces.{surfacesOf};
+ghost use Rattle.bintree.specs.Verdicts.{numbersAnswer};
 ghost use Rattle.convert.specs.Answers.{clearanceAnswer, clearanceBuffer};
-ghost use Rattle.export.specs.Arrays.{universeOf, verdictArray, clearanceArray};
+ghost use Rattle.export.specs.Arrays.{universeOf, toldOf, clearanceArray, numbersArray};
 
-// A verdict as five numbers: hit (0 Clear, 1 Hit), first frame, last frame, voxels, and the length beside it.
-fn numbers_of(verdict: Verdict, length: u64) -> [u64; 5]
-    ensures { λ r. ⌜ r ≡ verdictArray verdict length ⌝ }
+// A verdict as four numbers: hit (0 Clear, 1 Hit), first frame, last frame, voxels.
+pub(crate) struct Told {
+    pub(crate) hit: u64,
+    pub(crate) first: u64,
+    pub(crate) last: u64,
+    pub(crate) voxels: u64,
+}
+
+fn told_of(verdict: Verdict) -> Told
+    ensures { λ r. ⌜ r ≡ toldOf verdict ⌝ }
 {
     match verdict {
-        Verdict::Clear => [0, 0, 0, 0, length],
-        Verdict::Hit(contact) => [1, contact.first, contact.last, contact.voxels, length],
+        Verdict::Clear => Told {
+            hit: 0,
+            first: 0,
+            last: 0,
+            voxels: 0,
+        },
+        Verdict::Hit(contact) => Told {
+            hit: 1,
+            first: contact.first,
+            last: contact.last,
+            voxels: contact.voxels,
+        },
     }
 }
 
@@ -64,6 +82,35 @@ pub extern "C" fn durbizhan_verdict(
         out,
     );
     let verdict = found.verdict;
-    *answer = numbers_of(verdict, found.length);
+    let told = told_of(verdict);
+    *answer = [told.hit, told.first, told.last, told.voxels, found.length];
     found.refusal
+}
+
+// The black voxels of an expression in the whole universe, and whether it has one in a window of frames, both ends in.
+// Read the number first: a refused verdict is Clear.
+#[no_mangle]
+pub extern "C" fn durbizhan_numbers(
+    axes: u64,
+    bits: u64,
+    expression: &[u8],
+    first_frame: u64,
+    last_frame: u64,
+    answer: &mut [u64; 5],
+) -> u64
+    ensures { λ r. let u = universeOf axes bits in
+        ⌜ r ≡ numbersAnswer u (now (expression .entry)) «first_frame» «last_frame» .refusal ⌝ }
+    ensures { λ _. let u = universeOf axes bits in
+        let numbers = numbersAnswer u (now (expression .entry)) «first_frame» «last_frame» in
+        ⌜ now (answer .exit) ≡ numbersArray numbers ⌝ }
+{
+    let universe = Universe {
+        axes: axes,
+        bits: bits,
+    };
+    let numbers = bintree::numbers_of(universe, expression, first_frame, last_frame);
+    let verdict = numbers.verdict;
+    let told = told_of(verdict);
+    *answer = [numbers.volume, told.hit, told.first, told.last, told.voxels];
+    numbers.refusal
 }

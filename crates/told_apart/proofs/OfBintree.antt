@@ -8,14 +8,11 @@ use Rattle.told_apart.proofs.Alike.{same, one, two, behind}
 pub bintree-well-formed : (w : World) → TellsApart w bintree.well_formed.ended bintree.well_formed.clauses
 bintree-well-formed w _ _ = ((tt, refl), λ _ _ _ _ _. one w (λ p q. (same p q, refl)))
 
-pub bintree-volume : (w : World) → TellsApart w bintree.volume.ended bintree.volume.clauses
-bintree-volume w _ _ = ((tt, refl), λ _ _ _ _ _. one w (λ p q. (same p q, refl)))
-
 pub bintree-colour-at : (w : World) → TellsApart w bintree.colour_at.ended bintree.colour_at.clauses
 bintree-colour-at w _ _ = ((tt, refl), λ _ _ _ _ _. one w (λ p q. (same p q, refl)))
 
-pub bintree-verdict-of : (w : World) → TellsApart w bintree.verdict_of.ended bintree.verdict_of.clauses
-bintree-verdict-of w _ _ = ((tt, refl), λ _ _ _ _ _. one w (λ p q. (same p q, refl)))
+pub bintree-numbers-of : (w : World) → TellsApart w bintree.numbers_of.ended bintree.numbers_of.clauses
+bintree-numbers-of w _ _ = ((tt, refl), λ _ _ _ _ _. one w (λ p q. (same p q, refl)))
 
 pub bintree-part-refusal : (w : World) → TellsApart w bintree.part_refusal.ended bintree.part_refusal.clauses
 bintree-part-refusal w _ _ = ((tt, refl), λ _ _ _ _ _. one w (λ p q. (same p q, refl)))

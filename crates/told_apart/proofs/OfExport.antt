@@ -26,6 +26,9 @@ durbizhan-merged-two w _ _ = ((tt, refl), λ _ _ _ _ _. three w (λ p q. (same (
 pub durbizhan-verdict : (w : World) → TellsApart w export.verdicts.durbizhan_verdict.ended export.verdicts.durbizhan_verdict.clauses
 durbizhan-verdict w _ _ = ((tt, refl), λ _ _ _ _ _. three w (λ p q. (same (p .0) (q .0), λ i. behind 7 (same (p .2) (q .2) i, (same (p .1) (q .1) i, tt)))))
 
+pub durbizhan-numbers : (w : World) → TellsApart w export.verdicts.durbizhan_numbers.ended export.verdicts.durbizhan_numbers.clauses
+durbizhan-numbers w _ _ = ((tt, refl), λ _ _ _ _ _. two w (λ p q. (same (p .0) (q .0), λ i. behind 5 (same (p .1) (q .1) i, tt))))
+
 pub durbizhan-scene : (w : World) → TellsApart w export.documents.durbizhan_scene.ended export.documents.durbizhan_scene.clauses
 durbizhan-scene w _ _ = (
   (tt, refl),
@@ -48,9 +51,6 @@ durbizhan-shape-write w _ _ = ((tt, refl), λ _ _ _ _ _. three w (λ p q. (same 
 
 pub durbizhan-well-formed : (w : World) → TellsApart w export.expressions.durbizhan_well_formed.ended export.expressions.durbizhan_well_formed.clauses
 durbizhan-well-formed w _ _ = ((tt, refl), λ _ _ _ _ _. one w (λ p q. (same p q, refl)))
-
-pub durbizhan-volume : (w : World) → TellsApart w export.expressions.durbizhan_volume.ended export.expressions.durbizhan_volume.clauses
-durbizhan-volume w _ _ = ((tt, refl), λ _ _ _ _ _. two w (λ p q. (same (p .0) (q .0), λ i. behind 3 (same (p .1) (q .1) i, tt))))
 
 pub durbizhan-colour : (w : World) → TellsApart w export.expressions.durbizhan_colour.ended export.expressions.durbizhan_colour.clauses
 durbizhan-colour w _ _ = ((tt, refl), λ _ _ _ _ _. two w (λ p q. (same (p .0) (q .0), λ i. behind 7 (same (p .1) (q .1) i, tt))))

@@ -28,8 +28,9 @@ mod c {
             out_count: usize, answer: *mut [u64; 5],
         ) -> u64;
         pub fn durbizhan_well_formed(axes: u64, bits: u64, expression: *const u8, expression_count: usize) -> u64;
-        pub fn durbizhan_volume(
-            axes: u64, bits: u64, expression: *const u8, expression_count: usize, answer: *mut [u64; 1],
+        pub fn durbizhan_numbers(
+            axes: u64, bits: u64, expression: *const u8, expression_count: usize, first_frame: u64, last_frame: u64,
+            answer: *mut [u64; 5],
         ) -> u64;
         pub fn durbizhan_colour(
             axes: u64, bits: u64, expression: *const u8, expression_count: usize, x: u64, y: u64, z: u64, t: u64,
@@ -134,8 +135,14 @@ pub fn well_formed(axes: u64, bits: u64, expression: &[u8]) -> u64 {
     unsafe { c::durbizhan_well_formed(axes, bits, expression.as_ptr(), expression.len()) }
 }
 
-pub fn volume(axes: u64, bits: u64, expression: &[u8], answer: &mut [u64; 1]) -> u64 {
-    unsafe { c::durbizhan_volume(axes, bits, expression.as_ptr(), expression.len(), answer) }
+pub fn numbers(
+    axes: u64, bits: u64, expression: &[u8], first_frame: u64, last_frame: u64, answer: &mut [u64; 5],
+) -> u64 {
+    unsafe {
+        c::durbizhan_numbers(
+            axes, bits, expression.as_ptr(), expression.len(), first_frame, last_frame, answer,
+        )
+    }
 }
 
 #[allow(clippy::too_many_arguments)]

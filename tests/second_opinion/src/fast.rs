@@ -349,12 +349,19 @@ pub fn plain_verdict_fast(run: &Run, first: u64, last: u64, out: &mut [u8]) -> R
     })
 }
 
-/// The volume of an expression, or nothing where it is not well-formed.
-pub fn plain_volume_fast(axes: u64, bits: u64, expression: &[u8]) -> Option<u64> {
+/// The volume of an expression with its verdict: volume, hit, first frame, last frame, voxels; or nothing where it is
+/// not well-formed. The window must be one that is taken.
+pub fn plain_numbers_fast(axes: u64, bits: u64, expression: &[u8], first: u64, last: u64) -> Option<[u64; 5]> {
     let levels = (axes * bits) as usize;
-    // the levels of the high halves still to come
-    let mut coming = [0usize; 64];
-    let (mut top, mut level, mut volume) = (0usize, 0usize, 0u64);
+    // the bits of the frames of a block, by its level
+    let mut wide = [0u64; 64];
+    for (level, wide) in wide[..=levels].iter_mut().enumerate() {
+        *wide = bits - level as u64 / axes;
+    }
+    // the levels of the high halves still to come, and their first frames
+    let mut coming = [(0usize, 0u64); 64];
+    let (mut top, mut level, mut frame) = (0usize, 0usize, 0u64);
+    let (mut volume, mut low, mut high, mut voxels) = (0u64, u64::MAX, 0u64, 0u64);
     let mut symbols = expression.iter();
     loop {
         match symbols.next()? {
@@ -363,18 +370,29 @@ pub fn plain_volume_fast(axes: u64, bits: u64, expression: &[u8]) -> Option<u64>
                     return None;
                 }
                 level += 1;
-                coming[top & 63] = level;
+                coming[top & 63] = (level, frame + (1 << wide[level - 1]) - (1 << wide[level]));
                 top += 1;
                 continue;
             }
-            b'B' => volume += 1 << (levels - level),
+            b'B' => {
+                let left = (levels - level) as u64;
+                volume += 1 << left;
+                let from = frame.max(first);
+                let end = (frame + (1 << wide[level])).min(last + 1);
+                if from < end {
+                    low = low.min(from);
+                    high = high.max(end - 1);
+                    voxels += (end - from) << (left - wide[level]);
+                }
+            }
             b'W' => {}
             _ => return None,
         }
         if top == 0 {
-            return symbols.next().is_none().then_some(volume);
+            let numbers = if voxels == 0 { [volume, 0, 0, 0, 0] } else { [volume, 1, low, high, voxels] };
+            return symbols.next().is_none().then_some(numbers);
         }
         top -= 1;
-        level = coming[top & 63];
+        (level, frame) = coming[top & 63];
     }
 }

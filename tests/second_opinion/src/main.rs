@@ -234,6 +234,7 @@ fn run_text(case: &generate::RunCase, trees: usize, lent: usize) -> String {
 type RawOne = fn(u64, u64, &[i64], &[u16], &mut [u8], &mut [u64; 1]) -> u64;
 type RawTwo = fn(u64, u64, &[i64], &[u16], &[u16], &mut [u8], &mut [u64; 1]) -> u64;
 type Verdict = fn(u64, u64, &[i64], &[u16], &[u16], u64, u64, &mut [u8], &mut [u64; 5]) -> u64;
+type Numbers = fn(u64, u64, &[u8], u64, u64, &mut [u64; 5]) -> u64;
 type Colour = fn(u64, u64, &[u8], u64, u64, u64, u64, &mut [u64; 1]) -> u64;
 type Part = fn(u64, u64, &[u8], &[u8], &mut [u64; 2]) -> u64;
 type Rewrite = fn(u64, u64, &[u8], &mut [u8], &mut [u64; 1]) -> u64;
@@ -371,14 +372,15 @@ fn well_formed(line: &mut Line, random: &mut Random) {
     line.compare(plain, library, || reading_text(&case));
 }
 
-fn volumes(line: &mut Line, random: &mut Random) {
+fn numbers(line: &mut Line, random: &mut Random) {
     let case = generate::reading(random);
-    let [plain, library] = [plain::volume as fn(u64, u64, &[u8], &mut [u64; 1]) -> u64, face::volume].map(|ask| {
-        let mut answer = longs(1);
-        let number = ask(case.axes, case.bits, &case.expression, answer.array());
+    let (first, last) = generate::window(random, Universe::checked(case.axes, case.bits).map_or(3, |_| case.bits));
+    let [plain, library] = [plain::numbers as Numbers, face::numbers].map(|ask| {
+        let mut answer = longs(5);
+        let number = ask(case.axes, case.bits, &case.expression, first, last, answer.array());
         Outcome { number, contents: vec![("answer", answer.into())] }
     });
-    line.compare(plain, library, || reading_text(&case));
+    line.compare(plain, library, || format!("{}\nwindow = {first} {last}", reading_text(&case)));
 }
 
 fn colours(line: &mut Line, random: &mut Random) {
@@ -539,7 +541,7 @@ const ENTRY_POINTS: &[(&str, u64, &[u64], Compare)] = &[
     ("durbizhan_merged_two, long", 1, &[NO_ROOM], |l, r| long_two_trees(l, r, plain::merged_two, face::merged_two)),
     ("durbizhan_verdict, long", 1, &[OUTSIDE, NO_ROOM], long_verdicts),
     ("durbizhan_well_formed", 2000, READING, well_formed),
-    ("durbizhan_volume", 1000, READING, volumes),
+    ("durbizhan_numbers", 2000, READING_AT, numbers),
     ("durbizhan_colour", 2000, READING_AT, colours),
     ("durbizhan_part", 2000, READING_AT, parts),
     ("durbizhan_merge", 2000, MERGING, |l, r| rewriting(l, r, plain::merge, face::merge)),

@@ -529,13 +529,29 @@ pub type Hit = Option<(u64, u64, u64)>;
 
 /// The verdict voxel by voxel: each voxel of the window is judged at its centre, in both trees.
 pub fn verdict_by_voxels(universe: &Universe, one: &Tree, two: &Tree, first: u64, last: u64) -> Hit {
+    hit_where(universe, first, last, |voxel| {
+        black_at_centre(one, universe.axes, voxel) && black_at_centre(two, universe.axes, voxel)
+    })
+}
+
+/// The verdict of an expression: voxel by voxel where the universe is small, otherwise block by block.
+pub fn verdict_of(universe: &Universe, shape: &Shape, first: u64, last: u64) -> Hit {
+    if universe.is_small() {
+        hit_where(universe, first, last, |voxel| black_at(universe, shape, voxel))
+    } else {
+        verdict_by_blocks(universe, shape, first, last)
+    }
+}
+
+/// The voxels of the window that are black.
+fn hit_where(universe: &Universe, first: u64, last: u64, black: impl Fn(&[i64; 4]) -> bool) -> Hit {
     let mut hit: Hit = None;
     for voxel in universe.all_voxels() {
         let frame = voxel[universe.axes - 1] as u64;
         if frame < first || frame > last {
             continue;
         }
-        if black_at_centre(one, universe.axes, &voxel) && black_at_centre(two, universe.axes, &voxel) {
+        if black(&voxel) {
             hit = Some(match hit {
                 None => (frame, frame, 1),
                 Some((low, high, count)) => (low.min(frame), high.max(frame), count + 1),
@@ -848,9 +864,19 @@ pub fn well_formed(axes: u64, bits: u64, expression: &[u8]) -> u64 {
     }
 }
 
-pub fn volume(axes: u64, bits: u64, expression: &[u8], answer: &mut [u64; 1]) -> u64 {
-    let result = expression_checked(axes, bits, expression);
-    plain_answer(result.map(|(universe, shape)| [volume_of(&universe, &shape)]), answer)
+pub fn numbers(
+    axes: u64, bits: u64, expression: &[u8], first_frame: u64, last_frame: u64, answer: &mut [u64; 5],
+) -> u64 {
+    let judge = || -> Answer<[u64; 5]> {
+        let (universe, shape) = expression_checked(axes, bits, expression)?;
+        window_checked(&universe, first_frame, last_frame)?;
+        let volume = volume_of(&universe, &shape);
+        Ok(match verdict_of(&universe, &shape, first_frame, last_frame) {
+            None => [volume, 0, 0, 0, 0],
+            Some((from, to, voxels)) => [volume, 1, from, to, voxels],
+        })
+    };
+    plain_answer(judge(), answer)
 }
 
 #[allow(clippy::too_many_arguments)]

@@ -1,7 +1,7 @@
 //! The worked cases (crates/cases), and the plain implementation held to itself: slow against fast, merging by
 //! replacement against merging on the way, blocks against voxels.
 
-use crate::fast::{plain_merged_fast, plain_raw_fast, plain_verdict_fast, plain_volume_fast, Run};
+use crate::fast::{plain_merged_fast, plain_numbers_fast, plain_raw_fast, plain_verdict_fast, Run};
 use crate::generate::{self, Random};
 use crate::plain::*;
 use Tree::Halfspace;
@@ -17,12 +17,14 @@ fn raw_text(bits: u64, rows: &[i64], words: &[u16]) -> (String, String, u64) {
     let raw = String::from_utf8(out[..length[0] as usize].to_vec()).unwrap();
     assert_eq!(merged_one(2, bits, rows, words, &mut out, &mut length), ACCEPTED);
     let merged = String::from_utf8(out[..length[0] as usize].to_vec()).unwrap();
-    let mut black = [0];
-    assert_eq!(volume(2, bits, raw.as_bytes(), &mut black), ACCEPTED);
-    let mut again = [0];
-    assert_eq!(volume(2, bits, merged.as_bytes(), &mut again), ACCEPTED);
-    assert_eq!(black, again);
-    (raw, merged, black[0])
+    let black = numbers_over(2, bits, raw.as_bytes(), 0, 0);
+    assert_eq!(numbers_over(2, bits, merged.as_bytes(), 0, 0), black);
+    (raw, merged, black.1[0])
+}
+
+fn numbers_over(axes: u64, bits: u64, expression: &[u8], first: u64, last: u64) -> (u64, [u64; 5]) {
+    let mut answer = [9; 5];
+    (numbers(axes, bits, expression, first, last, &mut answer), answer)
 }
 
 fn room_at(axes: u64, bits: u64, leaves: u64) -> u64 {
@@ -123,11 +125,37 @@ fn case_9() {
     assert_eq!((merge(2, 2, b"(BB", &mut out, &mut answer), out, answer), (ACCEPTED, [b'B', 7, 7], [1]));
     for bad in [&b""[..], b"(B", b"BB"] {
         assert_eq!(well_formed(2, 2, bad), BAD_EXPRESSION);
-        assert_eq!(volume(2, 2, bad, &mut answer), BAD_EXPRESSION);
+        assert_eq!(numbers_over(2, 2, bad, 0, 3), (BAD_EXPRESSION, [0; 5]));
         assert_eq!(merge(2, 2, bad, &mut out, &mut answer), BAD_EXPRESSION);
     }
     assert_eq!(well_formed(2, 0, b"(BB"), BAD_EXPRESSION);
     assert_eq!(merged_by_replacement(b"((BB(BB"), b"B");
+}
+
+#[test]
+fn numbers_of_windows() {
+    // cases 1 and 2, and both ends of the window
+    let one = b"(((W(BWW(B((BWB";
+    assert_eq!(numbers_over(2, 2, one, 0, 3), (ACCEPTED, [8, 1, 0, 3, 8]));
+    assert_eq!(numbers_over(2, 2, one, 0, 0), (ACCEPTED, [8, 1, 0, 0, 3]));
+    assert_eq!(numbers_over(2, 2, one, 3, 3), (ACCEPTED, [8, 1, 3, 3, 1]));
+    for two in [&b"(W(W((BB(BW"[..], b"(W(W(B(BW"] {
+        assert_eq!(numbers_over(2, 2, two, 0, 3), (ACCEPTED, [3, 1, 2, 3, 3]));
+        assert_eq!(numbers_over(2, 2, two, 3, 3), (ACCEPTED, [3, 1, 3, 3, 1]));
+        // no black voxel in the window
+        assert_eq!(numbers_over(2, 2, two, 0, 1), (ACCEPTED, [3, 0, 0, 0, 0]));
+    }
+    // no bits, and one axis
+    assert_eq!(numbers_over(4, 0, b"B", 0, 0), (ACCEPTED, [1, 1, 0, 0, 1]));
+    assert_eq!(numbers_over(4, 0, b"W", 0, 0), (ACCEPTED, [0; 5]));
+    assert_eq!(numbers_over(1, 2, b"((WBB", 0, 3), (ACCEPTED, [3, 1, 1, 3, 3]));
+    assert_eq!(numbers_over(1, 2, b"((WBB", 0, 0), (ACCEPTED, [3, 0, 0, 0, 0]));
+    // a refusal before another one
+    assert_eq!(numbers_over(5, 2, b"(B", 0, 3), (BAD_UNIVERSE, [0; 5]));
+    assert_eq!(numbers_over(2, 11, b"B", 2, 1), (BAD_UNIVERSE, [0; 5]));
+    assert_eq!(numbers_over(2, 2, b"(B", 2, 1), (BAD_EXPRESSION, [0; 5]));
+    assert_eq!(numbers_over(2, 2, b"B", 2, 1), (OUTSIDE, [0; 5]));
+    assert_eq!(numbers_over(2, 2, b"B", 0, 4), (OUTSIDE, [0; 5]));
 }
 
 #[test]
@@ -314,11 +342,17 @@ fn slow_and_fast_agree() {
         }
         let volume = volume_of(&universe, &shape);
         assert_eq!(volume_by_blocks(&universe, &shape), volume);
-        assert_eq!(plain_volume_fast(axes, bits, &raw), Some(volume));
-        assert_eq!(plain_volume_fast(axes, bits, &merged), Some(volume));
+        let first = random.below(1 << bits);
+        let last = first + random.below((1 << bits) - first);
+        let hit = verdict_by_blocks(&universe, &shape, first, last);
+        assert_eq!(verdict_of(&universe, &shape, first, last), hit);
+        let fields = match hit {
+            None => [volume, 0, 0, 0, 0],
+            Some((from, to, count)) => [volume, 1, from, to, count],
+        };
+        assert_eq!(plain_numbers_fast(axes, bits, &raw, first, last), Some(fields));
+        assert_eq!(plain_numbers_fast(axes, bits, &merged, first, last), Some(fields));
         if trees.len() == 2 {
-            let first = random.below(1 << bits);
-            let last = first + random.below((1 << bits) - first);
             let hit = verdict_by_voxels(&universe, &read[0], &read[1], first, last);
             assert_eq!(verdict_by_blocks(&universe, &shape, first, last), hit);
             let fields = match hit {

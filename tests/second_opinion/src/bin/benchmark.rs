@@ -1,13 +1,13 @@
 //! benchmark: how long the library takes against the plain fast converter, on generated polyhedra. Both are
 //! compiled for this machine, both check what they are given, both answers are compared before anything is timed.
 //! The table is in Markdown; times are the best of several runs, in nanoseconds per block examined and word of
-//! the trees (for the volume: per symbol).
+//! the trees (for the numbers: per symbol).
 
 #[allow(dead_code)]
 #[path = "../face.rs"]
 mod face;
 
-use second_opinion::fast::{plain_merged_fast, plain_raw_fast, plain_verdict_fast, plain_volume_fast, Run};
+use second_opinion::fast::{plain_merged_fast, plain_numbers_fast, plain_raw_fast, plain_verdict_fast, Run};
 use second_opinion::generate::Random;
 use std::hint::black_box;
 use std::time::Instant;
@@ -253,20 +253,27 @@ fn merged(cases: &[Case], raws: &[Vec<u8>], merged: &[Vec<u8>], title: &str, exa
     table.end();
 }
 
-fn volume(cases: &[Case], expressions: &[Vec<u8>], title: &str) {
+/// The middle half of the frames.
+fn window(case: &Case) -> (u64, u64) {
+    let side = 1u64 << case.bits;
+    (side / 4, 3 * side / 4)
+}
+
+fn numbers(cases: &[Case], expressions: &[Vec<u8>], title: &str) {
     let mut table = Table::new(title);
     for (case, symbols) in cases.iter().zip(expressions) {
         if symbols.len() < 200 {
             continue;
         }
-        let black = plain_volume_fast(case.axes, case.bits, symbols);
+        let (from, to) = window(case);
+        let fields = plain_numbers_fast(case.axes, case.bits, symbols, from, to).expect("well-formed");
         let times = best(
             || {
-                let mut answer = [0];
-                let number = face::volume(case.axes, case.bits, black_box(symbols), &mut answer);
-                assert_eq!((number, Some(answer[0])), (0, black));
+                let mut answer = [0; 5];
+                let number = face::numbers(case.axes, case.bits, black_box(symbols), from, to, &mut answer);
+                assert_eq!((number, answer), (0, fields));
             },
-            || assert_eq!(plain_volume_fast(case.axes, case.bits, black_box(symbols)), black),
+            || assert_eq!(plain_numbers_fast(case.axes, case.bits, black_box(symbols), from, to), Some(fields)),
         );
         table.row(case, symbols.len(), 1, times);
     }
@@ -276,8 +283,7 @@ fn volume(cases: &[Case], expressions: &[Vec<u8>], title: &str) {
 fn verdict(cases: &[Case], raws: &[Vec<u8>], title: &str, exact: bool) {
     let mut table = Table::new(title);
     for (case, raw) in cases.iter().zip(raws) {
-        let side = 1u64 << case.bits;
-        let (from, to) = (side / 4, 3 * side / 4);
+        let (from, to) = window(case);
         let lent = if exact { raw.len() } else { checked(case).room() as usize };
         let (mut out, mut plain_out) = (vec![0; lent], vec![0; lent]);
         let fields = plain_verdict_fast(&checked(case), from, to, &mut plain_out).expect("it fits");
@@ -331,8 +337,8 @@ fn main() {
     raw(&cases, &raws, "Raw, room lent for exactly the symbols", true);
     merged(&cases, &raws, &short, "Merged, room lent at the formula's size", false);
     merged(&cases, &raws, &short, "Merged, room lent for exactly the symbols", true);
-    volume(&cases, &raws, "Volume of the raw expression (per symbol)");
-    volume(&cases, &short, "Volume of the merged expression (per symbol)");
+    numbers(&cases, &raws, "Numbers of the raw expression over the middle half of the frames (per symbol)");
+    numbers(&cases, &short, "Numbers of the merged expression over the middle half of the frames (per symbol)");
     verdict(&cases, &raws, "Verdict on the middle half of the frames, room lent at the formula's size", false);
     verdict(&cases, &raws, "Verdict on the middle half of the frames, room lent for exactly the symbols", true);
 }

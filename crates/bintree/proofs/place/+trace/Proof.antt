@@ -7,7 +7,7 @@ use borrow.Fn.PlainCycle.{Measures, is, falls, and}
 use Rattle.bintree.proofs.place.trace.Reads as trace
 use Rattle.bintree.proofs.place.trace.Kinds as trace-kinds
 use Rattle.bintree.proofs.place.+trace.Lts-trace as trace-lts
-use Rattle.bintree.proofs.count.walk.Reads as walk-reads
+use Rattle.bintree.proofs.walk.walk.Reads as walk-reads
 use Rattle.bintree.proofs.place.all.Reads as all-reads
 use Rattle.bintree.proofs.place.+trace.{statement}
 use Rattle.bintree.proofs.place.+trace.Tie.{close}

@@ -1,7 +1,7 @@
 -- `frame_bits` gives the bits of frames by the levels left. The loop's invariant: the table is right as far as it is made. Each answer is a law of
--- proofs/Watches.antt.
+-- proofs/Frames.antt.
 use Prim.Native.Nat.{_-_}
-use Rattle.bintree.proofs.Watches.{Tabled, table-laws}
+use Rattle.bintree.proofs.Frames.{Tabled, table-laws}
 use Rattle.bintree.proofs.window.frame_bits.Statement.{statement}
 use Rattle.bintree.proofs.window.frame_bits.Tie as tie
 

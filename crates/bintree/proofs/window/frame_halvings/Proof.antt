@@ -1,5 +1,5 @@
 -- `frame_halvings` compares an axis with the frame axis, the last one.
-use Rattle.bintree.proofs.Watches.{halving-laws}
+use Rattle.bintree.proofs.Frames.{halving-laws}
 use Rattle.bintree.proofs.window.frame_halvings.Statement.{statement}
 use Rattle.bintree.proofs.window.frame_halvings.Tie as tie
 

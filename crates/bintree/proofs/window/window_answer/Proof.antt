@@ -1,4 +1,4 @@
--- `window_answer` gives windowAnswer: 9 where the window is refused, else Clear or Hit by the contact's count.
+-- `window_answer` gives windowAnswer: 9 where the window is refused, else the volume and the contact's verdict.
 use Rattle.bintree.proofs.WindowAnswers.{window-laws}
 use Rattle.bintree.proofs.window.window_answer.Statement.{statement}
 use Rattle.bintree.proofs.window.window_answer.Tie as tie
@@ -11,6 +11,5 @@ window-answer-spec =
     (λ c κs. search window-laws)
     (λ c. search window-laws)
     (λ c κs. search window-laws)
-    (λ c. search window-laws)
     (λ c κs. search window-laws)
     (λ c. search window-laws))

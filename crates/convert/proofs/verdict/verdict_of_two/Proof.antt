@@ -26,16 +26,16 @@ returns-3 c =
     stopped-short _ _ _ _ _ _ _ (p .before .checked .ensures .0) (p .if1 .left)
     (k .before .window-refusal .ensures) (k .if2 .left) (w .written-of-two .ensures) (c .before .if3 .taken) (c .refused3 .ensures)
 
-slice-reshare-prefix-verdict-of : tie.Need-slice-reshare-prefix-verdict-of
-slice-reshare-prefix-verdict-of c =
+slice-reshare-prefix-numbers-of : tie.Need-slice-reshare-prefix-numbers-of
+slice-reshare-prefix-numbers-of c =
     let w = c .before .before .before .before in
     let k = w .before .before in
     let p = k .before .before in
     front-within _ _ _ _ _ _ _ (p .before .checked .ensures .0) (p .if1 .left)
     (k .before .window-refusal .ensures) (k .if2 .left) (w .written-of-two .ensures) (c .if3 .left)
 
-slice-aggregate-verdict-of : tie.Need-slice-aggregate-verdict-of
-slice-aggregate-verdict-of c =
+slice-aggregate-numbers-of : tie.Need-slice-aggregate-numbers-of
+slice-aggregate-numbers-of c =
     let w = c .before .before .before .before .before in
     let k = w .before .before in
     let p = k .before .before in
@@ -51,7 +51,7 @@ returns-4 c =
     let p = k .before .before in
     judged-front _ _ _ _ _ _ _ (p .before .checked .ensures .0) (p .if1 .left)
     (k .before .window-refusal .ensures) (k .if2 .left) (w .written-of-two .ensures) (d .before .before .if3 .left)
-    (p .before .checked .ensures .1 (p .if1 .left)) (d .verdict-of .ensures) (c .done .ensures)
+    (p .before .checked .ensures .1 (p .if1 .left)) (d .numbers-of .ensures) (c .done .ensures)
 
 pub verdict-of-two-spec : {M : Type 1} → statement M
 verdict-of-two-spec =
@@ -67,8 +67,8 @@ verdict-of-two-spec =
     (λ c κs. search needs)
     (λ c. search needs)
     returns-3
-    slice-reshare-prefix-verdict-of
-    slice-aggregate-verdict-of
+    slice-reshare-prefix-numbers-of
+    slice-aggregate-numbers-of
     (λ c κs. search needs)
     (λ c κs. search needs)
     (λ c. search needs)

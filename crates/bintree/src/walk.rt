@@ -1,4 +1,4 @@
-// How many black voxels an expression has, and whether it is well-formed: one walk tells both.
+// Where a tree ends, and whether an expression is well-formed: one walk tells both.
 ghost use mathlib.Core.Path.{_≡_};
 ghost use Prim.Native.Nat.{_≤_};
 ghost use lib.Count.{trailingZeros};
@@ -6,15 +6,13 @@ ghost use Rattle.universe.specs.Questions.{voxelsLeft};
 ghost use Rattle.universe.specs.Universe.{mostLevels};
 ghost use Rattle.bintree.specs.Reading.{readAt};
 ghost use Rattle.bintree.specs.Answers.{wellFormedRefusal};
-ghost use Rattle.bintree.specs.Counts.{volumeAnswer};
 ghost use Rattle.bintree.specs.Walks.{walked};
-use crate::Counted;
 use universe::Universe;
 use universe::refusals;
 
-// What a walk over one tree tells: the place after the tree and its black voxels, or that there is no tree.
+// What a walk over one tree tells: the place after the tree, or that there is no tree.
 pub(crate) enum Walked {
-    Past(usize, u64),
+    Past(usize),
     Nowhere,
 }
 
@@ -37,12 +35,11 @@ pub(crate) fn levels_of(owed: u64) -> u64
 // to come: one bit for each, at the levels left to it.
 pub(crate) fn walk(expression: &[u8], at: usize, left: u64) -> Walked
     requires { ⌜ left ≤ mostLevels ⌝ }
-    ensures { λ r. ⌜ r ≡ walked at left (readAt (now (expression .entry)) left at) ⌝ }
+    ensures { λ r. ⌜ r ≡ walked at (readAt (now (expression .entry)) left at) ⌝ }
 {
     let mut place = at;
     let mut levels = left;
     let mut owed: u64 = 0;
-    let mut voxels: u64 = 0;
     while place < expression.len() {
         let symbol = expression[place];
         place += 1;
@@ -53,13 +50,13 @@ pub(crate) fn walk(expression: &[u8], at: usize, left: u64) -> Walked
             levels -= 1;
             owed += voxels_of(levels);
         } else {
-            if symbol == b'B' {
-                voxels += voxels_of(levels);
-            } else if symbol != b'W' {
-                return Walked::Nowhere;
+            if symbol != b'B' {
+                if symbol != b'W' {
+                    return Walked::Nowhere;
+                }
             }
             if owed == 0 {
-                return Walked::Past(place, voxels);
+                return Walked::Past(place);
             }
             levels = levels_of(owed);
             owed -= voxels_of(levels);
@@ -68,30 +65,22 @@ pub(crate) fn walk(expression: &[u8], at: usize, left: u64) -> Walked
     Walked::Nowhere
 }
 
-// The black voxels of an expression.
-pub fn volume(universe: Universe, expression: &[u8]) -> Counted
-    ensures { λ r. ⌜ r ≡ volumeAnswer universe (now (expression .entry)) ⌝ }
-{
-    let refusal = universe.refusal();
-    if refusal != 0 {
-        return Counted::refused(refusal);
-    }
-    match walk(expression, 0, universe.levels()) {
-        Walked::Past(end, voxels) => {
-            if end == expression.len() {
-                Counted::done(voxels)
-            } else {
-                Counted::refused(refusals::BAD_EXPRESSION)
-            }
-        }
-        Walked::Nowhere => Counted::refused(refusals::BAD_EXPRESSION),
-    }
-}
-
 // 0 where an expression is well-formed, 2 where axes or bits are refused, else 7.
 pub fn well_formed(universe: Universe, expression: &[u8]) -> u64
     ensures { λ r. ⌜ r ≡ wellFormedRefusal universe (now (expression .entry)) ⌝ }
 {
-    let counted = volume(universe, expression);
-    counted.refusal
+    let refusal = universe.refusal();
+    if refusal != 0 {
+        return refusal;
+    }
+    match walk(expression, 0, universe.levels()) {
+        Walked::Past(end) => {
+            if end == expression.len() {
+                0
+            } else {
+                refusals::BAD_EXPRESSION
+            }
+        }
+        Walked::Nowhere => refusals::BAD_EXPRESSION,
+    }
 }
