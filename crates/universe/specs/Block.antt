@@ -47,7 +47,8 @@ placedAlong b i =
     (eqb (lowAlong b i % lengthAlong b i) 0 && ltb (lowAlong b i) (sideAlong (b .universe) i))
     (eqb (lowAlong b i) 0)
 
--- whether a block is given: `given-is` of proofs/Blocks.antt shows this test equal to `Given`
+-- whether a block is given: `is-given` and `given-is` of proofs/Blocks.antt show that, of blocks with four places, this
+-- test holds exactly of those in `Given`
 unfoldable pub isGiven : Block → Bool
 isGiven b =
     eqb (universeRefusal (b .universe)) 0
