@@ -39,9 +39,9 @@
 #define DURBIZHAN_BAD_TREE 4
 /* more than 255 words, or more than 32 shapes pending */
 #define DURBIZHAN_OVERFULL_TREE 5
-/* more symbols (of a file: bytes) than are lent; how many it takes is in the answer */
+/* more symbols (of a file: bytes, of a report: counts) than are lent; how many it takes is in the answer */
 #define DURBIZHAN_NO_ROOM 6
-/* expression not well-formed */
+/* expression not well-formed, or no list of up to 256 such */
 #define DURBIZHAN_BAD_EXPRESSION 7
 /* an expression for a shape file, or from one, that is not merged */
 #define DURBIZHAN_NOT_MERGED 8
@@ -112,6 +112,17 @@ uint64_t durbizhan_numbers(uint64_t axes, uint64_t bits,
                            const uint8_t *expression, size_t expression_count,
                            uint64_t first_frame, uint64_t last_frame,
                            uint64_t answer[5]);
+
+/* How much of each frame: expressions holds 0 to 256 expressions of one universe, one straight after another; each ends
+ * where its own tree ends, and nothing else may stand there (BAD_EXPRESSION). counts gets one count for each frame from
+ * first_frame to last_frame, both ends in, from its front on: the black voxels of that frame, summed over the list. It
+ * is set, not added to. answer: how many counts were set (the window's frames, needed on NO_ROOM), and their total.
+ * Refusals in this order: BAD_UNIVERSE, BAD_EXPRESSION, OUTSIDE, NO_ROOM. */
+uint64_t durbizhan_report(uint64_t axes, uint64_t bits,
+                          const uint8_t *expressions, size_t expressions_count,
+                          uint64_t first_frame, uint64_t last_frame,
+                          uint64_t *counts, size_t counts_count,
+                          uint64_t answer[2]);
 
 /* answer[0]: the colour at a voxel, 0 WHITE or 1 BLACK. Its place along the last axis is its frame; above the axes it is
  * 0. */

@@ -81,6 +81,14 @@ static void well_formed(void) { number = durbizhan_well_formed(axes, bits, bytes
 
 static void numbers(void) { number = durbizhan_numbers(axes, bits, bytes, bytes_count, 0, last_frame, answer); }
 
+static uint64_t counts[1024];
+static size_t counts_count;
+
+static void report(void)
+{
+    number = durbizhan_report(axes, bits, bytes, bytes_count, 0, last_frame, counts, counts_count, answer);
+}
+
 static void colour(void)
 {
     number = durbizhan_colour(axes, bits, bytes, bytes_count, place, place, place, place, answer);
@@ -397,6 +405,16 @@ int main(void)
     express(IN_HIGH);
     last_frame = 1024;
     take(numbers, DURBIZHAN_OUTSIDE);
+    end();
+    begin("durbizhan_report");
+    last_frame = 1023;
+    counts_count = 1024;
+    questions(report, DURBIZHAN_ACCEPTED, DURBIZHAN_ACCEPTED);
+    express(IN_HIGH);
+    counts_count = 1023;
+    take(report, DURBIZHAN_NO_ROOM);
+    last_frame = 1024;
+    take(report, DURBIZHAN_OUTSIDE);
     end();
     questions_at_places();
     begin("durbizhan_merge");

@@ -7,12 +7,13 @@ mod durbizhan;
 #[path = "second_opinion/src/face.rs"]
 mod face;
 
-use durbizhan::{Clearance, Numbers, Refused, Universe, Verdict, Window, ACCEPTED, NO_ROOM};
+use durbizhan::{Clearance, Numbers, Refused, Report, Universe, Verdict, Window, ACCEPTED, NO_ROOM};
 
 /// The numbers that each function has.
 const ROOM: &[u64] = &[0, 2];
 const VERDICT: &[u64] = &[0, 2, 3, 4, 5, 6, 9];
 const NUMBERS: &[u64] = &[0, 2, 7, 9];
+const REPORT: &[u64] = &[0, 2, 6, 7, 9];
 const LINES: &[u64] = &[0, 1, 2, 3, 4, 5, 6, 9];
 
 /// Two trees over rows, and a window.
@@ -152,6 +153,42 @@ fn numbers() -> Vec<u64> {
     cases.map(|case| case.0).to_vec()
 }
 
+fn reports() -> Vec<u64> {
+    let one = b"(W(((WBW((BWW";
+    let twice = [one.as_slice(), one].concat();
+    let rubbish = [one.as_slice(), b"W)"].concat();
+    let cases: [(u64, u64, u64, &[u8], [u64; 2], usize); 15] = [
+        (0, 2, 2, one, [0, 3], 4),
+        (0, 2, 2, &twice, [0, 3], 5),
+        (0, 2, 2, &twice, [3, 3], 1),
+        (0, 2, 2, b"", [0, 0], 1),
+        (0, 1, 0, &[b'B'; 256], [0, 0], 1),
+        (2, 0, 2, b"B", [0, 0], 1),
+        (2, 4, 11, b"(", [1, 0], 0),
+        (7, 1, 0, &[b'B'; 257], [0, 0], 1),
+        (7, 2, 2, &rubbish, [0, 3], 4),
+        (7, 2, 2, &twice[..25], [1, 0], 4),
+        (9, 2, 2, one, [0, 4], 5),
+        (9, 2, 2, b"", [2, 1], 0),
+        (6, 2, 2, one, [0, 3], 3),
+        (6, 2, 2, b"", [0, 3], 0),
+        (6, 4, 10, b"B", [0, 1023], 1023),
+    ];
+    for (wanted, axes, bits, expressions, [first, last], lent) in cases {
+        let [mut counts, mut other_counts] = [vec![u64::MAX; lent], vec![u64::MAX; lent]];
+        let mut answer = [u64::MAX; 2];
+        let number = face::report(axes, bits, expressions, first, last, &mut other_counts, &mut answer);
+        let faced = match (number, answer) {
+            (ACCEPTED, [frames, total]) => Ok(Report { frames: frames as usize, total }),
+            (number, [needed, 0]) => Err(Refused { number, needed }),
+            _ => panic!("report: number {number}, answer {answer:?}"),
+        };
+        let wrapped = durbizhan::report(Universe { axes, bits }, expressions, Window { first, last }, &mut counts);
+        held("report", wanted, number, (wrapped, counts), (faced, other_counts));
+    }
+    cases.map(|case| case.0).to_vec()
+}
+
 /// The number that the lines refuse with.
 fn number_of(lines: &[u8]) -> u64 {
     lines.strip_prefix(b"refused ").map_or(0, |rest| u64::from(rest[0] - b'0'))
@@ -173,7 +210,9 @@ fn lines() -> Vec<u64> {
 fn main() {
     leaves();
     let mut tried = 0;
-    for (numbers, cases) in [(ROOM, rooms()), (VERDICT, verdicts()), (NUMBERS, numbers()), (LINES, lines())] {
+    let all =
+        [(ROOM, rooms()), (VERDICT, verdicts()), (NUMBERS, numbers()), (REPORT, reports()), (LINES, lines())];
+    for (numbers, cases) in all {
         for number in numbers {
             assert!(cases.contains(number), "number {number} is not tried, of {numbers:?}");
         }

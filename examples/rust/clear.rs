@@ -17,6 +17,8 @@
 //!
 //! and of a scene file, named behind it, the lines of that one: examples/program.scene has these.
 
+// The wrapper has more than is asked here.
+#[allow(dead_code)]
 mod durbizhan;
 
 use durbizhan::{Refused, Universe, Verdict, Window, NO_ROOM};

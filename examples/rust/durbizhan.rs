@@ -34,6 +34,18 @@ mod face {
             answer: *mut [u64; 5],
         ) -> u64;
 
+        pub fn durbizhan_report(
+            axes: u64,
+            bits: u64,
+            expressions: *const u8,
+            expressions_count: usize,
+            first_frame: u64,
+            last_frame: u64,
+            counts: *mut u64,
+            counts_count: usize,
+            answer: *mut [u64; 2],
+        ) -> u64;
+
         pub fn durbizhan_lines(scene: *const u8, scene_count: usize, out: *mut [u8; 256]) -> u64;
     }
 }
@@ -67,6 +79,13 @@ pub struct Clearance {
 pub struct Numbers {
     pub volume: u64,
     pub verdict: Verdict,
+}
+
+/// How many counts of a row were set, one for each frame of the window, and their total.
+#[derive(Debug, PartialEq)]
+pub struct Report {
+    pub frames: usize,
+    pub total: u64,
 }
 
 /// Axes and bits.
@@ -154,6 +173,35 @@ pub fn numbers(universe: Universe, expression: &[u8], window: Window) -> Result<
         return Err(Refused { number, needed: 0 });
     }
     Ok(Numbers { volume, verdict: verdict_of(hit, first, last, voxels) })
+}
+
+/// The black voxels of each frame of a window, summed over a list of expressions that stand one straight after another:
+/// one count for each frame, set at the front of `counts`.
+pub fn report(
+    universe: Universe,
+    expressions: &[u8],
+    window: Window,
+    counts: &mut [u64],
+) -> Result<Report, Refused> {
+    let mut answer = [0; 2];
+    let number = unsafe {
+        face::durbizhan_report(
+            universe.axes,
+            universe.bits,
+            expressions.as_ptr(),
+            expressions.len(),
+            window.first,
+            window.last,
+            counts.as_mut_ptr(),
+            counts.len(),
+            &mut answer,
+        )
+    };
+    let [frames, total] = answer;
+    if number != ACCEPTED {
+        return Err(Refused { number, needed: frames });
+    }
+    Ok(Report { frames: frames as usize, total })
 }
 
 /// The lines that the program prints for a scene file; a refusal is the one line `refused n`.

@@ -1,8 +1,8 @@
 -- Counts of black voxels: halving a block halves its voxels, so merging keeps volume and frames; and the frames add up to the volume.
 use mathlib.Core.Path.{_≡_, refl, sym, ap, ap₂, _∙_}
 use mathlib.Core.Bool.{Bool, true, false}
-use Prim.Native.Nat.{ℕ, zero, suc, _+_, _*_, _/_, _%_, _≤_, _<_}
-use native.Mathlib.Nat.{le-max-left, le-max-right, div-eq-of-lt-le}
+use Prim.Native.Nat.{ℕ, zero, suc, _+_, _-_, _*_, _/_, _%_, _≤_, _<_}
+use native.Mathlib.Nat.{le-max-left, le-max-right, div-eq-of-lt-le, mul-le-mul, le-refl}
 use native.Mathlib.Decide.{ℕ-discrete}
 use native.Mathlib.Omega.{arith}
 use borrow.Author.Tests.{eq-eqb, ne-eqb}
@@ -12,7 +12,7 @@ use Rattle.lemmas.proofs.Sums.{sum-cong, sum-add, sum-same, product-cong, produ
 use Rattle.universe.specs.declared.Universe.{Universe}
 use Rattle.universe.specs.Universe.{levels, axisAt, frameAxis, frameCount, blockSide}
 use Rattle.universe.specs.Voxel.{halfAt}
-use Rattle.universe.proofs.Universes.{axis-below, side-first, side-halved, side-kept, voxels-halved}
+use Rattle.universe.proofs.Universes.{axis-below, side-positive, side-first, side-halved, side-kept, voxels-halved}
 use Rattle.bintree.specs.declared.Colour.{Colour}
 use Rattle.bintree.specs.declared.Colour.the-variants.{White, Black}
 use Rattle.bintree.specs.Shape.{Shape, leaf, halved, depth}
@@ -112,7 +112,7 @@ module _ (u : Universe) (some : 0 < u .axes) where
       join-voxels l frame (level-below u l a b h) (joined (merged a) (merged b)) ∙ rw (x, y)
 
 -- a run of places in two
-sum-split : (n m : ℕ) (f : ℕ → ℕ) → sum (n + m) f ≡ sum n f + sum m (λ c. f (n + c))
+pub sum-split : (n m : ℕ) (f : ℕ → ℕ) → sum (n + m) f ≡ sum n f + sum m (λ c. f (n + c))
 unfolding sum
 sum-split n zero f = let e : n + 0 ≡ n = omega arith in rw e (omega arith)
 sum-split n (suc m) f = let e : n + suc m ≡ suc (n + m) = omega arith in rw e (omega (arith, sum-split n m f))
@@ -148,6 +148,30 @@ module _ (u : Universe) (some : 0 < u .axes) where
   pub block-voxels : (l : ℕ) → frames u l * voxelsEach u l ≡ product (u .axes) (blockSide u l)
   unfolding product
   block-voxels l = let e : u .axes ≡ suc (frameAxis u) = omega arith in omega (arith, ap (λ n. product n (blockSide u l)) e)
+
+  -- THEOREM: a frame has at most all voxels of its block
+  each-most : (l : ℕ) → voxelsEach u l ≤ product (u .axes) (blockSide u l)
+  each-most l =
+      let all : 1 * voxelsEach u l ≤ frames u l * voxelsEach u l = mul-le-mul (side-positive u l (frameAxis u)) (le-refl (voxelsEach u l)) in
+      omega (arith, block-voxels l)
+
+  halves-most : (across lower : Bool) (low high : ℕ) → ofHalves across lower low high ≤ low + high
+  halves-most true true low high = omega arith
+  halves-most true false low high = omega arith
+  halves-most false lower low high = omega arith
+
+  pub frame-most : (l : ℕ) (s : Shape) (frame : ℕ) → l + depth s ≤ levels u → voxelsFrom u l s frame ≤ product (u .axes) (blockSide u l)
+  unfolding voxelsFrom
+  frame-most l (leaf Black) frame h = each-most l
+  frame-most l (leaf White) frame h = omega arith
+  frame-most l (halved a b) frame h =
+      omega (
+        arith,
+        halves-most (eqb (axisAt u l) (frameAxis u)) (eqb (halfAt u l frame) 0) (voxelsFrom u (suc l) a frame) (voxelsFrom u (suc l) b frame),
+        frame-most (suc l) a frame (low-fits u l a b h),
+        frame-most (suc l) b frame (high-fits u l a b h),
+        voxels-halved u some l (level-below u l a b h),
+      )
 
   -- one level: across the frame axis the halves' frames follow each other, otherwise they are the same
   Framed : ℕ → Shape → Type 0
@@ -194,3 +218,16 @@ module _ (u : Universe) (some : 0 < u .axes) where
       ap (λ m. sum m (voxelsAt u s)) (sym (side-first u (frameAxis u)))
       ∙ sum-cong n (voxelsAt u s) (λ c. voxelsFrom u 0 s (0 * n + c)) (λ c k. let e : c ≡ 0 * n + c = omega arith in ap (voxelsFrom u 0 s) e)
       ∙ block-frames 0 s (omega arith) 0
+
+  -- THEOREM: so the frames of a window have at most the volume
+  pub window-most : (s : Shape) (first n : ℕ) → depth s ≤ levels u → first + n ≤ frameCount u → sum n (λ c. voxelsAt u s (first + c)) ≤ volume u s
+  window-most s first n h k =
+      let m = frameCount u - (first + n) in
+      let e : frameCount u ≡ first + n + m = omega arith in
+      omega (
+        arith,
+        frames-volume s h,
+        ap (λ (i : ℕ). sum i (voxelsAt u s)) e,
+        sum-split (first + n) m (voxelsAt u s),
+        sum-split first n (voxelsAt u s),
+      )

@@ -1,12 +1,13 @@
--- What `walk` and `well_formed` answer. `restWalked` is what the tree at hand and the high halves owed tell, one behind the other; the loop of `walk` keeps
--- it as it is, symbol by symbol: `(` puts two halves in place of a tree, a leaf is left behind. Each law takes its premises in the form that code leaves
--- them, so that the proofs of the functions are a search for the law.
+-- What `walk`, `well_formed` and `tree_end` answer. `restWalked` is what the tree at hand and the high halves owed tell, one behind the other; the loop of
+-- `walk` keeps it as it is, symbol by symbol: `(` puts two halves in place of a tree, a leaf is left behind. Each law takes its premises in the form that code
+-- leaves them, so that the proofs of the functions are a search for the law.
 use mathlib.Core.Path.{_≡_, refl, sym, ap, _∙_}
 use mathlib.Core.List.{List, [], _∷_}
 use Prim.Native.Nat.{ℕ, suc, _+_, _-_, _*_, _%_, _^_, _≤_, _<_}
 use native.Mathlib.Nat.{two-pow-succ}
 use native.Mathlib.Omega.{arith}
 use borrow.Author.Needs.{needs}
+use borrow.Author.Tests.{eq-eqb, ne-eqb}
 use lib.Count.{trailingZeros}
 use lib.ListN.{length, getD}
 use lib.Pow.{pow-mono}
@@ -22,8 +23,9 @@ use Rattle.bintree.specs.declared.walk.Walked.{Walked}
 use Rattle.bintree.specs.declared.walk.Walked.the-variants.{Past, Nowhere}
 use Rattle.bintree.specs.Shape.{Shape, leaf, halved, openSymbol, symbolOf, size}
 use Rattle.bintree.specs.Reading.{Reading, none, read, readAt}
-use Rattle.bintree.specs.Answers.{wellFormedRefusal}
-use Rattle.bintree.specs.Walks.{walked}
+use Rattle.bintree.specs.Answers.{ofShape, wellFormedRefusal}
+use Rattle.bintree.specs.Walks.{walked, treeEnd}
+use Rattle.bintree.proofs.Shape.{size-positive}
 use Rattle.bintree.proofs.Answers.{asked-levels, levels-most, checks-universe, checks-none, checks-read}
 use Rattle.bintree.proofs.Owed.{mask, Rising, end, rising-under, rising-lower, mask-none, mask-more, mask-zero, bit-under, Due, due}
 use Rattle.bintree.proofs.Reading.{leaf-at, other-at, end-at, deep-at, no-low, no-high, both-parts}
@@ -243,3 +245,45 @@ module _ (u : Universe) (s : List ℕ) (number : ℕ) (e : number ≡ universeRe
       formed-whole k = let w = all-passed in sym (checks-read u number e s (w .shape) z (expression-read u s (w .shape) (w .is) (omega (arith, w .after))))
 
 pub ruleset formed-laws = (needs, levels-most, formed-universe, formed-nowhere, formed-rest, formed-whole)
+
+-- what is read from a tree's end
+module _ (u : Universe) (ok : universeRefusal u ≡ 0) (s : List ℕ) (p end : ℕ) (e : end ≡ treeEnd u s p) where
+  end-is : end ≡ ofShape (readAt s (levels u) p) 0 (λ a. p + size a)
+  unfolding treeEnd
+  end-is = e ∙ rw (eq-eqb (universeRefusal u) 0 ok)
+
+  pub end-none : end ≡ 0 → readAt s (levels u) p ≡ none
+  end-none z = go (readAt s (levels u) p) refl
+    where
+      go : (x : Reading) → readAt s (levels u) p ≡ x → x ≡ none
+      go none f = refl
+      go (read a) f = absurd (omega (arith, size-positive a, end-is, ap (λ y. ofShape y 0 (λ b. p + size b)) f))
+
+  pub end-some : (end ≡ 0 → ⊥) → Passed p end (readAt s (levels u) p)
+  end-some n = go (readAt s (levels u) p) refl
+    where
+      go : (x : Reading) → readAt s (levels u) p ≡ x → Passed p end x
+      go none f = absurd (n (end-is ∙ ap (λ y. ofShape y 0 (λ b. p + size b)) f))
+      go (read a) f = record { shape = a; is = refl; after = end-is ∙ ap (λ y. ofShape y 0 (λ b. p + size b)) f }
+
+-- the laws of `tree_end`, likewise
+module _ (u : Universe) (s : List ℕ) (p number : ℕ) (e : number ≡ universeRefusal u) where
+  pub end-refused : (number ≡ 0 → ⊥) → 0 ≡ treeEnd u s p
+  unfolding treeEnd
+  end-refused n = rw (← e, ne-eqb number 0 n)
+
+  module _ (count : ℕ) (r : Walked) (z : number ≡ 0) (c : count ≡ levelsAnswer u) (f : r ≡ walked p (readAt s count p)) where
+    told-walked : r ≡ walked p (readAt s (levels u) p)
+    told-walked = f ∙ ap (λ n. walked p (readAt s n p)) (asked-levels u number e count z c)
+
+    pub end-nowhere : r ≡ Nowhere → 0 ≡ treeEnd u s p
+    unfolding treeEnd
+    end-nowhere g = rw (← e, eq-eqb number 0 z, nowhere-none p (readAt s (levels u) p) (sym g ∙ told-walked))
+
+    pub end-past : (q : ℕ) → r ≡ Past q → q ≡ treeEnd u s p
+    unfolding treeEnd
+    end-past q g =
+        let w = passed p q (readAt s (levels u) p) (sym g ∙ told-walked) in
+        rw (← e, eq-eqb number 0 z, w .is) (w .after)
+
+pub ruleset end-laws = (needs, levels-most, end-refused, end-nowhere, end-past)

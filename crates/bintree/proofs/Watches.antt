@@ -128,7 +128,7 @@ module _ (u : Universe) (left frame voxels : ℕ) (w : Carried u left frame voxe
   unfolding blockSide frameBits
   frames-are = refl
 
-  each-are : 2 ^ (left - bits) ≡ voxelsEach u (levels u - left)
+  pub each-are : 2 ^ (left - bits) ≡ voxelsEach u (levels u - left)
   each-are =
       let some = accepted u (w .accepts) .some-axes in
       let l = levels u - left in

@@ -17,18 +17,15 @@ use Rattle.bintree.specs.declared.Contact.{Contact}
 use Rattle.bintree.specs.declared.Verdict.{Verdict}
 use Rattle.bintree.specs.declared.Verdict.the-variants.{Clear, Hit}
 use Rattle.bintree.specs.Shape.{Shape, leaf, halved, depth}
-use Rattle.bintree.specs.Counts.{ofHalves, voxelsFrom, voxelsAt}
+use Rattle.bintree.specs.Counts.{frames, ofHalves, voxelsFrom, voxelsAt, inside}
 use Rattle.bintree.specs.Verdicts.{windowLength, verdict}
 use Rattle.bintree.specs.Windows.{noContact, withFrames, touched, contactFrom, verdictOf}
 use Rattle.bintree.proofs.Counts.{level-below, low-fits, high-fits, lower-frame, upper-frame}
 use Rattle.bintree.proofs.Verdicts.{HitIn, clear-none, hit-is}
 
--- f at the n frames from `frame` on, and 0 elsewhere
-inside : ℕ → ℕ → (ℕ → ℕ) → ℕ → ℕ
-inside frame n f c = cond (leb frame c && ltb c (frame + n)) (f c) 0
-
+-- inside a run of frames, and outside it
 module _ (frame n : ℕ) (f : ℕ → ℕ) (c : ℕ) where
-  inside-at : frame ≤ c → c < frame + n → inside frame n f c ≡ f c
+  pub inside-at : frame ≤ c → c < frame + n → inside frame n f c ≡ f c
   unfolding inside
   inside-at h k = rw (inside, le-leb frame c h, lt-ltb c (frame + n) k)
 
@@ -40,14 +37,14 @@ module _ (frame n : ℕ) (f : ℕ → ℕ) (c : ℕ) where
   unfolding inside
   after-at h = rw (inside, le-leb frame c (omega arith), le-ltb c (frame + n) h)
 
-  outside-at : (frame ≤ c → c < frame + n → ⊥) → inside frame n f c ≡ 0
+  pub outside-at : (frame ≤ c → c < frame + n → ⊥) → inside frame n f c ≡ 0
   outside-at h = go (decLe frame c)
     where
       go : Dec (frame ≤ c) → inside frame n f c ≡ 0
       go (yes k) = after-at (omega (arith, h k))
       go (no k) = before-at (omega arith)
 
-none-inside : (frame n c : ℕ) → inside frame n (λ e. 0) c ≡ 0
+pub none-inside : (frame n c : ℕ) → inside frame n (λ e. 0) c ≡ 0
 unfolding inside
 none-inside frame n c = go (leb frame c && ltb c (frame + n))
   where
@@ -233,114 +230,101 @@ module _ (first last : ℕ) where
           rw (lt-leb from to (omega arith))
           (same-tells (λ c a b. omega (arith, outside-at frame n (λ e. each) c (λ x y. omega arith))) t)
 
+-- the two halves of a block, whose frames begin at a multiple of their number: so do those of its halves, and what both have at a frame is what the block has
+module _ (u : Universe) (some : 0 < u .axes) (l : ℕ) (h : l < levels u) (m frame : ℕ) (f : frame ≡ m * frames u l) where
+  abbrev next : ℕ
+  next = frame + (frames u l - frames u (suc l))
+
+  wide : axisAt u l ≡ frameAxis u → frames u l ≡ 2 * frames u (suc l)
+  wide e = rw e at (side-halved u some l h)
+
+  same : (axisAt u l ≡ frameAxis u → ⊥) → frames u l ≡ frames u (suc l)
+  same n = sym (side-kept u l (frameAxis u) n)
+
+  pub low-begins : (k : ℕ) × (frame ≡ k * frames u (suc l))
+  low-begins = go (ℕ-discrete (axisAt u l) (frameAxis u))
+    where
+      go : Dec (axisAt u l ≡ frameAxis u) → (k : ℕ) × (frame ≡ k * frames u (suc l))
+      go (yes e) = (2 * m, f ∙ ap (λ (z : ℕ). m * z) (wide e) ∙ omega arith)
+      go (no n) = (m, f ∙ ap (λ (z : ℕ). m * z) (same n))
+
+  pub high-begins : (k : ℕ) × (next ≡ k * frames u (suc l))
+  high-begins = go (ℕ-discrete (axisAt u l) (frameAxis u))
+    where
+      go : Dec (axisAt u l ≡ frameAxis u) → (k : ℕ) × (next ≡ k * frames u (suc l))
+      go (yes e) =
+          let d : frame ≡ 2 * m * frames u (suc l) = f ∙ ap (λ (z : ℕ). m * z) (wide e) ∙ omega arith in
+          let w = wide e in (2 * m + 1, omega arith)
+      go (no n) =
+          let d : frame ≡ m * frames u (suc l) = f ∙ ap (λ (z : ℕ). m * z) (same n) in
+          let s = same n in (m, omega arith)
+
+  module _ (a b : Shape) (c : ℕ) where
+    across-at :
+        axisAt u l ≡ frameAxis u →
+        ofHalves true (eqb (c / frames u (suc l) % 2) 0) (voxelsFrom u (suc l) a c) (voxelsFrom u (suc l) b c) ≡ voxelsFrom u l (halved a b) c
+    unfolding voxelsFrom
+    across-at e = rw (eq-eqb (axisAt u l) (frameAxis u) e, e)
+
+    along-at : (axisAt u l ≡ frameAxis u → ⊥) → voxelsFrom u (suc l) a c + voxelsFrom u (suc l) b c ≡ voxelsFrom u l (halved a b) c
+    unfolding voxelsFrom
+    along-at n = rw (ne-eqb (axisAt u l) (frameAxis u) n)
+
+    pub halves-frames :
+        inside frame (frames u (suc l)) (voxelsFrom u (suc l) a) c + inside next (frames u (suc l)) (voxelsFrom u (suc l) b) c
+        ≡ inside frame (frames u l) (voxelsFrom u l (halved a b)) c
+    halves-frames = go (ℕ-discrete (axisAt u l) (frameAxis u))
+      where
+        low : ℕ → ℕ
+        low = voxelsFrom u (suc l) a
+
+        high : ℕ → ℕ
+        high = voxelsFrom u (suc l) b
+
+        n : ℕ
+        n = frames u (suc l)
+
+        go : Dec (axisAt u l ≡ frameAxis u) → inside frame n low c + inside next n high c ≡ inside frame (frames u l) (voxelsFrom u l (halved a b)) c
+        go (yes e) =
+            follow-inside n m frame (frames u l) next (wide e) f refl low high c
+            ∙ same-inside frame (frames u l) (λ d. ofHalves true (eqb (d / n % 2) 0) (low d) (high d)) (voxelsFrom u l (halved a b)) c (across-at e)
+        go (no k) =
+            let w = same k in
+            let z : next ≡ frame = omega arith in
+            rw (z, w) (both-inside frame n low high c ∙ same-inside frame n (λ d. low d + high d) (voxelsFrom u l (halved a b)) c (along-at k))
+
 -- a shape joined block by block: what it tells at the frames of its block, which begin at a multiple of their number
 module _ (u : Universe) (some : 0 < u .axes) (first last : ℕ) (order : first ≤ last) where
-  frames : ℕ → ℕ
-  frames l = blockSide u l (frameAxis u)
-
   Joins : ℕ → Shape → Type 0
   Joins l s =
-      (m frame : ℕ) → frame ≡ m * frames l → (g : ℕ → ℕ) (k : Contact) → Tells first last g k → Tells first last
-      (λ c. g c + inside frame (frames l) (voxelsFrom u l s) c) (contactFrom u first last l frame s k)
+      (m frame : ℕ) → frame ≡ m * frames u l → (g : ℕ → ℕ) (k : Contact) → Tells first last g k → Tells first last
+      (λ c. g c + inside frame (frames u l) (voxelsFrom u l s) c) (contactFrom u first last l frame s k)
 
-  across-at :
-      (l : ℕ) (a b : Shape) → axisAt u l ≡ frameAxis u → (c : ℕ) →
-      ofHalves true (eqb (c / frames (suc l) % 2) 0) (voxelsFrom u (suc l) a c) (voxelsFrom u (suc l) b c) ≡ voxelsFrom u l (halved a b) c
-  unfolding voxelsFrom frames
-  across-at l a b e c = rw (eq-eqb (axisAt u l) (frameAxis u) e, e)
-
-  along-at :
-      (l : ℕ) (a b : Shape) → (axisAt u l ≡ frameAxis u → ⊥) → (c : ℕ) → voxelsFrom u (suc l) a c + voxelsFrom u (suc l) b c ≡ voxelsFrom u l (halved a b) c
-  unfolding voxelsFrom
-  along-at l a b n c = rw (ne-eqb (axisAt u l) (frameAxis u) n)
-
-  across-joins : (l : ℕ) (a b : Shape) → l < levels u → axisAt u l ≡ frameAxis u → Joins (suc l) a → Joins (suc l) b → Joins l (halved a b)
-  unfolding Joins frames contactFrom
-  across-joins l a b h e x y m frame f g k t =
-      same-tells first last at
-      (y (2 * m + 1) next after (λ c. g c + inside frame n low c) (contactFrom u first last (suc l) frame a k) (x (2 * m) frame before g k t))
-    where
-      n : ℕ
-      n = frames (suc l)
-
-      low : ℕ → ℕ
-      low = voxelsFrom u (suc l) a
-
-      high : ℕ → ℕ
-      high = voxelsFrom u (suc l) b
-
-      next : ℕ
-      next = frame + (frames l - n)
-
-      wide : frames l ≡ 2 * n
-      wide = rw e at (side-halved u some l h)
-
-      before : frame ≡ 2 * m * n
-      before = f ∙ ap (λ (z : ℕ). m * z) wide ∙ omega arith
-
-      after : next ≡ (2 * m + 1) * n
-      after = let d = before in let w = wide in omega arith
-
-      at : (c : ℕ) → first ≤ c → c ≤ last → g c + inside frame n low c + inside next n high c ≡ g c + inside frame (frames l) (voxelsFrom u l (halved a b)) c
-      at c i j =
-          omega (
-            arith,
-            follow-inside n m frame (frames l) next wide f refl low high c,
-            same-inside frame (frames l) (λ d. ofHalves true (eqb (d / n % 2) 0) (low d) (high d)) (voxelsFrom u l (halved a b)) c (across-at l a b e c),
-          )
-
-  along-joins : (l : ℕ) (a b : Shape) → (axisAt u l ≡ frameAxis u → ⊥) → Joins (suc l) a → Joins (suc l) b → Joins l (halved a b)
-  unfolding Joins frames contactFrom
-  along-joins l a b n x y m frame f g k t =
-      rw (next, same)
-      (same-tells first last at
-      (y m frame f′ (λ c. g c + inside frame (frames (suc l)) low c) (contactFrom u first last (suc l) frame a k) (x m frame f′ g k t)))
-    where
-      low : ℕ → ℕ
-      low = voxelsFrom u (suc l) a
-
-      high : ℕ → ℕ
-      high = voxelsFrom u (suc l) b
-
-      same : frames l ≡ frames (suc l)
-      same = sym (side-kept u l (frameAxis u) n)
-
-      next : frame + (frames l - frames (suc l)) ≡ frame
-      next = let e = same in omega arith
-
-      f′ : frame ≡ m * frames (suc l)
-      f′ = f ∙ ap (λ (z : ℕ). m * z) same
-
-      at :
-          (c : ℕ) → first ≤ c → c ≤ last →
-          g c + inside frame (frames (suc l)) low c + inside frame (frames (suc l)) high c ≡ g c + inside frame (frames (suc l)) (voxelsFrom u l (halved a b)) c
-      at c i j =
-          omega (
-            arith,
-            both-inside frame (frames (suc l)) low high c,
-            same-inside frame (frames (suc l)) (λ d. low d + high d) (voxelsFrom u l (halved a b)) c (along-at l a b n c),
-          )
+  halved-joins : (l : ℕ) (a b : Shape) → l < levels u → Joins (suc l) a → Joins (suc l) b → Joins l (halved a b)
+  unfolding Joins contactFrom
+  halved-joins l a b h x y m frame f g k t =
+      let p = low-begins u some l h m frame f in
+      let q = high-begins u some l h m frame f in
+      let low : ℕ → ℕ = inside frame (frames u (suc l)) (voxelsFrom u (suc l) a) in
+      same-tells first last (λ c i j. omega (arith, halves-frames u some l h m frame f a b c))
+      (y (q .0) (frame + (frames u l - frames u (suc l))) (q .1) (λ c. g c + low c) (contactFrom u first last (suc l) frame a k) (x (p .0) frame (p .1) g k t))
 
   shape-joins : (l : ℕ) (s : Shape) → l + depth s ≤ levels u → Joins l s
-  unfolding Joins frames contactFrom voxelsFrom
+  unfolding Joins contactFrom voxelsFrom
   shape-joins l (leaf Black) h =
-      λ m frame f g k t. touched-tells first last frame (frames l) (product (frameAxis u) (blockSide u l)) order (side-positive u l (frameAxis u))
+      λ m frame f g k t. touched-tells first last frame (frames u l) (product (frameAxis u) (blockSide u l)) order (side-positive u l (frameAxis u))
       (product-positive (frameAxis u) (blockSide u l) (λ i j. side-positive u l i)) g k t
-  shape-joins l (leaf White) h = λ m frame f g k t. same-tells first last (λ c i j. omega (arith, none-inside frame (frames l) c)) t
+  shape-joins l (leaf White) h = λ m frame f g k t. same-tells first last (λ c i j. omega (arith, none-inside frame (frames u l) c)) t
   shape-joins l (halved a b) h =
-      go (ℕ-discrete (axisAt u l) (frameAxis u)) (shape-joins (suc l) a (low-fits u l a b h)) (shape-joins (suc l) b (high-fits u l a b h))
-    where
-      go : Dec (axisAt u l ≡ frameAxis u) → Joins (suc l) a → Joins (suc l) b → Joins l (halved a b)
-      go (yes e) x y = across-joins l a b (level-below u l a b h) e x y
-      go (no n) x y = along-joins l a b n x y
+      halved-joins l a b (level-below u l a b h) (shape-joins (suc l) a (low-fits u l a b h)) (shape-joins (suc l) b (high-fits u l a b h))
 
   -- all of the shape, from its whole universe on
   pub contact-tells :
       (s : Shape) → depth s ≤ levels u → last < frameCount u → Tells first last (voxelsAt u s) (contactFrom u first last 0 0 s (noContact first last))
-  unfolding Joins frames
+  unfolding Joins
   contact-tells s h k =
       same-tells first last
-      (λ c i j. omega (arith, inside-at 0 (frames 0) (voxelsFrom u 0 s) c (omega arith) (omega (arith, side-first u (frameAxis u)))))
+      (λ c i j. omega (arith, inside-at 0 (frames u 0) (voxelsFrom u 0 s) c (omega arith) (omega (arith, side-first u (frameAxis u)))))
       (shape-joins 0 s (omega arith) 0 0 (omega arith) (λ c. 0) (noContact first last) (nothing-tells first last order))
 
 -- THEOREM: a contact that tells of a shape's black voxels is the shape's verdict: Clear where it counts none, else Hit with it

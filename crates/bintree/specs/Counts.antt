@@ -1,8 +1,8 @@
 -- Rules 4.8 and 5.2: black voxels of a shape, all of them (its volume) and those of one frame. A shape stands for a
 -- block of level l.
 use Prim.Native.Nat.{ℕ, suc, _+_}
-use mathlib.Core.Bool.{Bool, true, false}
-use lib.Dec.{eqb}
+use mathlib.Core.Bool.{Bool, true, false, cond, _&&_}
+use lib.Dec.{eqb, leb, ltb}
 use Rattle.lemmas.specs.Sums.{product}
 use Rattle.universe.specs.declared.Universe.{Universe}
 use Rattle.universe.specs.Universe.{axisAt, frameAxis, blockSide}
@@ -43,3 +43,7 @@ voxelsFrom u l (halved a b) frame =
 
 abbrev pub voxelsAt : Universe → Shape → ℕ → ℕ
 voxelsAt u s frame = voxelsFrom u 0 s frame
+
+-- f at the n frames from `frame` on, and 0 elsewhere
+unfoldable pub inside : ℕ → ℕ → (ℕ → ℕ) → ℕ → ℕ
+inside frame n f c = cond (leb frame c && ltb c (frame + n)) (f c) 0

@@ -1,5 +1,5 @@
--- How walks over an expression meet rules 4.4, 4.6, 4.9 and 4.10: what each tells, from the shape that is read where it
--- begins.
+-- How walks over an expression meet rules 4.4, 4.6, 4.9, 4.10 and 4.12: what each tells, from the shape that is read
+-- where it begins.
 use Prim.Native.Nat.{ℕ, _+_}
 use mathlib.Core.Path.{_≡_}
 use mathlib.Core.Bool.{Bool, false, cond}
@@ -8,6 +8,7 @@ use lib.Dec.{eqb}
 use lib.ListN.{set}
 use lib.Seq.{sets}
 use Rattle.universe.specs.declared.Universe.{Universe}
+use Rattle.universe.specs.Universe.{universeRefusal, levels}
 use Rattle.universe.specs.Voxel.{voxelRefusal}
 use Rattle.bintree.specs.declared.Colour.{Colour}
 use Rattle.bintree.specs.declared.Colour.the-variants.{White, Black}
@@ -20,15 +21,19 @@ use Rattle.bintree.specs.declared.lay.Laid.the-variants.{Done, Unread}
 use Rattle.bintree.specs.declared.place.Traced.{Traced}
 use Rattle.bintree.specs.declared.place.Traced.the-variants.{Led, Lost}
 use Rattle.bintree.specs.Shape.{Shape, leaf, halved, openSymbol, symbolOf, symbols, size}
-use Rattle.bintree.specs.Reading.{Reading, none, read}
+use Rattle.bintree.specs.Reading.{Reading, none, read, readAt}
 use Rattle.bintree.specs.Merging.{merged}
-use Rattle.bintree.specs.Answers.{unlessRefused}
+use Rattle.bintree.specs.Answers.{ofShape, unlessRefused}
 use Rattle.bintree.specs.Parts.{part, partStart, pathRefusal, refusedPlace, donePlace, refusedColour, doneColour}
 
 -- the place after the tree that begins at p
 unfoldable pub walked : ℕ → Reading → Walked
 walked p none = Nowhere
 walked p (read a) = Past (p + size a)
+
+-- rule 4.12: the place after the tree that begins at p; 0 where there is no tree, or the universe is refused
+unfoldable pub treeEnd : Universe → List ℕ → ℕ → ℕ
+treeEnd u s p = cond (eqb (universeRefusal u) 0) (ofShape (readAt s (levels u) p) 0 (λ a. p + size a)) 0
 
 -- the colour that a symbol stands for
 abbrev pub symbolColour : ℕ → Colour

@@ -14,6 +14,7 @@ pub use place::part;
 pub use place::part_place;
 pub use place::part_refusal;
 pub use voxel::colour_at;
+pub use walk::tree_end;
 pub use walk::well_formed;
 pub use window::numbers_of;
 ghost use mathlib.Core.Path.{_≡_};

@@ -6,7 +6,7 @@ ghost use Rattle.universe.specs.Questions.{voxelsLeft};
 ghost use Rattle.universe.specs.Universe.{mostLevels};
 ghost use Rattle.bintree.specs.Reading.{readAt};
 ghost use Rattle.bintree.specs.Answers.{wellFormedRefusal};
-ghost use Rattle.bintree.specs.Walks.{walked};
+ghost use Rattle.bintree.specs.Walks.{walked, treeEnd};
 use universe::Universe;
 use universe::refusals;
 
@@ -63,6 +63,19 @@ pub(crate) fn walk(expression: &[u8], at: usize, left: u64) -> Walked
         }
     }
     Walked::Nowhere
+}
+
+// The place after the tree that begins at `at`; 0 where there is no tree, or axes or bits are refused.
+pub fn tree_end(universe: Universe, expressions: &[u8], at: usize) -> usize
+    ensures { λ r. ⌜ r ≡ treeEnd universe (now (expressions .entry)) at ⌝ }
+{
+    if universe.refusal() != 0 {
+        return 0;
+    }
+    match walk(expressions, at, universe.levels()) {
+        Walked::Past(end) => end,
+        Walked::Nowhere => 0,
+    }
 }
 
 // 0 where an expression is well-formed, 2 where axes or bits are refused, else 7.

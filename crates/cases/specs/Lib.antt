@@ -2,3 +2,4 @@
 pub mod Cases
 pub mod CutFromItself
 pub mod Numbers
+pub mod Reports

@@ -17,6 +17,7 @@ use Rattle.bintree.specs.declared.Placed.{Placed}
 use Rattle.convert.specs.declared.verdict.Clearance.{Clearance}
 use Rattle.files.specs.declared.Scene.{Scene}
 use Rattle.files.specs.declared.ShapeRead.{ShapeRead}
+use Rattle.report.specs.declared.Report.{Report}
 use Rattle.standin.specs.declared.Triple.{Triple}
 use Rattle.standin.specs.declared.Solid.the-variants.{Box, Cut}
 use Rattle.standin.specs.declared.Proxy.{Proxy}
@@ -48,6 +49,10 @@ clearanceArray a =
 abbrev pub numbersArray : Numbers → List ℕ
 numbersArray a =
     let told = toldOf (a .verdict) in a .volume ∷ told .hit ∷ told .first ∷ told .last ∷ told .voxels ∷ []
+
+-- how many counts of a row are set, needed on 6, and their total
+abbrev pub reportArray : Report → List ℕ
+reportArray a = a .frames ∷ a .total ∷ []
 
 -- rule 11.2: a colour as a number
 abbrev pub colourNumber : Colour → ℕ

@@ -5,4 +5,5 @@ pub mod conversions;
 pub mod documents;
 pub mod expressions;
 pub mod proxies;
+pub mod reports;
 pub mod verdicts;

@@ -3,6 +3,7 @@ pub mod Keeping
 pub mod Promises
 pub mod Shortest
 pub mod Numbers
+pub mod Report
 pub mod Centres
 pub mod Faces
 pub mod CutFromItself

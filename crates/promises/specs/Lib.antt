@@ -2,6 +2,7 @@
 pub mod Promises
 pub mod Shortest
 pub mod Numbers
+pub mod Report
 pub mod Centres
 pub mod Faces
 pub mod CutFromItself

@@ -4,6 +4,7 @@ pub mod OfUniverse
 pub mod OfCsg
 pub mod OfBintree
 pub mod OfReader
+pub mod OfReport
 pub mod OfConvert
 pub mod OfFiles
 pub mod OfLines

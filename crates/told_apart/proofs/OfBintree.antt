@@ -8,6 +8,9 @@ use Rattle.told_apart.proofs.Alike.{same, one, two, behind}
 pub bintree-well-formed : (w : World) → TellsApart w bintree.well_formed.ended bintree.well_formed.clauses
 bintree-well-formed w _ _ = ((tt, refl), λ _ _ _ _ _. one w (λ p q. (same p q, refl)))
 
+pub bintree-tree-end : (w : World) → TellsApart w bintree.tree_end.ended bintree.tree_end.clauses
+bintree-tree-end w _ _ = ((tt, refl), λ _ _ _ _ _. one w (λ p q. (same p q, refl)))
+
 pub bintree-colour-at : (w : World) → TellsApart w bintree.colour_at.ended bintree.colour_at.clauses
 bintree-colour-at w _ _ = ((tt, refl), λ _ _ _ _ _. one w (λ p q. (same p q, refl)))
 

@@ -29,6 +29,9 @@ durbizhan-verdict w _ _ = ((tt, refl), λ _ _ _ _ _. three w (λ p q. (same (p .
 pub durbizhan-numbers : (w : World) → TellsApart w export.verdicts.durbizhan_numbers.ended export.verdicts.durbizhan_numbers.clauses
 durbizhan-numbers w _ _ = ((tt, refl), λ _ _ _ _ _. two w (λ p q. (same (p .0) (q .0), λ i. behind 5 (same (p .1) (q .1) i, tt))))
 
+pub durbizhan-report : (w : World) → TellsApart w export.reports.durbizhan_report.ended export.reports.durbizhan_report.clauses
+durbizhan-report w _ _ = ((tt, refl), λ _ _ _ _ _. three w (λ p q. (same (p .0) (q .0), λ i. behind 5 (same (p .2) (q .2) i, (same (p .1) (q .1) i, tt)))))
+
 pub durbizhan-scene : (w : World) → TellsApart w export.documents.durbizhan_scene.ended export.documents.durbizhan_scene.clauses
 durbizhan-scene w _ _ = (
   (tt, refl),

@@ -32,6 +32,10 @@ mod c {
             axes: u64, bits: u64, expression: *const u8, expression_count: usize, first_frame: u64, last_frame: u64,
             answer: *mut [u64; 5],
         ) -> u64;
+        pub fn durbizhan_report(
+            axes: u64, bits: u64, expressions: *const u8, expressions_count: usize, first_frame: u64, last_frame: u64,
+            counts: *mut u64, counts_count: usize, answer: *mut [u64; 2],
+        ) -> u64;
         pub fn durbizhan_colour(
             axes: u64, bits: u64, expression: *const u8, expression_count: usize, x: u64, y: u64, z: u64, t: u64,
             answer: *mut [u64; 1],
@@ -141,6 +145,18 @@ pub fn numbers(
     unsafe {
         c::durbizhan_numbers(
             axes, bits, expression.as_ptr(), expression.len(), first_frame, last_frame, answer,
+        )
+    }
+}
+
+pub fn report(
+    axes: u64, bits: u64, expressions: &[u8], first_frame: u64, last_frame: u64, counts: &mut [u64],
+    answer: &mut [u64; 2],
+) -> u64 {
+    unsafe {
+        c::durbizhan_report(
+            axes, bits, expressions.as_ptr(), expressions.len(), first_frame, last_frame, counts.as_mut_ptr(),
+            counts.len(), answer,
         )
     }
 }

@@ -469,6 +469,25 @@ pub fn reading(random: &mut Random) -> ReadingCase {
     ReadingCase { axes, bits, expression: symbols }
 }
 
+/// A list of expressions: of a few, of none, of one symbol each around the most there may be; damaged as a reading is.
+pub fn list(random: &mut Random) -> ReadingCase {
+    let mut case = reading(random);
+    match random.below(40) {
+        0 => {
+            let count = random.pick(&[255, 256, 256, 257, 258]);
+            case.expression = (0..count).map(|_| random.pick(b"BW")).collect();
+        }
+        1 | 2 => case.expression.clear(),
+        more => {
+            let (axes, bits) = in_range((case.axes, case.bits));
+            for _ in 0..more % 6 {
+                case.expression.extend(expression(random, (axes * bits) as usize));
+            }
+        }
+    }
+    case
+}
+
 /// A path in the universe.
 pub fn path(random: &mut Random, levels: usize) -> Vec<u8> {
     let length = if random.chance(20) { levels } else { random.place(levels + 1) };

@@ -235,6 +235,7 @@ type RawOne = fn(u64, u64, &[i64], &[u16], &mut [u8], &mut [u64; 1]) -> u64;
 type RawTwo = fn(u64, u64, &[i64], &[u16], &[u16], &mut [u8], &mut [u64; 1]) -> u64;
 type Verdict = fn(u64, u64, &[i64], &[u16], &[u16], u64, u64, &mut [u8], &mut [u64; 5]) -> u64;
 type Numbers = fn(u64, u64, &[u8], u64, u64, &mut [u64; 5]) -> u64;
+type Report = fn(u64, u64, &[u8], u64, u64, &mut [u64], &mut [u64; 2]) -> u64;
 type Colour = fn(u64, u64, &[u8], u64, u64, u64, u64, &mut [u64; 1]) -> u64;
 type Part = fn(u64, u64, &[u8], &[u8], &mut [u64; 2]) -> u64;
 type Rewrite = fn(u64, u64, &[u8], &mut [u8], &mut [u64; 1]) -> u64;
@@ -383,6 +384,21 @@ fn numbers(line: &mut Line, random: &mut Random) {
     line.compare(plain, library, || format!("{}\nwindow = {first} {last}", reading_text(&case)));
 }
 
+fn reports(line: &mut Line, random: &mut Random) {
+    let case = generate::list(random);
+    let (first, last) = generate::window(random, Universe::checked(case.axes, case.bits).map_or(3, |_| case.bits));
+    let frames = if first <= last && last - first < 2_000 { last - first + 1 } else { 4 };
+    let lent = generate::room(random, frames);
+    let [plain, library] = [plain::report as Report, face::report].map(|ask| {
+        let (mut counts, mut answer) = (longs(lent), longs(2));
+        let number = ask(case.axes, case.bits, &case.expression, first, last, counts.lent(), answer.array());
+        Outcome { number, contents: vec![("answer", answer.into()), ("counts", counts.into())] }
+    });
+    line.compare(plain, library, || {
+        format!("{}\nwindow = {first} {last}\ncounts: {lent} lent", reading_text(&case))
+    });
+}
+
 fn colours(line: &mut Line, random: &mut Random) {
     let case = generate::reading(random);
     let [x, y, z, t] = generate::voxel(random, case.axes, case.bits);
@@ -520,6 +536,7 @@ const CONVERSION: &[u64] = &[BAD_UNIVERSE, BAD_ROWS, BAD_TREE, OVERFULL_TREE, NO
 const VERDICT: &[u64] = &[BAD_UNIVERSE, BAD_ROWS, BAD_TREE, OVERFULL_TREE, OUTSIDE, NO_ROOM];
 const READING: &[u64] = &[BAD_UNIVERSE, BAD_EXPRESSION];
 const READING_AT: &[u64] = &[BAD_UNIVERSE, BAD_EXPRESSION, OUTSIDE];
+const REPORT: &[u64] = &[BAD_UNIVERSE, BAD_EXPRESSION, OUTSIDE, NO_ROOM];
 const MERGING: &[u64] = &[BAD_UNIVERSE, BAD_EXPRESSION, NO_ROOM];
 const SCENE: &[u64] = &[BAD_FILE, BAD_UNIVERSE, BAD_ROWS, BAD_TREE, OVERFULL_TREE, OUTSIDE];
 const SHAPE_READ: &[u64] = &[BAD_FILE, BAD_UNIVERSE, BAD_EXPRESSION, NOT_MERGED, NO_ROOM];
@@ -542,6 +559,7 @@ const ENTRY_POINTS: &[(&str, u64, &[u64], Compare)] = &[
     ("durbizhan_verdict, long", 1, &[OUTSIDE, NO_ROOM], long_verdicts),
     ("durbizhan_well_formed", 2000, READING, well_formed),
     ("durbizhan_numbers", 2000, READING_AT, numbers),
+    ("durbizhan_report", 500, REPORT, reports),
     ("durbizhan_colour", 2000, READING_AT, colours),
     ("durbizhan_part", 2000, READING_AT, parts),
     ("durbizhan_merge", 2000, MERGING, |l, r| rewriting(l, r, plain::merge, face::merge)),

@@ -561,6 +561,46 @@ fn hit_where(universe: &Universe, first: u64, last: u64, black: impl Fn(&[i64; 4
     hit
 }
 
+pub const MOST_EXPRESSIONS: usize = 256;
+
+/// The expressions of a list, each begun where the one before it ends (rule 5.5).
+pub fn list_checked(universe: &Universe, symbols: &[u8]) -> Answer<Vec<Shape>> {
+    let (mut shapes, mut place) = (Vec::new(), 0);
+    while place < symbols.len() {
+        match shape_at(universe, symbols, place, 0) {
+            Some(shape) if shapes.len() < MOST_EXPRESSIONS => {
+                place += shape.length;
+                shapes.push(shape);
+            }
+            _ => return refused(BAD_EXPRESSION),
+        }
+    }
+    Ok(shapes)
+}
+
+/// Adds the black voxels of each frame from `first` on, one count for each: voxel by voxel where the universe is small,
+/// otherwise block by block.
+fn count_frames(universe: &Universe, shape: &Shape, first: u64, counts: &mut [u64]) {
+    let time = universe.axes - 1;
+    let mut count = |frame: i64, voxels: u64| {
+        if let Some(count) = (frame as u64).checked_sub(first).and_then(|place| counts.get_mut(place as usize)) {
+            *count += voxels;
+        }
+    };
+    if universe.is_small() {
+        for voxel in universe.all_voxels().filter(|voxel| black_at(universe, shape, voxel)) {
+            count(voxel[time], 1);
+        }
+    } else {
+        black_blocks(universe, shape, &Block::whole(universe), &mut |block| {
+            let slice = block.size[..time].iter().product::<i64>() as u64;
+            for frame in block.low[time]..block.low[time] + block.size[time] {
+                count(frame, slice);
+            }
+        });
+    }
+}
+
 /// The verdict from the black blocks of an expression.
 pub fn verdict_by_blocks(universe: &Universe, shape: &Shape, first: u64, last: u64) -> Hit {
     let mut hit: Hit = None;
@@ -877,6 +917,36 @@ pub fn numbers(
         })
     };
     plain_answer(judge(), answer)
+}
+
+pub fn report(
+    axes: u64, bits: u64, expressions: &[u8], first_frame: u64, last_frame: u64, counts: &mut [u64],
+    answer: &mut [u64; 2],
+) -> u64 {
+    let judge = || -> Answer<Vec<u64>> {
+        let universe = Universe::checked(axes, bits)?;
+        let shapes = list_checked(&universe, expressions)?;
+        window_checked(&universe, first_frame, last_frame)?;
+        let mut told = vec![0; (last_frame - first_frame + 1) as usize];
+        if told.len() > counts.len() {
+            return too_little_room(told.len() as u64);
+        }
+        for shape in &shapes {
+            count_frames(&universe, shape, first_frame, &mut told);
+        }
+        Ok(told)
+    };
+    match judge() {
+        Ok(told) => {
+            *answer = [told.len() as u64, told.iter().sum()];
+            counts[..told.len()].copy_from_slice(&told);
+            ACCEPTED
+        }
+        Err(refusal) => {
+            *answer = [refusal.needed, 0];
+            refusal.number
+        }
+    }
 }
 
 #[allow(clippy::too_many_arguments)]

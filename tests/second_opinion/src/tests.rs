@@ -159,6 +159,39 @@ fn numbers_of_windows() {
 }
 
 #[test]
+fn reports_of_lists() {
+    let told = |bits: u64, list: &[u8], first: u64, last: u64, lent: usize| {
+        let (mut counts, mut answer) = (vec![9; lent], [9; 2]);
+        (report(2, bits, list, first, last, &mut counts, &mut answer), answer, counts)
+    };
+    let slope = b"(((W(BWW(B((BWB";
+    assert_eq!(told(2, b"", 0, 3, 4), (ACCEPTED, [4, 0], vec![0; 4]));
+    assert_eq!(told(2, &[SCENE_RAW, SCENE_RAW].concat(), 0, 3, 4), (ACCEPTED, [4, 4], vec![0, 2, 2, 0]));
+    assert_eq!(told(2, slope, 0, 3, 5), (ACCEPTED, [4, 8], vec![3, 2, 2, 1, 9]));
+    assert_eq!(told(2, slope, 0, 0, 1), (ACCEPTED, [1, 3], vec![3]));
+    assert_eq!(told(2, slope, 3, 3, 1), (ACCEPTED, [1, 1], vec![1]));
+    assert_eq!(told(2, slope, 0, 3, 3), (NO_ROOM, [4, 0], vec![9; 3]));
+    assert_eq!(told(0, &[b'B'; 256], 0, 0, 1), (ACCEPTED, [1, 256], vec![256]));
+    assert_eq!(told(0, &[b'B'; 257], 0, 0, 1), (BAD_EXPRESSION, [0, 0], vec![9]));
+    assert_eq!(told(2, &[SCENE_RAW, b")"].concat(), 0, 4, 0), (BAD_EXPRESSION, [0, 0], vec![]));
+    assert_eq!(told(2, SCENE_RAW, 0, 4, 0), (OUTSIDE, [0, 0], vec![]));
+    // the total of a list is what the verdicts of its expressions count
+    let mut random = Random::new(11);
+    for _ in 0..2000 {
+        let (axes, bits) = generate::small_universe(&mut random, 8);
+        let universe = Universe::checked(axes, bits).unwrap();
+        let list: Vec<Vec<u8>> =
+            (0..random.below(5)).map(|_| generate::expression(&mut random, universe.levels())).collect();
+        let last = random.below(universe.side() as u64);
+        let first = random.below(last + 1);
+        let voxels: u64 = list.iter().map(|one| numbers_over(axes, bits, one, first, last).1[4]).sum();
+        let (mut counts, mut answer) = (vec![9; universe.side() as usize], [9; 2]);
+        assert_eq!(report(axes, bits, &list.concat(), first, last, &mut counts, &mut answer), ACCEPTED);
+        assert_eq!(answer, [last - first + 1, voxels]);
+    }
+}
+
+#[test]
 fn case_12() {
     let v = [0.0; 3];
     let mut row = [0; 5];

@@ -280,6 +280,43 @@ fn numbers(cases: &[Case], expressions: &[Vec<u8>], title: &str) {
     table.end();
 }
 
+/// A report over the middle half of the frames beside the numbers of its expressions: of one long expression, and of as
+/// many copies of a short one as a list may have, each asked for its numbers alone.
+fn reports(cases: &[Case], expressions: &[Vec<u8>], title: &str, copies: usize, symbols: std::ops::Range<usize>) {
+    println!("\n## {title}\n");
+    println!("| case | symbols | report ns | numbers ns | ratio |");
+    println!("|---|---:|---:|---:|---:|");
+    for (case, expression) in cases.iter().zip(expressions) {
+        if !symbols.contains(&expression.len()) {
+            continue;
+        }
+        let (from, to) = window(case);
+        let list = expression.repeat(copies);
+        let mut counts = vec![0; (to - from + 1) as usize];
+        let mut fields = [0; 5];
+        assert_eq!(face::numbers(case.axes, case.bits, expression, from, to, &mut fields), 0);
+        let (report, numbers) = best(
+            || {
+                let mut answer = [0; 2];
+                let number = face::report(case.axes, case.bits, black_box(&list), from, to, &mut counts, &mut answer);
+                assert_eq!((number, answer), (0, [to - from + 1, copies as u64 * fields[4]]));
+            },
+            || {
+                for expression in black_box(&list).chunks(expression.len()) {
+                    let mut answer = [0; 5];
+                    let number = face::numbers(case.axes, case.bits, expression, from, to, &mut answer);
+                    assert_eq!((number, answer), (0, fields));
+                }
+            },
+        );
+        let unit = 1e9 / list.len() as f64;
+        println!(
+            "| d {} k {} {} | {} | {:.2} | {:.2} | {:.2} |",
+            case.axes, case.bits, case.name, list.len(), report * unit, numbers * unit, report / numbers,
+        );
+    }
+}
+
 fn verdict(cases: &[Case], raws: &[Vec<u8>], title: &str, exact: bool) {
     let mut table = Table::new(title);
     for (case, raw) in cases.iter().zip(raws) {
@@ -339,6 +376,9 @@ fn main() {
     merged(&cases, &raws, &short, "Merged, room lent for exactly the symbols", true);
     numbers(&cases, &raws, "Numbers of the raw expression over the middle half of the frames (per symbol)");
     numbers(&cases, &short, "Numbers of the merged expression over the middle half of the frames (per symbol)");
+    let (long, short_ones) = (10_000..usize::MAX, 1..200);
+    reports(&cases, &raws, "A report on one long raw expression beside its numbers (per symbol)", 1, long);
+    reports(&cases, &short, "A report on 256 short merged expressions beside their numbers (per symbol)", 256, short_ones);
     verdict(&cases, &raws, "Verdict on the middle half of the frames, room lent at the formula's size", false);
     verdict(&cases, &raws, "Verdict on the middle half of the frames, room lent for exactly the symbols", true);
 }
