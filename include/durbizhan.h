@@ -138,11 +138,13 @@ uint64_t durbizhan_part(uint64_t axes, uint64_t bits,
                         const uint8_t *path, size_t path_count,
                         uint64_t answer[2]);
 
-/* The merged expression of a raw or merged one, into out. answer[0]: the length written, or needed on NO_ROOM. */
+/* The merged expression of a raw or merged one, into out. answer: the length written, or needed on NO_ROOM; and held,
+ * the most symbols that merging holds back while it receives the expression: of the merged text so far, those after its
+ * longest beginning that no legal continuation changes. It is at most twice the levels, and 0 on every refusal. */
 uint64_t durbizhan_merge(uint64_t axes, uint64_t bits,
                          const uint8_t *expression, size_t expression_count,
                          uint8_t *out, size_t out_count,
-                         uint64_t answer[1]);
+                         uint64_t answer[2]);
 
 /* Reads a scene file; its rows and the words of its two trees go to the front of the lent arrays.
  * answer: axes, bits, rows, words of tree 1, words of tree 2, first frame, last frame. A row is five numbers. */

@@ -419,6 +419,10 @@ int main(void)
     questions_at_places();
     begin("durbizhan_merge");
     questions(merge, DURBIZHAN_ACCEPTED, DURBIZHAN_NO_ROOM);
+    express(IN_HIGH);
+    lent = ROOM;
+    take(merge, DURBIZHAN_ACCEPTED);
+    expect("held of the deepest run", answer[1], 2 * LEVELS);
     end();
     scenes("durbizhan_scene", read_scene, DURBIZHAN_ACCEPTED);
     scenes("durbizhan_lines", lines, DURBIZHAN_NO_ROOM);

@@ -7,13 +7,14 @@ mod durbizhan;
 #[path = "second_opinion/src/face.rs"]
 mod face;
 
-use durbizhan::{Clearance, Numbers, Refused, Report, Universe, Verdict, Window, ACCEPTED, NO_ROOM};
+use durbizhan::{Clearance, Merged, Numbers, Refused, Report, Universe, Verdict, Window, ACCEPTED, NO_ROOM};
 
 /// The numbers that each function has.
 const ROOM: &[u64] = &[0, 2];
 const VERDICT: &[u64] = &[0, 2, 3, 4, 5, 6, 9];
 const NUMBERS: &[u64] = &[0, 2, 7, 9];
 const REPORT: &[u64] = &[0, 2, 6, 7, 9];
+const MERGE: &[u64] = &[0, 2, 6, 7];
 const LINES: &[u64] = &[0, 1, 2, 3, 4, 5, 6, 9];
 
 /// Two trees over rows, and a window.
@@ -189,6 +190,35 @@ fn reports() -> Vec<u64> {
     cases.map(|case| case.0).to_vec()
 }
 
+fn merges() -> Vec<u64> {
+    let cases: [(u64, u64, u64, &[u8], usize); 11] = [
+        (0, 2, 2, b"(B(B(B(BW", 10),
+        (0, 2, 2, b"(B(B(B(BW", 9),
+        (0, 2, 2, b"((BB(BB", 7),
+        (0, 1, 0, b"W", 1),
+        (2, 0, 2, b"(BB", 3),
+        (2, 4, 11, b"(", 0),
+        (6, 2, 2, b"(B(B(B(BW", 8),
+        (6, 2, 2, b"(BB", 0),
+        (7, 2, 2, b"", 0),
+        (7, 2, 2, b"(B(B", 4),
+        (7, 2, 2, b"BB", 0),
+    ];
+    for (wanted, axes, bits, expression, lent) in cases {
+        let [mut room, mut other_room] = [vec![b'.'; lent], vec![b'.'; lent]];
+        let mut answer = [u64::MAX; 2];
+        let number = face::merge(axes, bits, expression, &mut other_room, &mut answer);
+        let faced = match (number, answer) {
+            (ACCEPTED, [length, held]) => Ok(Merged { length: length as usize, held }),
+            (number, [needed, 0]) => Err(Refused { number, needed }),
+            _ => panic!("merge: number {number}, answer {answer:?}"),
+        };
+        let wrapped = durbizhan::merge(Universe { axes, bits }, expression, &mut room);
+        held("merge", wanted, number, (wrapped, room), (faced, other_room));
+    }
+    cases.map(|case| case.0).to_vec()
+}
+
 /// The number that the lines refuse with.
 fn number_of(lines: &[u8]) -> u64 {
     lines.strip_prefix(b"refused ").map_or(0, |rest| u64::from(rest[0] - b'0'))
@@ -210,9 +240,15 @@ fn lines() -> Vec<u64> {
 fn main() {
     leaves();
     let mut tried = 0;
-    let all =
-        [(ROOM, rooms()), (VERDICT, verdicts()), (NUMBERS, numbers()), (REPORT, reports()), (LINES, lines())];
-    for (numbers, cases) in all {
+    let tables = [
+        (ROOM, rooms()),
+        (VERDICT, verdicts()),
+        (NUMBERS, numbers()),
+        (REPORT, reports()),
+        (MERGE, merges()),
+        (LINES, lines()),
+    ];
+    for (numbers, cases) in tables {
         for number in numbers {
             assert!(cases.contains(number), "number {number} is not tried, of {numbers:?}");
         }

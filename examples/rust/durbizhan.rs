@@ -46,6 +46,16 @@ mod face {
             answer: *mut [u64; 2],
         ) -> u64;
 
+        pub fn durbizhan_merge(
+            axes: u64,
+            bits: u64,
+            expression: *const u8,
+            expression_count: usize,
+            out: *mut u8,
+            out_count: usize,
+            answer: *mut [u64; 2],
+        ) -> u64;
+
         pub fn durbizhan_lines(scene: *const u8, scene_count: usize, out: *mut [u8; 256]) -> u64;
     }
 }
@@ -86,6 +96,14 @@ pub struct Numbers {
 pub struct Report {
     pub frames: usize,
     pub total: u64,
+}
+
+/// The length of the merged expression that was written, and the most symbols that are held back while the expression is
+/// received.
+#[derive(Debug, PartialEq)]
+pub struct Merged {
+    pub length: usize,
+    pub held: u64,
 }
 
 /// Axes and bits.
@@ -202,6 +220,27 @@ pub fn report(
         return Err(Refused { number, needed: frames });
     }
     Ok(Report { frames: frames as usize, total })
+}
+
+/// The merged expression of an expression, written at the front of `out`.
+pub fn merge(universe: Universe, expression: &[u8], out: &mut [u8]) -> Result<Merged, Refused> {
+    let mut answer = [0; 2];
+    let number = unsafe {
+        face::durbizhan_merge(
+            universe.axes,
+            universe.bits,
+            expression.as_ptr(),
+            expression.len(),
+            out.as_mut_ptr(),
+            out.len(),
+            &mut answer,
+        )
+    };
+    let [length, held] = answer;
+    if number != ACCEPTED {
+        return Err(Refused { number, needed: length });
+    }
+    Ok(Merged { length: length as usize, held })
 }
 
 /// The lines that the program prints for a scene file; a refusal is the one line `refused n`.

@@ -1,5 +1,5 @@
--- What laying a merged tree into room tells and leaves. A leaf is held back until it is known that it does not merge with its brother, so that nothing
--- is written in vain: the two parts, `(` and the two leaves that were held back make the whole (`parts-laid`).
+-- What laying a merged tree into room tells and leaves. A leaf waits until it is known that it does not merge with its brother, so that nothing is
+-- written in vain: the two parts, `(` and the two leaves that waited make the whole (`parts-laid`).
 use mathlib.Core.Path.{_≡_, refl, sym, ap, _∙_}
 use mathlib.Core.Bool.{Bool, true, false}
 use mathlib.Core.List.{List}
@@ -18,7 +18,7 @@ use Rattle.bintree.specs.declared.lay.Laid.the-variants.{Done, Unread}
 use Rattle.bintree.specs.Shape.{Shape, leaf, halved, openSymbol, symbolOf, symbols, size}
 use Rattle.bintree.specs.Reading.{Reading, none, read, readAt}
 use Rattle.bintree.specs.Merging.{merged, isPair}
-use Rattle.bintree.specs.Walks.{heldOf, isAlike, noted, joinedHalves, laid, layAnswer, Lays}
+use Rattle.bintree.specs.Walks.{leafSymbol, isAlike, noted, joinedHalves, laid, layAnswer, Lays}
 use Rattle.bintree.proofs.Shape.{length-symbols, size-positive, symbol-not-zero}
 use Rattle.bintree.proofs.Reading.{leaf-at, other-at, end-at, deep-at, low-missing, high-missing, both-read}
 use Rattle.bintree.proofs.Merging.{Joined, one, two, joined, join-apart, merged-size}
@@ -79,15 +79,15 @@ pub ruleset copy-laws = (
   copying-place,
 )
 
--- ---- what is held back, and the merged shape of two parts by it
+-- ---- a leaf's symbol, and the merged shape of two parts by theirs
 
-held-pair : (a b : Shape) → isAlike (heldOf a) (heldOf b) ≡ isPair a b
-unfolding heldOf isAlike isPair
-held-pair (leaf Black) (leaf d) = refl
-held-pair (leaf White) (leaf d) = refl
-held-pair (leaf Black) (halved x y) = refl
-held-pair (leaf White) (halved x y) = refl
-held-pair (halved x y) b = refl
+symbol-pair : (a b : Shape) → isAlike (leafSymbol a) (leafSymbol b) ≡ isPair a b
+unfolding leafSymbol isAlike isPair
+symbol-pair (leaf Black) (leaf d) = refl
+symbol-pair (leaf White) (leaf d) = refl
+symbol-pair (leaf Black) (halved x y) = refl
+symbol-pair (leaf White) (halved x y) = refl
+symbol-pair (halved x y) b = refl
 
 alike-same : {a b j : Shape} → Joined a b j → isPair a b ≡ true → (c : Colour) × (a ≡ leaf c) × (b ≡ leaf c) × (j ≡ leaf c)
 alike-same (one c) e = (c, refl, refl, refl)
@@ -95,18 +95,18 @@ alike-same (two f) e = let z : _≡_ {A = ℕ} 0 1 = cc in absurd (omega arith)
 
 module _ (l r : Shape) where
   pub merged-same :
-      isAlike (heldOf (merged l)) (heldOf (merged r)) ≡ true → (c : Colour) × (merged l ≡ leaf c) × (merged r ≡ leaf c) × (merged (halved l r) ≡ leaf c)
+      isAlike (leafSymbol (merged l)) (leafSymbol (merged r)) ≡ true → (c : Colour) × (merged l ≡ leaf c) × (merged r ≡ leaf c) × (merged (halved l r) ≡ leaf c)
   unfolding merged
-  merged-same e = alike-same (joined (merged l) (merged r)) (sym (held-pair (merged l) (merged r)) ∙ e)
+  merged-same e = alike-same (joined (merged l) (merged r)) (sym (symbol-pair (merged l) (merged r)) ∙ e)
 
-  pub merged-apart : isAlike (heldOf (merged l)) (heldOf (merged r)) ≡ false → merged (halved l r) ≡ halved (merged l) (merged r)
+  pub merged-apart : isAlike (leafSymbol (merged l)) (leafSymbol (merged r)) ≡ false → merged (halved l r) ≡ halved (merged l) (merged r)
   unfolding merged
-  merged-apart e = join-apart (joined (merged l) (merged r)) (sym (held-pair (merged l) (merged r)) ∙ e)
+  merged-apart e = join-apart (joined (merged l) (merged r)) (sym (symbol-pair (merged l) (merged r)) ∙ e)
 
--- ---- the two parts, `(` and the two leaves that were held back make the whole
+-- ---- the two parts, `(` and the two leaves that waited make the whole
 
-pub laid-noted : (o : List ℕ) (t : ℕ) (a : Shape) → noted (laid o t a) t (heldOf a) ≡ sets o t (symbols a)
-unfolding laid heldOf symbols
+pub laid-noted : (o : List ℕ) (t : ℕ) (a : Shape) → noted (laid o t a) t (leafSymbol a) ≡ sets o t (symbols a)
+unfolding laid leafSymbol symbols
 laid-noted o t (leaf c) = sym (noted-some o t (symbolOf c) (symbol-not-zero c))
 laid-noted o t (halved a b) = sym (noted-none (sets o t (symbols (halved a b))) t 0 refl)
 
@@ -124,7 +124,7 @@ noted-laid o i t x a h = go (ℕ-discrete x 0)
 
 parts-laid :
     (o : List ℕ) (t : ℕ) (a b : Shape) →
-    joinedHalves (laid (laid o (t + 1) a) (t + 1 + size a) b) t (heldOf a) (t + 1 + size a) (heldOf b) ≡ sets o t (symbols (halved a b))
+    joinedHalves (laid (laid o (t + 1) a) (t + 1 + size a) b) t (leafSymbol a) (t + 1 + size a) (leafSymbol b) ≡ sets o t (symbols (halved a b))
 unfolding joinedHalves symbols
 parts-laid o t a b =
     let d : t + 1 + size a ≡ suc t + length (symbols a) = omega (arith, length-symbols a) in
@@ -134,11 +134,11 @@ parts-laid o t a b =
     let i : t < t + 1 = omega arith in
     let w : noted o t openSymbol ≡ set o t openSymbol = sym (noted-some o t openSymbol (λ z. omega arith)) in
     let m = t + 1 + size a in
-    ap (λ z. noted (noted z (t + 1) (heldOf a)) m (heldOf b)) (noted-laid (laid o (t + 1) a) t m openSymbol b k)
-    ∙ ap (λ z. noted (noted (laid z m b) (t + 1) (heldOf a)) m (heldOf b)) (noted-laid o t (t + 1) openSymbol a i)
-    ∙ ap (λ z. noted (noted (laid (laid z (t + 1) a) m b) (t + 1) (heldOf a)) m (heldOf b)) w
-    ∙ ap (λ z. noted z m (heldOf b)) (noted-laid (laid (set o t openSymbol) (t + 1) a) (t + 1) m (heldOf a) b j)
-    ∙ ap (λ z. noted (laid z m b) m (heldOf b)) (laid-noted (set o t openSymbol) (t + 1) a)
+    ap (λ z. noted (noted z (t + 1) (leafSymbol a)) m (leafSymbol b)) (noted-laid (laid o (t + 1) a) t m openSymbol b k)
+    ∙ ap (λ z. noted (noted (laid z m b) (t + 1) (leafSymbol a)) m (leafSymbol b)) (noted-laid o t (t + 1) openSymbol a i)
+    ∙ ap (λ z. noted (noted (laid (laid z (t + 1) a) m b) (t + 1) (leafSymbol a)) m (leafSymbol b)) w
+    ∙ ap (λ z. noted z m (leafSymbol b)) (noted-laid (laid (set o t openSymbol) (t + 1) a) (t + 1) m (leafSymbol a) b j)
+    ∙ ap (λ z. noted (laid z m b) m (leafSymbol b)) (laid-noted (set o t openSymbol) (t + 1) a)
     ∙ laid-noted (sets (set o t openSymbol) (t + 1) (symbols a)) (t + 1 + size a) b
     ∙ rw (d, e) (sets-append (symbols a) (symbols b) (set o t openSymbol) (suc t))
 
@@ -148,7 +148,7 @@ leaf-laid o t c e = rw e
 
 -- the room after both parts and `join_halves`, where they stay apart
 pub apart-laid :
-    (o o₁ o₂ o₃ : List ℕ) (t d x y : ℕ) (a b : Shape) → o₁ ≡ laid o (t + 1) a → o₂ ≡ laid o₁ d b → d ≡ t + 1 + size a → x ≡ heldOf a → y ≡ heldOf b →
+    (o o₁ o₂ o₃ : List ℕ) (t d x y : ℕ) (a b : Shape) → o₁ ≡ laid o (t + 1) a → o₂ ≡ laid o₁ d b → d ≡ t + 1 + size a → x ≡ leafSymbol a → y ≡ leafSymbol b →
     o₃ ≡ joinedHalves o₂ t x d y → o₃ ≡ laid o t (halved a b)
 unfolding laid
 apart-laid o o₁ o₂ o₃ t d x y a b e f g h i j = rw (j, f, e, g, h, i) (parts-laid o t a b)
@@ -163,7 +163,7 @@ unfolding layAnswer
 lays-none p t o o′ e = record { tells = rw e; leaves = λ a f. absurd (no-shape e f) }
 
 lays-leaf : (p t : ℕ) (o : List ℕ) (c : Colour) {x : Reading} → x ≡ read (leaf c) → Lays p t o x (Done (p + 1) (symbolOf c) (t + 1)) o
-unfolding layAnswer merged heldOf size laid
+unfolding layAnswer merged leafSymbol size laid
 lays-leaf p t o c {x} e = record { tells = rw e; leaves = λ a f. let g : a ≡ leaf c = cc in sym (ap (λ z. laid o t (merged z)) g) }
 
 pub unread-none : (p t : ℕ) (x : Reading) → Unread ≡ layAnswer p t x → x ≡ none
@@ -175,17 +175,17 @@ pub record Laying (p t q h d : ℕ) (x : Reading) : Type 0 where
   pub shape : Shape
   pub is : x ≡ read shape
   pub after : q ≡ p + size shape
-  pub held : h ≡ heldOf (merged shape)
+  pub symbol : h ≡ leafSymbol (merged shape)
   pub end : d ≡ t + size (merged shape)
 
 pub laying : (p t q h d : ℕ) (x : Reading) → Done q h d ≡ layAnswer p t x → Laying p t q h d x
 unfolding layAnswer
 laying p t q h d none w = let z : _≡_ {A = ℕ} 0 1 = cc in absurd (omega arith)
-laying p t q h d (read a) w = record { shape = a; is = refl; after = (cc); held = (cc); end = (cc) }
+laying p t q h d (read a) w = record { shape = a; is = refl; after = (cc); symbol = (cc); end = (cc) }
 
 -- an answer for a halved shape, from its fields
 lays-halved :
-    (p t q h d : ℕ) (o o′ : List ℕ) (a : Shape) {x : Reading} → x ≡ read a → q ≡ p + size a → h ≡ heldOf (merged a) → d ≡ t + size (merged a) →
+    (p t q h d : ℕ) (o o′ : List ℕ) (a : Shape) {x : Reading} → x ≡ read a → q ≡ p + size a → h ≡ leafSymbol (merged a) → d ≡ t + size (merged a) →
     o′ ≡ laid o t (merged a) → Lays p t o x (Done q h d) o′
 unfolding layAnswer
 lays-halved p t q h d o o′ a {x} e f g i j = record { tells = rw (e, f, g, i); leaves = λ b k. let m : a ≡ b = cc in j ∙ ap (λ z. laid o t (merged z)) m }
@@ -218,7 +218,7 @@ module _ (s : List ℕ) (n p t : ℕ) (o : List ℕ) where
     low-laid : Laying (p + 1) (t + 1) q x d (readAt s (n - 1) (p + 1))
     low-laid = laying (p + 1) (t + 1) q x d (readAt s (n - 1) (p + 1)) (sym g ∙ w .tells)
 
-    -- what is written or held back is no longer than what was read, and goes on
+    -- what is written or waits is no longer than what was read, and goes on
     pub lay-shorter : t ≤ p → d ≤ q
     lay-shorter h = let l = low-laid in omega (arith, l .after, l .end, merged-size (l .shape))
 
@@ -244,8 +244,8 @@ module _ (s : List ℕ) (n p t : ℕ) (o : List ℕ) where
         unfolding size
         whole-after = omega (arith, low-laid .after, high-laid .after)
 
-        test : (f b : Bool) → f ≡ isAlike x y → f ≡ b → isAlike (heldOf (merged (low-laid .shape))) (heldOf (merged (high-laid .shape))) ≡ b
-        test f b i k = rw (← low-laid .held, ← high-laid .held) (sym i ∙ k)
+        test : (f b : Bool) → f ≡ isAlike x y → f ≡ b → isAlike (leafSymbol (merged (low-laid .shape))) (leafSymbol (merged (high-laid .shape))) ≡ b
+        test f b i k = rw (← low-laid .symbol, ← high-laid .symbol) (sym i ∙ k)
 
         pub lay-alike : (f : Bool) → f ≡ isAlike x y → f ≡ true → Lays p t o (readAt s n p) (Done q′ x (t + 1)) o₂
         unfolding size
@@ -254,7 +254,7 @@ module _ (s : List ℕ) (n p t : ℕ) (o : List ℕ) where
             let b = high-laid .shape in
             let m = merged-same a b (test f true i k) in
             lays-halved p t q′ x (t + 1) o o₂ (halved a b) whole whole-after
-            (low-laid .held ∙ ap heldOf (m .1 ∙ sym (m .3)))
+            (low-laid .symbol ∙ ap leafSymbol (m .1 ∙ sym (m .3)))
             (ap (λ z. t + size z) (sym (m .3)))
             (v .leaves b (high-laid .is)
             ∙ leaf-laid o₁ d (m .0) (m .2)
@@ -263,16 +263,16 @@ module _ (s : List ℕ) (n p t : ℕ) (o : List ℕ) where
             ∙ sym (leaf-laid o t (m .0) (m .3)))
 
         pub lay-apart : (f : Bool) (o₃ : List ℕ) → f ≡ isAlike x y → f ≡ false → o₃ ≡ joinedHalves o₂ t x d y → Lays p t o (readAt s n p) (Done q′ 0 d′) o₃
-        unfolding size heldOf
+        unfolding size leafSymbol
         lay-apart f o₃ i k j =
             let a = low-laid .shape in
             let b = high-laid .shape in
             let m = merged-apart a b (test f false i k) in
             lays-halved p t q′ 0 d′ o o₃ (halved a b) whole whole-after
-            (sym (ap heldOf m))
+            (sym (ap leafSymbol m))
             (omega (arith, low-laid .end, high-laid .end, ap size m))
-            (apart-laid o o₁ o₂ o₃ t d x y (merged a) (merged b) (w .leaves a (low-laid .is)) (v .leaves b (high-laid .is)) (low-laid .end) (low-laid .held)
-            (high-laid .held) j
+            (apart-laid o o₁ o₂ o₃ t d x y (merged a) (merged b) (w .leaves a (low-laid .is)) (v .leaves b (high-laid .is)) (low-laid .end) (low-laid .symbol)
+            (high-laid .symbol) j
             ∙ ap (laid o t) (sym m))
 
 -- a place within has a next one, and so has one that is not past it

@@ -1,5 +1,5 @@
 -- Laws of the definitions, one file for each; then those of the functions, by module of src/ (Owed: walk.rt and window.rt, Walks: walk.rt, Voxels:
--- voxel.rt, Lays and Merges: lay.rt, Places: place.rt, Frames, Watches, Watching and WindowAnswers: window.rt).
+-- voxel.rt, Lays and Merges: lay.rt, Measures: measure.rt, Places: place.rt, Frames, Watches, Watching and WindowAnswers: window.rt).
 pub mod Shape
 pub mod Reading
 pub mod Answers
@@ -12,6 +12,7 @@ pub mod Owed
 pub mod Walks
 pub mod Voxels
 pub mod Lays
+pub mod Measures
 pub mod Merges
 pub mod Places
 pub mod Frames

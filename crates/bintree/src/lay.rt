@@ -5,19 +5,21 @@ ghost use lib.Seq.{sets};
 ghost use Rattle.bintree.specs.Reading.{readAt};
 ghost use Rattle.bintree.specs.Walks.{isAlike, noted, joinedHalves, Lays};
 ghost use Rattle.bintree.specs.Merging.{mergeAnswer, mergeBuffer};
-use crate::Written;
+use crate::Merged;
+use crate::measure::Measured;
+use crate::measure::measure;
 use crate::window::lesser;
 use universe::Universe;
 use universe::refusals;
 
-// What laying one merged tree tells: the place after the tree, the symbol of a merged tree that is one leaf (it is held
-// back) or else 0 (all is written), and the place after what is written or held back; or that there is no tree.
+// What laying one merged tree tells: the place after the tree, the symbol of a merged tree that is one leaf (it waits
+// for its brother) or else 0 (all is written), and the place after the merged tree; or that there is no tree.
 pub(crate) enum Laid {
     Done(usize, u8, usize),
     Unread,
 }
 
-// Whether two merged parts, by what is held back of them, are leaves of one colour.
+// Whether two merged parts, by their symbols, are leaves of one colour.
 pub fn is_alike(low: u8, high: u8) -> bool
     ensures { λ r. ⌜ r ≡ isAlike low high ⌝ }
 {
@@ -27,7 +29,7 @@ pub fn is_alike(low: u8, high: u8) -> bool
     low == high
 }
 
-// Writes a symbol that was held back, where there is one and room for it.
+// Writes a leaf's symbol that waited for its brother, where there is one and room for it.
 pub fn note(out: &mut [u8], at: usize, symbol: u8)
     ensures { λ _. ⌜ now (out .exit) ≡ noted (now (out .entry)) at symbol ⌝ }
 {
@@ -47,7 +49,7 @@ fn note_next(out: &mut [u8], at: usize, symbol: u8)
     }
 }
 
-// Writes `(` at `to` and what was held back of the two parts behind it, as far as there is room.
+// Writes `(` at `to` and the two parts behind it that are leaves, as far as there is room.
 pub fn join_halves(out: &mut [u8], to: usize, low: u8, middle: usize, high: u8)
     ensures { λ _. ⌜ now (out .exit) ≡ joinedHalves (now (out .entry)) to low middle high ⌝ }
 {
@@ -108,29 +110,28 @@ fn lay(expression: &[u8], at: usize, left: u64, out: &mut [u8], to: usize) -> La
 }
 
 // Writes the merged expression into `out`, or, where it is refused or does not fit, nothing.
-pub fn merge(universe: Universe, expression: &[u8], out: &mut [u8]) -> Written
+pub fn merge(universe: Universe, expression: &[u8], out: &mut [u8]) -> Merged
     ensures { λ r. ⌜ r ≡ mergeAnswer universe (now (expression .entry)) (now (out .entry)) ⌝ }
     ensures { λ _. ⌜ now (out .exit) ≡ mergeBuffer universe (now (expression .entry)) (now (out .entry)) ⌝ }
 {
     let refusal = universe.refusal();
     if refusal != 0 {
-        return Written::refused(refusal);
+        return Merged::refused(refusal);
     }
     let levels = universe.levels();
-    let mut nothing = [0u8; 0];
-    match lay(expression, 0, levels, &mut nothing, 0) {
-        Laid::Done(after, symbol, length) => {
+    match measure(expression, 0, levels, 0, 0, 0) {
+        Measured::Whole(after, symbol, length, held) => {
             if after == expression.len() {
                 if out.len() < length {
-                    return Written::short(length as u64);
+                    return Merged::short(length as u64);
                 }
                 lay(expression, 0, levels, out, 0);
                 note(out, 0, symbol);
-                Written::done(length as u64)
+                Merged::done(length as u64, held)
             } else {
-                Written::refused(refusals::BAD_EXPRESSION)
+                Merged::refused(refusals::BAD_EXPRESSION)
             }
         }
-        Laid::Unread => Written::refused(refusals::BAD_EXPRESSION),
+        Measured::Broken => Merged::refused(refusals::BAD_EXPRESSION),
     }
 }

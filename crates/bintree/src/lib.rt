@@ -1,5 +1,6 @@
 // Expressions: what their symbols say.
 mod lay;
+mod measure;
 mod place;
 mod voxel;
 mod walk;
@@ -19,6 +20,7 @@ pub use walk::well_formed;
 pub use window::numbers_of;
 ghost use mathlib.Core.Path.{_≡_};
 ghost use Rattle.bintree.specs.Answers.{refusedWriting, shortWriting, doneWriting};
+ghost use Rattle.bintree.specs.Merging.{refusedMerging, shortMerging, doneMerging};
 ghost use Rattle.bintree.specs.Parts.{refusedColour, doneColour, refusedPlace, donePlace};
 ghost use Rattle.bintree.specs.Verdicts.{refusedNumbers, doneNumbers};
 
@@ -77,6 +79,46 @@ impl Written {
         Written {
             refusal: 0,
             length: length,
+        }
+    }
+}
+
+// What `merge` answers: 0, the length written and the largest count of symbols that are held back; 6, the length needed
+// and 0; or another refusal, 0 and 0.
+pub struct Merged {
+    pub refusal: u64,
+    pub length: u64,
+    pub held: u64,
+}
+
+impl Merged {
+    pub(crate) fn refused(number: u64) -> Merged
+        ensures { λ r. ⌜ r ≡ refusedMerging number ⌝ }
+    {
+        Merged {
+            refusal: number,
+            length: 0,
+            held: 0,
+        }
+    }
+
+    pub(crate) fn short(needed: u64) -> Merged
+        ensures { λ r. ⌜ r ≡ shortMerging needed ⌝ }
+    {
+        Merged {
+            refusal: universe::refusals::NO_ROOM,
+            length: needed,
+            held: 0,
+        }
+    }
+
+    pub(crate) fn done(length: u64, held: u64) -> Merged
+        ensures { λ r. ⌜ r ≡ doneMerging length held ⌝ }
+    {
+        Merged {
+            refusal: 0,
+            length: length,
+            held: held,
         }
     }
 }

@@ -38,7 +38,7 @@ pub(crate) fn lesser(a: u64, b: u64) -> u64
 }
 
 // The greater of two numbers.
-fn greater(a: u64, b: u64) -> u64
+pub(crate) fn greater(a: u64, b: u64) -> u64
     ensures { λ r. ⌜ r ≡ max a b ⌝ }
 {
     if a < b { b } else { a }

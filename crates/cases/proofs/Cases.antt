@@ -18,7 +18,7 @@ use Rattle.universe.proofs.EqualBits.{levels-product}
 use Rattle.bintree.specs.Shape.{symbols, size}
 use Rattle.bintree.specs.Reading.{readLeaf, withHigh, readHalves, readAt, exactly, expression, expressionRefusal}
 use Rattle.bintree.specs.Answers.{doneWriting, writtenAnswer, writtenBuffer}
-use Rattle.bintree.specs.Merging.{join, merged, mergeAnswer, mergeBuffer}
+use Rattle.bintree.specs.Merging.{join, merged, isPair, onward, heldIn, heldAfter, largest, mostHeld, mergeAnswer, mergeBuffer}
 use Rattle.bintree.specs.Parts.{part, colourAt, colourAnswer}
 use Rattle.bintree.specs.Counts.{volumeFrom, voxelsFrom}
 use Rattle.bintree.specs.Verdicts.{firstFrame, lastFrame, voxelsIn, verdict, numbersAnswer}
@@ -41,7 +41,8 @@ unfolding
     sum total product every overwritten
     round rounds universeRefusal bitsAlong levels order axisAt halvings blocksAlong blockSide
     voxelRefusal windowRefusal pathFrom blocksAt innerBlocksAt levelCount room roomAnswer
-    symbols size readLeaf withHigh readHalves readAt exactly expression expressionRefusal writtenAnswer writtenBuffer join merged mergeAnswer mergeBuffer
+    symbols size readLeaf withHigh readHalves readAt exactly expression expressionRefusal writtenAnswer writtenBuffer join merged
+    isPair onward heldIn heldAfter largest mostHeld mergeAnswer mergeBuffer
     part colourAt colourAnswer volumeFrom voxelsFrom firstFrame lastFrame voxelsIn verdict numbersAnswer
     withinLimits rowsRefusal centreValue colourAtCentre least greatest markOver plain reversal
     meaning step finish run parse treeRefusal treeOf halfspaceWords

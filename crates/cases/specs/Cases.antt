@@ -18,8 +18,9 @@ use Rattle.bintree.specs.declared.Coloured.{Coloured}
 use Rattle.bintree.specs.declared.Verdict.{Verdict}
 use Rattle.bintree.specs.declared.Verdict.the-variants.{Clear, Hit}
 use Rattle.bintree.specs.declared.Written.{Written}
+use Rattle.bintree.specs.declared.Merged.{Merged}
 use Rattle.bintree.specs.Answers.{wellFormedRefusal, doneWriting}
-use Rattle.bintree.specs.Merging.{mergeAnswer, mergeBuffer}
+use Rattle.bintree.specs.Merging.{mergeAnswer, mergeBuffer, doneMerging, shortMerging}
 use Rattle.bintree.specs.Parts.{colourAnswer, doneColour}
 use Rattle.bintree.specs.Verdicts.{numbersAnswer}
 use Rattle.csg.specs.Halfspace.{rowAt, centreValue}
@@ -113,6 +114,7 @@ pub data Value : Type 0 where
   room : RoomAnswer → Value
   coloured : Coloured → Value
   written : Written → List ℕ → Value
+  merging : Merged → List ℕ → Value
   judged : Clearance → List ℕ → Value
 
 pub record Case : Type 0 where
@@ -157,9 +159,12 @@ treeAt s v = colour (treeColour (s .surfaces) square (treeOf (named (s .surfaces
 abbrev pub expressionAt : Scene → List ℕ → Value
 expressionAt s v = coloured (colourAnswer square (expressionOf s) v)
 
--- what merging a quoted expression comes to
+-- what merging a quoted expression into room comes to
+abbrev pub mergingInto : List ℕ → String → Value
+mergingInto out s = merging (mergeAnswer square (text s) out) (mergeBuffer square (text s) out)
+
 abbrev pub mergingOf : String → Value
-mergingOf s = written (mergeAnswer square (text s) (roomFor 1)) (mergeBuffer square (text s) (roomFor 1))
+mergingOf = mergingInto (roomFor 1)
 
 -- the two strips, converted and judged over a window
 abbrev pub stripsRoom : List ℕ
@@ -183,6 +188,10 @@ front symbols zeros = text symbols ++ replicate zeros 0
 
 abbrev pub writes : ℕ → String → ℕ → Value
 writes length symbols zeros = written (doneWriting length) (front symbols zeros)
+
+-- so many symbols, of which so many are held back at most
+abbrev pub merges : ℕ → ℕ → String → ℕ → Value
+merges length held symbols zeros = merging (doneMerging length held) (front symbols zeros)
 
 -- a verdict on the two strips, whose raw expression is always the same
 abbrev pub verdictIs : Verdict → Value
@@ -235,7 +244,7 @@ closed =
     ∷ (room (roomAnswer (universe 2 1) 1) is room (doneRoom 7))
     -- 9
     ∷ (number (wellFormedRefusal square (text "(BB")) is number 0)
-    ∷ (mergingOf "(BB" is writes 1 "B" 22)
+    ∷ (mergingOf "(BB" is merges 1 2 "B" 22)
     ∷ (number (wellFormedRefusal square []) is number 7)
     ∷ (number (wellFormedRefusal square (text "(B")) is number 7)
     ∷ (number (wellFormedRefusal square (text "BB")) is number 7)
@@ -245,6 +254,15 @@ closed =
     ∷ (wordRefusal 1000 600 is number 4)
     ∷ (wordRefusal 256 511 is number 0)
     ∷ (wordRefusal 255 511 is number 4)
+    -- what merging holds back: none of one symbol, twice the levels at most, a run of either colour; and none on 6
+    ∷ (mergingOf "W" is merges 1 0 "W" 22)
+    ∷ (mergingOf "(B(B(B(BW" is merges 9 8 "(B(B(B(BW" 14)
+    ∷ (mergingOf "(W(W(W(WB" is merges 9 8 "(W(W(W(WB" 14)
+    ∷ (mergingOf "(B(WB" is merges 5 3 "(B(WB" 18)
+    ∷ (mergingOf "((BW(BB" is merges 5 3 "((BWB" 18)
+    ∷ (mergingOf "(W((WWB" is merges 5 5 "(W(WB" 18)
+    ∷ (mergingOf "(((WWW(BW" is merges 5 4 "(W(BW" 18)
+    ∷ (mergingInto [] "(B(B(B(BW" is merging (shortMerging 9) [])
     ∷ []
 
 -- 6: where no word names a halfspace, room is 1, in every universe

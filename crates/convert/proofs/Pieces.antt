@@ -11,7 +11,7 @@ use Rattle.lemmas.proofs.Stores.{restored}
 use Rattle.universe.specs.declared.Universe.{Universe}
 use Rattle.bintree.specs.declared.Colour.the-variants.{White, Black}
 use Rattle.bintree.specs.Shape.{Shape, leaf, halved, size}
-use Rattle.bintree.specs.Walks.{heldOf, isAlike, joinedHalves, laid}
+use Rattle.bintree.specs.Walks.{leafSymbol, isAlike, joinedHalves, laid}
 use Rattle.bintree.proofs.Lays.{leaf-laid, apart-laid}
 use Rattle.csg.specs.Surfaces.{Surfaces}
 use Rattle.convert.specs.declared.lay.Piece.{Piece}
@@ -25,8 +25,8 @@ piece-eq : {a b e f : ℕ} → a ≡ b → e ≡ f → _≡_ {A = Piece} (record
 piece-eq p q = λ i. record { held = p i; end = q i }
 
 -- ---- a piece as one number, and back
-held-byte : (s : Shape) → heldOf s < heldUnit
-unfolding heldOf
+held-byte : (s : Shape) → leafSymbol s < heldUnit
+unfolding leafSymbol
 held-byte (leaf Black) = omega arith
 held-byte (leaf White) = omega arith
 held-byte (halved a b) = omega arith
@@ -62,7 +62,7 @@ pub piece-closed : {u : Universe} {surfaces : Surfaces} {first second : List ℕ
     x ≡ bitsOf (judged surfaces (treesOf surfaces first second) left (blockLeft u left low)) → (x ≡ 0 → ⊥) → y ≡ symbolOfBits x → (out : List ℕ) (at : ℕ) →
     (_≡_ {A = Piece} (record { held = y; end = at + 1 }) (pieceOf at (laidShape m u surfaces first second left low)))
     × (out ≡ laid out at (laidShape m u surfaces first second left low))
-unfolding heldOf size laid
+unfolding leafSymbol size laid
 piece-closed r m left low {x} e n y out at =
     let w = closed r left low x e n in
     rw (w .1, shaped-leaf m (w .0)) (piece-eq (y ∙ w .2) refl, refl)
@@ -107,7 +107,7 @@ module _ {u : Universe} {surfaces : Surfaces} {first second axes : List ℕ} {le
     module _ (out one two : List ℕ) {above : Piece} (q : one ≡ laid out (at + 1) (shaped m low-part))
         (r : above ≡ pieceOf (below .end) (laidShape m u surfaces first second (left - 1) high-low))
         (s : two ≡ laid one (below .end) (laidShape m u surfaces first second (left - 1) high-low)) where
-      low-held : below .held ≡ heldOf (shaped m low-part)
+      low-held : below .held ≡ leafSymbol (shaped m low-part)
       low-held = ap (λ (x : Piece). x .held) p
 
       low-end : below .end ≡ at + 1 + size (shaped m low-part)
@@ -119,28 +119,28 @@ module _ {u : Universe} {surfaces : Surfaces} {first second axes : List ℕ} {le
       two-is : two ≡ laid one (below .end) (shaped m high-part)
       two-is = rw high-lows at s
 
-      high-held : above .held ≡ heldOf (shaped m high-part)
+      high-held : above .held ≡ leafSymbol (shaped m high-part)
       high-held = ap (λ (x : Piece). x .held) above-is
 
       high-end : above .end ≡ below .end + size (shaped m high-part)
       high-end = ap (λ (x : Piece). x .end) above-is
 
-      one-is : {f : Bool} → f ≡ isOne m (below .held) (above .held) → f ≡ isOne m (heldOf (shaped m low-part)) (heldOf (shaped m high-part))
+      one-is : {f : Bool} → f ≡ isOne m (below .held) (above .held) → f ≡ isOne m (leafSymbol (shaped m low-part)) (leafSymbol (shaped m high-part))
       one-is e = rw (low-held, high-held) at e
 
       alike : true ≡ isOne m (below .held) (above .held) →
           (_≡_ {A = Piece} (record { held = below .held; end = at + 1 }) (pieceOf at whole)) × (two ≡ laid out at whole)
-      unfolding isOne heldOf size
+      unfolding isOne leafSymbol size
       alike e =
           let w = shaped-one m low-part high-part (sym (one-is e)) in
           let n : whole ≡ leaf (w .0) = whole-is ∙ w .3 in (
-            piece-eq (low-held ∙ ap heldOf (w .1) ∙ sym (ap heldOf n)) (sym (ap (λ (x : Shape). at + size x) n)),
+            piece-eq (low-held ∙ ap leafSymbol (w .1) ∙ sym (ap leafSymbol n)) (sym (ap (λ (x : Shape). at + size x) n)),
             two-is ∙ leaf-laid one (below .end) (w .0) (w .2) ∙ q ∙ leaf-laid out (at + 1) (w .0) (w .1) ∙ sym (leaf-laid out at (w .0) n),
           )
 
       apart : {three : List ℕ} → false ≡ isOne m (below .held) (above .held) → three ≡ joinedHalves two at (below .held) (below .end) (above .held) →
           (_≡_ {A = Piece} (record { held = 0; end = above .end }) (pieceOf at whole)) × (three ≡ laid out at whole)
-      unfolding isOne heldOf size
+      unfolding isOne leafSymbol size
       apart {three} e j =
           let n : whole ≡ halved (shaped m low-part) (shaped m high-part) = whole-is ∙ shaped-apart m low-part high-part (sym (one-is e)) in
           let f : above .end ≡ at + suc (size (shaped m low-part) + size (shaped m high-part)) = omega (arith, low-end, high-end) in

@@ -14,7 +14,7 @@ use Rattle.bintree.specs.declared.Colour.{Colour}
 use Rattle.bintree.specs.declared.Colour.the-variants.{White, Black}
 use Rattle.bintree.specs.Shape.{Shape, leaf, halved, size, depth, symbolOf}
 use Rattle.bintree.specs.Merging.{merged}
-use Rattle.bintree.specs.Walks.{heldOf, isAlike}
+use Rattle.bintree.specs.Walks.{leafSymbol, isAlike}
 use Rattle.bintree.proofs.Shape.{size-positive}
 use Rattle.bintree.proofs.Merging.{merged-size}
 use Rattle.bintree.proofs.Lays.{merged-same, merged-apart}
@@ -42,21 +42,21 @@ shaped-size true s = merged-size s
 shaped-size false s = le-refl (size s)
 
 module _ (m : Bool) (a b : Shape) where
-  pub shaped-one : m && isAlike (heldOf (shaped m a)) (heldOf (shaped m b)) ≡ true →
+  pub shaped-one : m && isAlike (leafSymbol (shaped m a)) (leafSymbol (shaped m b)) ≡ true →
       (c : Colour) × (shaped m a ≡ leaf c) × (shaped m b ≡ leaf c) × (shaped m (halved a b) ≡ leaf c)
   unfolding shaped
   shaped-one = by m
     where
-      by : (n : Bool) → n && isAlike (heldOf (shaped n a)) (heldOf (shaped n b)) ≡ true →
+      by : (n : Bool) → n && isAlike (leafSymbol (shaped n a)) (leafSymbol (shaped n b)) ≡ true →
           (c : Colour) × (shaped n a ≡ leaf c) × (shaped n b ≡ leaf c) × (shaped n (halved a b) ≡ leaf c)
       by true e = merged-same a b e
       by false e = let z : _≡_ {A = ℕ} 0 1 = cc in absurd (omega arith)
 
-  pub shaped-apart : m && isAlike (heldOf (shaped m a)) (heldOf (shaped m b)) ≡ false → shaped m (halved a b) ≡ halved (shaped m a) (shaped m b)
+  pub shaped-apart : m && isAlike (leafSymbol (shaped m a)) (leafSymbol (shaped m b)) ≡ false → shaped m (halved a b) ≡ halved (shaped m a) (shaped m b)
   unfolding shaped
   shaped-apart = by m
     where
-      by : (n : Bool) → n && isAlike (heldOf (shaped n a)) (heldOf (shaped n b)) ≡ false → shaped n (halved a b) ≡ halved (shaped n a) (shaped n b)
+      by : (n : Bool) → n && isAlike (leafSymbol (shaped n a)) (leafSymbol (shaped n b)) ≡ false → shaped n (halved a b) ≡ halved (shaped n a) (shaped n b)
       by true e = merged-apart a b e
       by false e = refl
 

@@ -12,7 +12,7 @@ use Rattle.universe.specs.Questions.{axesLeft}
 use Rattle.bintree.specs.declared.Colour.the-variants.{White, Black}
 use Rattle.bintree.specs.Shape.{Shape, halved, symbolOf, size}
 use Rattle.bintree.specs.Merging.{merged}
-use Rattle.bintree.specs.Walks.{heldOf, isAlike, joinedHalves}
+use Rattle.bintree.specs.Walks.{leafSymbol, isAlike, joinedHalves}
 use Rattle.csg.specs.Surfaces.{Surfaces}
 use Rattle.csg.specs.Raw.{examine}
 use Rattle.convert.specs.declared.lay.Piece.{Piece}
@@ -38,7 +38,7 @@ symbolOfBits bits = cond (eqb bits blackBit) (symbolOf Black) (symbolOf White)
 
 -- what laying a shape from a place on comes to
 abbrev pub pieceOf : ℕ → Shape → Piece
-pieceOf at s = record { held = heldOf s; end = at + size s }
+pieceOf at s = record { held = leafSymbol s; end = at + size s }
 
 -- a piece as one number, in which a call gives it back: the end, and below it what is held back, a byte
 abbrev pub heldUnit : ℕ

@@ -11,6 +11,7 @@ use Rattle.bintree.specs.declared.Colour.the-variants.{White, Black}
 use Rattle.bintree.specs.declared.Verdict.{Verdict}
 use Rattle.bintree.specs.declared.Verdict.the-variants.{Clear, Hit}
 use Rattle.bintree.specs.declared.Written.{Written}
+use Rattle.bintree.specs.declared.Merged.{Merged}
 use Rattle.bintree.specs.declared.Numbers.{Numbers}
 use Rattle.bintree.specs.declared.Coloured.{Coloured}
 use Rattle.bintree.specs.declared.Placed.{Placed}
@@ -34,6 +35,10 @@ roomArray a = a .symbols ∷ []
 -- the length written, or needed on 6
 abbrev pub lengthArray : Written → List ℕ
 lengthArray a = a .length ∷ []
+
+-- the same of merging, and the largest count of symbols that are held back
+abbrev pub mergedArray : Merged → List ℕ
+mergedArray a = a .length ∷ a .held ∷ []
 
 -- rule 11.2: a verdict as hit (0 Clear, 1 Hit), first frame, last frame and voxels
 abbrev pub toldOf : Verdict → Told

@@ -6,7 +6,7 @@ ghost use mathlib.Core.List.{[], _∷_};
 ghost use Rattle.bintree.specs.Answers.{wellFormedRefusal};
 ghost use Rattle.bintree.specs.Parts.{colourAnswer, placeAnswer};
 ghost use Rattle.bintree.specs.Merging.{mergeAnswer, mergeBuffer};
-ghost use Rattle.export.specs.Arrays.{universeOf, lengthArray};
+ghost use Rattle.export.specs.Arrays.{universeOf, mergedArray};
 ghost use Rattle.export.specs.Arrays.{colourNumber, colourArray, placeArray};
 
 // Whether an expression is well-formed.
@@ -81,19 +81,19 @@ pub extern "C" fn durbizhan_part(
     placed.refusal
 }
 
-// The merged expression of a lent one.
+// The merged expression of a lent one, and the largest count of symbols that are held back.
 #[no_mangle]
 pub extern "C" fn durbizhan_merge(
     axes: u64,
     bits: u64,
     expression: &[u8],
     out: &mut [u8],
-    answer: &mut [u64; 1],
+    answer: &mut [u64; 2],
 ) -> u64
     ensures { λ r. let u = universeOf axes bits in
         ⌜ r ≡ mergeAnswer u (now (expression .entry)) (now (out .entry)) .refusal ⌝ }
     ensures { λ _. let u = universeOf axes bits in
-        ⌜ now (answer .exit) ≡ lengthArray (mergeAnswer u (now (expression .entry)) (now (out .entry))) ⌝ }
+        ⌜ now (answer .exit) ≡ mergedArray (mergeAnswer u (now (expression .entry)) (now (out .entry))) ⌝ }
     ensures { λ _. let u = universeOf axes bits in
         ⌜ now (out .exit) ≡ mergeBuffer u (now (expression .entry)) (now (out .entry)) ⌝ }
 {
@@ -101,7 +101,7 @@ pub extern "C" fn durbizhan_merge(
         axes: axes,
         bits: bits,
     };
-    let written = bintree::merge(universe, expression, out);
-    *answer = [written.length];
-    written.refusal
+    let merged = bintree::merge(universe, expression, out);
+    *answer = [merged.length, merged.held];
+    merged.refusal
 }

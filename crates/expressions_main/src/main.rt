@@ -1,7 +1,6 @@
 // Expressions asked through the entry points: a line for each answer, with the refusal first and every byte of the lent
 // room, so that what was not to be written shows as the `.` it was.
 use bintree::Verdict;
-use bintree::Written;
 use libc::STDOUT_FILENO;
 use reader::Symbol;
 use universe::Universe;
@@ -31,10 +30,6 @@ fn show(label: &[u8], refusal: u64, length: u64, room: &[u8]) {
     say(b" ");
     say(room);
     say(b"\n");
-}
-
-fn written(label: &[u8], answer: Written, room: &[u8]) {
-    show(label, answer.refusal, answer.length, room);
 }
 
 fn say_verdict(verdict: Verdict) {
@@ -82,7 +77,7 @@ fn questions(expression: &[u8], path: &[u8]) {
     say(b"\n");
     let mut room = [b'.'; LENT];
     let answer = bintree::merge(square(), expression, &mut room);
-    written(b"  merge", answer, &room);
+    show(b"  merge", answer.refusal, answer.length, &room);
 }
 
 fn colour(expression: &[u8], voxel: [u64; Universe::MOST_AXES as usize]) {

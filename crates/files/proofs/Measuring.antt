@@ -13,11 +13,11 @@ use Rattle.universe.specs.declared.Universe.{Universe}
 use Rattle.universe.specs.Refusals.{unless, badExpression, notMerged}
 use Rattle.universe.specs.Universe.{universeRefusal}
 use Rattle.universe.proofs.Refusing.{last-check}
-use Rattle.bintree.specs.declared.Written.{Written}
+use Rattle.bintree.specs.declared.Merged.{Merged}
 use Rattle.bintree.specs.Shape.{Shape, size}
 use Rattle.bintree.specs.Reading.{Reading, none, read, expression}
-use Rattle.bintree.specs.Merging.{merged, isMerged, mergedSymbols, mergeAnswer}
-use Rattle.bintree.specs.Answers.{wellFormedRefusal, writtenAnswer}
+use Rattle.bintree.specs.Merging.{merged, isMerged, mostHeld, mergedSymbols, withHeld, mergeAnswer}
+use Rattle.bintree.specs.Answers.{ofShape, wellFormedRefusal, writtenAnswer}
 use Rattle.bintree.proofs.Shape.{length-symbols, size-positive}
 use Rattle.bintree.proofs.Reading.{none-refused, shape-accepted, expression-at}
 use Rattle.bintree.proofs.Merging.{merged-self, self-merged, as-long-merged}
@@ -32,19 +32,22 @@ pub size-by-merged : (a : Shape) → isMerged a ≡ true → size (merged a) ≡
 size-by-merged a e = ap size (merged-self a e)
 
 -- what measuring told
-data Told (u : Universe) (s : List ℕ) (m : Written) : Type 0 where
+data Told (u : Universe) (s : List ℕ) (m : Merged) : Type 0 where
   refuses : m .refusal ≡ symbolsRefusal u s → m .length ≡ 0 → Told u s m
   measures : (a : Shape) → m .length ≡ size (merged a) → size a ≡ length s → symbolsRefusal u s ≡ unless (isMerged a) notMerged → Told u s m
 
-module _ (u : Universe) (s : List ℕ) {m : Written} (e : m ≡ mergeAnswer u s []) where
-  answered : {n : ℕ} → wellFormedRefusal u s ≡ n → m ≡ writtenAnswer n [] (mergedSymbols u s)
+module _ (u : Universe) (s : List ℕ) {m : Merged} (e : m ≡ mergeAnswer u s []) where
+  abbrev held : ℕ
+  held = ofShape (expression u s) 0 mostHeld
+
+  answered : {n : ℕ} → wellFormedRefusal u s ≡ n → m ≡ withHeld held (writtenAnswer n [] (mergedSymbols u s))
   unfolding mergeAnswer
-  answered f = e ∙ ap (λ (k : ℕ). writtenAnswer k [] (mergedSymbols u s)) f
+  answered f = e ∙ ap (λ (k : ℕ). withHeld held (writtenAnswer k [] (mergedSymbols u s))) f
 
   refused-by : (n : ℕ) → wellFormedRefusal u s ≡ n → (n ≡ 0 → ⊥) → symbolsRefusal u s ≡ n → Told u s m
   refused-by n f z r =
-      let w = answered f ∙ sym (written-refused n [] (mergedSymbols u s) z) in
-      refuses (ap (λ (x : Written). x .refusal) w ∙ sym r) (ap (λ (x : Written). x .length) w)
+      let w = answered f ∙ ap (withHeld held) (sym (written-refused n [] (mergedSymbols u s) z)) in
+      refuses (ap (λ (x : Merged). x .refusal) w ∙ sym r) (ap (λ (x : Merged). x .length) w)
 
   by-shape : universeRefusal u ≡ 0 → (x : Reading) → expression u s ≡ x → Told u s m
   unfolding symbolsRefusal mergedRefusal
@@ -53,9 +56,9 @@ module _ (u : Universe) (s : List ℕ) {m : Written} (e : m ≡ mergeAnswer u s 
       (rw (eq-eqb (universeRefusal u) 0 z, none-refused u s x))
   by-shape z (read a) x =
       let long : 0 < length (mergedSymbols u s) = rw x (omega (arith, length-symbols (merged a), size-positive (merged a))) in
-      let w = answered (checks-read u (universeRefusal u) refl s a z x) ∙ sym (written-short 0 [] (mergedSymbols u s) refl long) in
+      let w = answered (checks-read u (universeRefusal u) refl s a z x) ∙ ap (withHeld held) (sym (written-short 0 [] (mergedSymbols u s) refl long)) in
       measures a
-      (ap (λ (v : Written). v .length) w ∙ rw x (length-symbols (merged a)))
+      (ap (λ (v : Merged). v .length) w ∙ rw x (length-symbols (merged a)))
       (expression-at u s a x .1)
       (rw (eq-eqb (universeRefusal u) 0 z, shape-accepted u s a x, x) (last-check (unless (isMerged a) notMerged)))
 

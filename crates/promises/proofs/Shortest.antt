@@ -27,7 +27,7 @@ use Rattle.demands.proofs.Theorems.{merged-shortest, tree-shortest}
 use Rattle.demands.proofs.Colours.{both-colour}
 use Rattle.convert.specs.Answers.{oneTreeRefusal, twoTreesRefusal, mergedOfOne, mergedOfTwo}
 use Rattle.convert.specs.Answers.{mergedOfOneAnswer, mergedOfOneBuffer, mergedOfTwoAnswer, mergedOfTwoBuffer}
-use Rattle.promises.specs.Shortest.{coloursOf, Says, Shortest}
+use Rattle.promises.specs.Shortest.{coloursOf, Says, writingOf, Shortest}
 use Rattle.promises.proofs.Keeping.{first-accepts, colour-accepted, at-its-end}
 use Rattle.promises.proofs.Promises.{checks, accepts}
 
@@ -97,7 +97,8 @@ module _ (u : Universe) (ok : universeRefusal u ≡ 0) (colours : List ℕ → C
 
 -- ---- MERGING: of all bytes with the colours of a well-formed expression
 
-pub merge-shortest : (u : Universe) (x out : List ℕ) → wellFormedRefusal u x ≡ 0 → Shortest u (coloursOf u x) out (mergeAnswer u x out) (mergeBuffer u x out)
+pub merge-shortest : (u : Universe) (x out : List ℕ) → wellFormedRefusal u x ≡ 0 →
+    Shortest u (coloursOf u x) out (writingOf (mergeAnswer u x out)) (mergeBuffer u x out)
 unfolding mergeAnswer mergeBuffer
 merge-shortest u x out z =
     let ok = both-checks u x z .0 in

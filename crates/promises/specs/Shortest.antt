@@ -8,6 +8,7 @@ use Rattle.universe.specs.declared.Universe.{Universe}
 use Rattle.universe.specs.Voxel.{voxelRefusal}
 use Rattle.bintree.specs.declared.Colour.{Colour}
 use Rattle.bintree.specs.declared.Written.{Written}
+use Rattle.bintree.specs.declared.Merged.{Merged}
 use Rattle.bintree.specs.Answers.{wellFormedRefusal}
 use Rattle.bintree.specs.Parts.{doneColour, colourAnswer}
 
@@ -19,6 +20,10 @@ coloursOf u x v = colourAnswer u x v .colour
 pub record Says (u : Universe) (colours : List ℕ → Colour) (y : List ℕ) : Type 0 where
   pub well-formed : wellFormedRefusal u y ≡ 0
   pub coloured : (v : List ℕ) → voxelRefusal u v ≡ 0 → colourAnswer u y v ≡ doneColour (colours v)
+
+-- of merging's answer, its number and its length
+abbrev pub writingOf : Merged → Written
+writingOf answer = record { refusal = answer .refusal; length = answer .length }
 
 -- The call lent `out` answered `answer` and left `left` there. `colours` are those of what it is to write.
 pub record Shortest

@@ -1,5 +1,5 @@
-// The universe asked through the entry points: a line for each answer to its questions, for each block with its halves, and
-// for room.
+// The universe asked through the entry points: a line for each answer to its questions, for each block with its halves,
+// and for room.
 use libc::STDOUT_FILENO;
 use universe::Block;
 use universe::Universe;

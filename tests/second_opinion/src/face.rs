@@ -46,7 +46,7 @@ mod c {
         ) -> u64;
         pub fn durbizhan_merge(
             axes: u64, bits: u64, expression: *const u8, expression_count: usize, out: *mut u8, out_count: usize,
-            answer: *mut [u64; 1],
+            answer: *mut [u64; 2],
         ) -> u64;
         pub fn durbizhan_scene(
             bytes: *const u8, bytes_count: usize, rows: *mut [i64; 1280], first: *mut [u16; 255],
@@ -174,7 +174,7 @@ pub fn part(axes: u64, bits: u64, expression: &[u8], path: &[u8], answer: &mut [
     }
 }
 
-pub fn merge(axes: u64, bits: u64, expression: &[u8], out: &mut [u8], answer: &mut [u64; 1]) -> u64 {
+pub fn merge(axes: u64, bits: u64, expression: &[u8], out: &mut [u8], answer: &mut [u64; 2]) -> u64 {
     unsafe {
         c::durbizhan_merge(
             axes, bits, expression.as_ptr(), expression.len(), out.as_mut_ptr(), out.len(), answer,

@@ -238,7 +238,7 @@ type Numbers = fn(u64, u64, &[u8], u64, u64, &mut [u64; 5]) -> u64;
 type Report = fn(u64, u64, &[u8], u64, u64, &mut [u64], &mut [u64; 2]) -> u64;
 type Colour = fn(u64, u64, &[u8], u64, u64, u64, u64, &mut [u64; 1]) -> u64;
 type Part = fn(u64, u64, &[u8], &[u8], &mut [u64; 2]) -> u64;
-type Rewrite = fn(u64, u64, &[u8], &mut [u8], &mut [u64; 1]) -> u64;
+type Rewrite<const N: usize> = fn(u64, u64, &[u8], &mut [u8], &mut [u64; N]) -> u64;
 type SceneRead = fn(&[u8], &mut [i64; 1280], &mut [u16; 255], &mut [u16; 255], &mut [u64; 7]) -> u64;
 type ShapeRead = fn(&[u8], &mut [u8], &mut [u64; 3]) -> u64;
 type BoxRows = fn([f64; 3], [f64; 3], [f64; 3], &mut [i64; 30]) -> u64;
@@ -422,14 +422,14 @@ fn parts(line: &mut Line, random: &mut Random) {
     line.compare(plain, library, || format!("{}\npath = {path:?}", reading_text(&case)));
 }
 
-/// Merging and shape writing: an expression in, bytes out.
-fn rewriting(line: &mut Line, random: &mut Random, plain: Rewrite, library: Rewrite) {
+/// Merging and shape writing: an expression in, bytes out, and an answer that begins with their length.
+fn rewriting<const N: usize>(line: &mut Line, random: &mut Random, plain: Rewrite<N>, library: Rewrite<N>) {
     let case = generate::reading(random);
-    let mut need = [0];
+    let mut need = [0; N];
     plain(case.axes, case.bits, &case.expression, &mut [], &mut need);
     let lent = generate::room(random, need[0]);
     let [plain, library] = [plain, library].map(|rewrite| {
-        let (mut out, mut answer) = (bytes(lent), longs(1));
+        let (mut out, mut answer) = (bytes(lent), longs(N));
         let number = rewrite(case.axes, case.bits, &case.expression, out.lent(), answer.array());
         Outcome { number, contents: vec![("answer", answer.into()), ("out", out.into())] }
     });

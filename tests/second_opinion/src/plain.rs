@@ -2,6 +2,8 @@
 //! functions at the end are the entry points of the C face, with the same parameters in the same order: each
 //! returns the refusal number and fills its answer and the lent buffers.
 
+use std::sync::OnceLock;
+
 // ------------------------------------------------------------------------------------------------ the numbers
 
 /// No refusal.
@@ -489,6 +491,69 @@ pub fn part_of(shape: &Shape, path: &[u8]) -> (u64, u64) {
         }
     }
     (shape.start as u64, shape.length as u64)
+}
+
+// ------------------------------------------------------------------------------------------------------- held
+
+/// Up to so many levels all expressions are looked at.
+pub const FEW_LEVELS: usize = 3;
+
+/// Every expression of at most so many levels.
+pub fn expressions_within(levels: usize) -> Vec<Vec<u8>> {
+    let mut all = vec![b"B".to_vec(), b"W".to_vec()];
+    if levels > 0 {
+        let parts = expressions_within(levels - 1);
+        for low in &parts {
+            all.extend(parts.iter().map(|high| [b"(", &low[..], high].concat()));
+        }
+    }
+    all
+}
+
+/// The same, each with what it merges to.
+fn merged_within(levels: usize) -> &'static [(Vec<u8>, Vec<u8>)] {
+    static TABLES: [OnceLock<Vec<(Vec<u8>, Vec<u8>)>>; FEW_LEVELS + 1] = [const { OnceLock::new() }; FEW_LEVELS + 1];
+    TABLES[levels].get_or_init(|| {
+        expressions_within(levels).into_iter().map(|whole| (whole.clone(), merged_by_replacement(&whole))).collect()
+    })
+}
+
+/// Rule 4.13 as it stands, in a universe of few levels: after each symbol the merged text so far is held against the
+/// merged expression of every legal continuation, and what is behind the longest beginning that all of them have is held.
+pub fn held_by_definition(levels: usize, expression: &[u8]) -> u64 {
+    let held_after = |read: usize| {
+        let so_far = merged_by_replacement(&expression[..read]);
+        let legal = merged_within(levels).iter().filter(|(whole, _)| whole.starts_with(&expression[..read]));
+        let shared = |merged: &[u8]| so_far.iter().zip(merged).take_while(|(mine, theirs)| mine == theirs).count();
+        let fixed = legal.map(|(_, merged)| shared(merged)).min().unwrap();
+        (so_far.len() - fixed) as u64
+    };
+    (1..=expression.len()).map(held_after).max().unwrap_or(0)
+}
+
+/// In one pass: the largest count in a shape before which so many symbols could still become one `B`, and one `W`; and
+/// what it merges to, where that is one symbol.
+pub fn held_by_counting(shape: &Shape, black: u64, white: u64) -> (u64, Option<u8>) {
+    match &shape.kind {
+        Kind::Black => (0, Some(b'B')),
+        Kind::White => (0, Some(b'W')),
+        Kind::Halved(low, high) => {
+            let (in_low, came_to) = held_by_counting(low, black + 1, white + 1);
+            let black_on = if came_to == Some(b'B') { black + 2 } else { 0 };
+            let white_on = if came_to == Some(b'W') { white + 2 } else { 0 };
+            let (in_high, high_to) = held_by_counting(high, black_on, white_on);
+            let counts = [black + 1, white + 1, in_low, black_on, white_on, in_high];
+            (counts.into_iter().max().unwrap(), came_to.filter(|_| came_to == high_to))
+        }
+    }
+}
+
+fn largest_held(universe: &Universe, expression: &[u8], shape: &Shape) -> u64 {
+    if universe.levels() <= FEW_LEVELS {
+        held_by_definition(universe.levels(), expression)
+    } else {
+        held_by_counting(shape, 0, 0).0
+    }
 }
 
 // ------------------------------------------------------------------------------------------------------- room
@@ -980,9 +1045,22 @@ pub fn part(axes: u64, bits: u64, expression: &[u8], path: &[u8], answer: &mut [
     plain_answer(judge(), answer)
 }
 
-pub fn merge(axes: u64, bits: u64, expression: &[u8], out: &mut [u8], answer: &mut [u64; 1]) -> u64 {
-    let merged = expression_checked(axes, bits, expression).map(|_| merged_by_replacement(expression));
-    length_answer(merged.and_then(|symbols| delivered(&symbols, out)), answer)
+pub fn merge(axes: u64, bits: u64, expression: &[u8], out: &mut [u8], answer: &mut [u64; 2]) -> u64 {
+    let mut judge = || -> Answer<[u64; 2]> {
+        let (universe, shape) = expression_checked(axes, bits, expression)?;
+        let length = delivered(&merged_by_replacement(expression), out)?;
+        Ok([length, largest_held(&universe, expression, &shape)])
+    };
+    match judge() {
+        Ok(fields) => {
+            *answer = fields;
+            ACCEPTED
+        }
+        Err(refusal) => {
+            *answer = [refusal.needed, 0];
+            refusal.number
+        }
+    }
 }
 
 pub fn scene(

@@ -121,12 +121,12 @@ fn cases_6_and_7_and_8() {
 fn case_9() {
     assert_eq!(well_formed(2, 2, b"(BB"), ACCEPTED);
     let mut out = [7; 3];
-    let mut answer = [9];
-    assert_eq!((merge(2, 2, b"(BB", &mut out, &mut answer), out, answer), (ACCEPTED, [b'B', 7, 7], [1]));
+    let (mut answer, mut merging) = ([9], [9; 2]);
+    assert_eq!((merge(2, 2, b"(BB", &mut out, &mut merging), out, merging), (ACCEPTED, [b'B', 7, 7], [1, 2]));
     for bad in [&b""[..], b"(B", b"BB"] {
         assert_eq!(well_formed(2, 2, bad), BAD_EXPRESSION);
         assert_eq!(numbers_over(2, 2, bad, 0, 3), (BAD_EXPRESSION, [0; 5]));
-        assert_eq!(merge(2, 2, bad, &mut out, &mut answer), BAD_EXPRESSION);
+        assert_eq!((merge(2, 2, bad, &mut out, &mut merging), merging), (BAD_EXPRESSION, [0, 0]));
     }
     assert_eq!(well_formed(2, 0, b"(BB"), BAD_EXPRESSION);
     assert_eq!(merged_by_replacement(b"((BB(BB"), b"B");
@@ -188,6 +188,26 @@ fn reports_of_lists() {
         let (mut counts, mut answer) = (vec![9; universe.side() as usize], [9; 2]);
         assert_eq!(report(axes, bits, &list.concat(), first, last, &mut counts, &mut answer), ACCEPTED);
         assert_eq!(answer, [last - first + 1, voxels]);
+    }
+}
+
+#[test]
+fn held_back() {
+    let mut answer = [9; 2];
+    assert_eq!((merge(2, 2, b"(B(B(B(BW", &mut [0; 9], &mut answer), answer), (ACCEPTED, [9, 8]));
+    assert_eq!((merge(2, 2, b"(B(B(B(BW", &mut [0; 8], &mut answer), answer), (NO_ROOM, [9, 0]));
+    // the two ways of counting, over every expression of the universes that are looked at whole
+    for levels in 0..=FEW_LEVELS {
+        let universe = Universe::checked(1, levels as u64).unwrap();
+        let all = expressions_within(levels);
+        let mut largest = 0;
+        for expression in &all {
+            let shape = shape_checked(&universe, expression).unwrap();
+            let held = held_by_definition(levels, expression);
+            assert_eq!(held, held_by_counting(&shape, 0, 0).0);
+            largest = largest.max(held);
+        }
+        assert_eq!(largest, 2 * levels as u64);
     }
 }
 

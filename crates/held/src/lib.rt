@@ -1,0 +1,1 @@
+// No code: what merging holds back, as theorems about what merging answers.
