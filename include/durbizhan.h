@@ -13,6 +13,9 @@
  * conversion or a verdict takes up to 80 KiB of the stack, durbizhan_lines up to 128 KiB, any other function up to
  * 16 KiB.
  *
+ * axes, bits, frame_bits: a universe of 1 to 4 axes. The last counts frames, of which there are 2^frame_bits, 0 to 12
+ * bits; along each other it is 2^bits units long, 0 to 10 bits. One axis counts frames alone, and bits is 0. The axes
+ * are halved in turn, and one whose bits are used up is passed over.
  * rows: five numbers a0 to a4 to a halfspace, which holds where a0 + a1*x1 + .. + a4*x4 >= 0.
  * words: a tree in postfix order. 0 is WHITE, 1 BLACK; 2 joins by UNION, 3 by INTERSECTION, 4 by MINUS; 256 + i is
  * halfspace i.
@@ -28,9 +31,9 @@
 
 /* Nothing is refused. */
 #define DURBIZHAN_ACCEPTED 0
-/* no scene or no shape: its mark, its version, its zero byte or its length */
+/* no scene or no shape: its mark, a version that is not 1 or 2, the zero byte of a scene of version 1, or its length */
 #define DURBIZHAN_BAD_FILE 1
-/* axes not 1 to 4, or bits over 10 */
+/* axes not 1 to 4, bits over 10, frame bits over 12, or bits not 0 where there is one axis */
 #define DURBIZHAN_BAD_UNIVERSE 2
 /* a row that is not five numbers, over 256 rows, a number past its limit, or not 0 for an axis that is not there */
 #define DURBIZHAN_BAD_ROWS 3
@@ -58,18 +61,18 @@ extern "C" {
 uint64_t durbizhan_leaves(const uint16_t *words, size_t words_count);
 
 /* answer[0]: how many symbols an expression takes at the most, for N = leaves. A buffer this long is never refused
- * NO_ROOM by a conversion or a verdict; a shape file takes 11 bytes more. */
-uint64_t durbizhan_room(uint64_t axes, uint64_t bits, uint64_t leaves, uint64_t answer[1]);
+ * NO_ROOM by a conversion or a verdict; a shape file takes 12 bytes more. */
+uint64_t durbizhan_room(uint64_t axes, uint64_t bits, uint64_t frame_bits, uint64_t leaves, uint64_t answer[1]);
 
 /* The raw expression of one tree, and of two intersected, into out. answer[0]: the length written, or needed on
  * NO_ROOM. */
-uint64_t durbizhan_raw_one(uint64_t axes, uint64_t bits,
+uint64_t durbizhan_raw_one(uint64_t axes, uint64_t bits, uint64_t frame_bits,
                            const int64_t *rows, size_t rows_count,
                            const uint16_t *words, size_t words_count,
                            uint8_t *out, size_t out_count,
                            uint64_t answer[1]);
 
-uint64_t durbizhan_raw_two(uint64_t axes, uint64_t bits,
+uint64_t durbizhan_raw_two(uint64_t axes, uint64_t bits, uint64_t frame_bits,
                            const int64_t *rows, size_t rows_count,
                            const uint16_t *first, size_t first_count,
                            const uint16_t *second, size_t second_count,
@@ -78,13 +81,13 @@ uint64_t durbizhan_raw_two(uint64_t axes, uint64_t bits,
 
 /* The merged expression of one tree, and of two intersected, into out. answer[0]: the length written, or needed on
  * NO_ROOM. */
-uint64_t durbizhan_merged_one(uint64_t axes, uint64_t bits,
+uint64_t durbizhan_merged_one(uint64_t axes, uint64_t bits, uint64_t frame_bits,
                               const int64_t *rows, size_t rows_count,
                               const uint16_t *words, size_t words_count,
                               uint8_t *out, size_t out_count,
                               uint64_t answer[1]);
 
-uint64_t durbizhan_merged_two(uint64_t axes, uint64_t bits,
+uint64_t durbizhan_merged_two(uint64_t axes, uint64_t bits, uint64_t frame_bits,
                               const int64_t *rows, size_t rows_count,
                               const uint16_t *first, size_t first_count,
                               const uint16_t *second, size_t second_count,
@@ -94,7 +97,7 @@ uint64_t durbizhan_merged_two(uint64_t axes, uint64_t bits,
 /* Whether two trees share space in frames first_frame to last_frame, both ends in; their raw expression goes into out.
  * answer: hit (0 Clear, 1 Hit), first frame, last frame, black voxels, raw length (needed on NO_ROOM). Read the number
  * first: a refused verdict is Clear. */
-uint64_t durbizhan_verdict(uint64_t axes, uint64_t bits,
+uint64_t durbizhan_verdict(uint64_t axes, uint64_t bits, uint64_t frame_bits,
                            const int64_t *rows, size_t rows_count,
                            const uint16_t *first, size_t first_count,
                            const uint16_t *second, size_t second_count,
@@ -103,12 +106,13 @@ uint64_t durbizhan_verdict(uint64_t axes, uint64_t bits,
                            uint64_t answer[5]);
 
 /* Whether an expression is well-formed: ACCEPTED, or BAD_UNIVERSE or BAD_EXPRESSION. */
-uint64_t durbizhan_well_formed(uint64_t axes, uint64_t bits, const uint8_t *expression, size_t expression_count);
+uint64_t durbizhan_well_formed(uint64_t axes, uint64_t bits, uint64_t frame_bits,
+                               const uint8_t *expression, size_t expression_count);
 
 /* The black voxels of an expression in the whole universe, and whether it has one in frames first_frame to last_frame,
  * both ends in. answer: volume, hit (0 Clear, 1 Hit), first frame, last frame, black voxels in the window. Read the
  * number first: a refused verdict is Clear. */
-uint64_t durbizhan_numbers(uint64_t axes, uint64_t bits,
+uint64_t durbizhan_numbers(uint64_t axes, uint64_t bits, uint64_t frame_bits,
                            const uint8_t *expression, size_t expression_count,
                            uint64_t first_frame, uint64_t last_frame,
                            uint64_t answer[5]);
@@ -118,22 +122,22 @@ uint64_t durbizhan_numbers(uint64_t axes, uint64_t bits,
  * first_frame to last_frame, both ends in, from its front on: the black voxels of that frame, summed over the list. It
  * is set, not added to. answer: how many counts were set (the window's frames, needed on NO_ROOM), and their total.
  * Refusals in this order: BAD_UNIVERSE, BAD_EXPRESSION, OUTSIDE, NO_ROOM. */
-uint64_t durbizhan_report(uint64_t axes, uint64_t bits,
+uint64_t durbizhan_report(uint64_t axes, uint64_t bits, uint64_t frame_bits,
                           const uint8_t *expressions, size_t expressions_count,
                           uint64_t first_frame, uint64_t last_frame,
                           uint64_t *counts, size_t counts_count,
                           uint64_t answer[2]);
 
-/* answer[0]: the colour at a voxel, 0 WHITE or 1 BLACK. Its place along the last axis is its frame; above the axes it is
- * 0. */
-uint64_t durbizhan_colour(uint64_t axes, uint64_t bits,
+/* answer[0]: the colour at a voxel, 0 WHITE or 1 BLACK. Its place along the last axis is its frame; above the axes it
+ * is 0. */
+uint64_t durbizhan_colour(uint64_t axes, uint64_t bits, uint64_t frame_bits,
                           const uint8_t *expression, size_t expression_count,
                           uint64_t x, uint64_t y, uint64_t z, uint64_t t,
                           uint64_t answer[1]);
 
 /* Where a block's part of an expression stands; its path has a byte for each half, 0 low or 1 high. answer: start,
  * length. */
-uint64_t durbizhan_part(uint64_t axes, uint64_t bits,
+uint64_t durbizhan_part(uint64_t axes, uint64_t bits, uint64_t frame_bits,
                         const uint8_t *expression, size_t expression_count,
                         const uint8_t *path, size_t path_count,
                         uint64_t answer[2]);
@@ -141,16 +145,18 @@ uint64_t durbizhan_part(uint64_t axes, uint64_t bits,
 /* The merged expression of a raw or merged one, into out. answer: the length written, or needed on NO_ROOM; and held,
  * the most symbols that merging holds back while it receives the expression: of the merged text so far, those after its
  * longest beginning that no legal continuation changes. It is at most twice the levels, and 0 on every refusal. */
-uint64_t durbizhan_merge(uint64_t axes, uint64_t bits,
+uint64_t durbizhan_merge(uint64_t axes, uint64_t bits, uint64_t frame_bits,
                          const uint8_t *expression, size_t expression_count,
                          uint8_t *out, size_t out_count,
                          uint64_t answer[2]);
 
-/* Reads a scene file; its rows and the words of its two trees go to the front of the lent arrays.
- * answer: axes, bits, rows, words of tree 1, words of tree 2, first frame, last frame. A row is five numbers. */
+/* Reads a scene file, of version 1 or 2; its rows and the words of its two trees go to the front of the lent arrays.
+ * answer: version, axes, bits, frame bits, rows, words of tree 1, words of tree 2, first frame, last frame. A row is
+ * five numbers. Version 1 has one number, 0 to 10, for bits and frame bits; of one axis it is the frame bits, and bits
+ * is 0. */
 uint64_t durbizhan_scene(const uint8_t *bytes, size_t bytes_count,
                          int64_t rows[1280], uint16_t first[255], uint16_t second[255],
-                         uint64_t answer[7]);
+                         uint64_t answer[9]);
 
 /* The lines that the program prints for a scene file go to the front of out: 256 bytes are lent, no lines have more,
  * and nothing behind them is written to. Returns how many bytes the lines have; this is a count, no refusal. READ THE
@@ -158,14 +164,16 @@ uint64_t durbizhan_scene(const uint8_t *bytes, size_t bytes_count,
  * over 65,536 bytes is refused BAD_FILE. Each line ends with a newline, and no zero byte follows the last. */
 uint64_t durbizhan_lines(const uint8_t *scene, size_t scene_count, uint8_t out[256]);
 
-/* Reads a shape file; its symbols go to the front of out. answer: axes, bits, length; on NO_ROOM axes and bits are 0
- * and the length is the one needed. */
+/* Reads a shape file, of version 1 or 2; its symbols go to the front of out. answer: axes, bits, frame bits, length; on
+ * NO_ROOM axes, bits and frame bits are 0 and the length is the one needed. Version 2 is 12 bytes and the symbols,
+ * version 1 is 11 and the symbols, with bits as in a scene of version 1. */
 uint64_t durbizhan_shape_read(const uint8_t *bytes, size_t bytes_count,
                               uint8_t *out, size_t out_count,
-                              uint64_t answer[3]);
+                              uint64_t answer[4]);
 
-/* Writes the shape file of a merged expression into out. answer[0]: the bytes written, or needed on NO_ROOM. */
-uint64_t durbizhan_shape_write(uint64_t axes, uint64_t bits,
+/* Writes the shape file of a merged expression into out, of version 2: 12 bytes and the symbols. answer[0]: the bytes
+ * written, or needed on NO_ROOM. */
+uint64_t durbizhan_shape_write(uint64_t axes, uint64_t bits, uint64_t frame_bits,
                                const uint8_t *expression, size_t expression_count,
                                uint8_t *out, size_t out_count,
                                uint64_t answer[1]);

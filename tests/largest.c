@@ -18,6 +18,7 @@
 
 #define AXES 4
 #define BITS 10
+#define FRAME_BITS 12
 #define LEVELS 31
 #define LENT '.'
 
@@ -50,9 +51,9 @@ static size_t grow(uint8_t *symbols, int levels) {
 
 int main(void) {
     const uint64_t most = UINT64_C(4294967295);
-    const size_t room = most + 15;
-    /* mark, version 1, axes, bits, and the count: the u32 with every bit set */
-    const uint8_t header[11] = {'B', 'N', 'T', 1, 0, AXES, BITS, 0xff, 0xff, 0xff, 0xff};
+    const size_t room = most + 16;
+    /* mark, version 2, axes, bits, frame bits, and the count: the u32 with every bit set */
+    const uint8_t header[12] = {'B', 'N', 'T', 2, 0, AXES, BITS, FRAME_BITS, 0xff, 0xff, 0xff, 0xff};
     uint8_t *symbols = malloc(most + 2), *out = malloc(room);
     if (!symbols || !out) {
         puts("there is too little memory");
@@ -63,24 +64,24 @@ int main(void) {
     uint64_t answer[1];
 
     memset(out, LENT, room);
-    uint64_t number = durbizhan_shape_write(AXES, BITS, symbols, length, out, length + 10, answer);
+    uint64_t number = durbizhan_shape_write(AXES, BITS, FRAME_BITS, symbols, length, out, length + 11, answer);
     expect("one byte short", number, DURBIZHAN_NO_ROOM);
-    expect("its need", answer[0], length + 11);
+    expect("its need", answer[0], length + 12);
     expect("its room is untouched", untouched(out, room), 1);
-    number = durbizhan_shape_write(AXES, BITS, symbols, length, out, length + 13, answer);
+    number = durbizhan_shape_write(AXES, BITS, FRAME_BITS, symbols, length, out, length + 14, answer);
     expect("the most symbols", number, DURBIZHAN_ACCEPTED);
-    expect("its length", answer[0], length + 11);
+    expect("its length", answer[0], length + 12);
     for (size_t i = 0; i < sizeof header; i++) expect("a byte of its header", out[i], header[i]);
-    expect("its symbols differ", memcmp(out + 11, symbols, length) != 0, 0);
-    expect("what is past it is untouched", untouched(out + length + 11, room - length - 11), 1);
+    expect("its symbols differ", memcmp(out + 12, symbols, length) != 0, 0);
+    expect("what is past it is untouched", untouched(out + length + 12, room - length - 12), 1);
 
     symbols[length - 1] = '(';
     symbols[length] = 'W';
     symbols[length + 1] = 'B';
     memset(out, LENT, room);
-    number = durbizhan_shape_write(AXES, BITS, symbols, length + 2, out, length + 15, answer);
+    number = durbizhan_shape_write(AXES, BITS, FRAME_BITS, symbols, length + 2, out, length + 16, answer);
     expect("two symbols more", number, DURBIZHAN_NO_ROOM);
-    expect("their need", answer[0], length + 13);
+    expect("their need", answer[0], length + 14);
     expect("their room is untouched", untouched(out, room), 1);
     printf("tests/largest: %d differences\n", failures);
     return failures != 0;

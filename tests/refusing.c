@@ -23,15 +23,15 @@ uint64_t durbizhan_leaves(const uint16_t *words, size_t words_count)
     return count;
 }
 
-uint64_t durbizhan_room(uint64_t axes, uint64_t bits, uint64_t leaves, uint64_t answer[1])
+uint64_t durbizhan_room(uint64_t axes, uint64_t bits, uint64_t frame_bits, uint64_t leaves, uint64_t answer[1])
 {
-    (void)axes, (void)bits, (void)leaves;
+    (void)axes, (void)bits, (void)frame_bits, (void)leaves;
     uint64_t number = named("ROOM_NUMBER");
     answer[0] = number == DURBIZHAN_ACCEPTED ? named("ROOM") : 0;
     return number;
 }
 
-uint64_t durbizhan_verdict(uint64_t axes, uint64_t bits,
+uint64_t durbizhan_verdict(uint64_t axes, uint64_t bits, uint64_t frame_bits,
                            const int64_t *rows, size_t rows_count,
                            const uint16_t *first, size_t first_count,
                            const uint16_t *second, size_t second_count,
@@ -39,8 +39,8 @@ uint64_t durbizhan_verdict(uint64_t axes, uint64_t bits,
                            uint8_t *out, size_t out_count,
                            uint64_t answer[5])
 {
-    (void)axes, (void)bits, (void)rows, (void)rows_count, (void)first, (void)first_count, (void)second;
-    (void)second_count, (void)first_frame, (void)last_frame, (void)out, (void)out_count;
+    (void)axes, (void)bits, (void)frame_bits, (void)rows, (void)rows_count, (void)first, (void)first_count;
+    (void)second, (void)second_count, (void)first_frame, (void)last_frame, (void)out, (void)out_count;
     uint64_t number = named("VERDICT_NUMBER");
     memset(answer, 0, 5 * sizeof answer[0]);
     if (number == DURBIZHAN_ACCEPTED) answer[4] = LENGTH;
@@ -48,12 +48,13 @@ uint64_t durbizhan_verdict(uint64_t axes, uint64_t bits,
     return number;
 }
 
-uint64_t durbizhan_numbers(uint64_t axes, uint64_t bits,
+uint64_t durbizhan_numbers(uint64_t axes, uint64_t bits, uint64_t frame_bits,
                            const uint8_t *expression, size_t expression_count,
                            uint64_t first_frame, uint64_t last_frame,
                            uint64_t answer[5])
 {
-    (void)axes, (void)bits, (void)expression, (void)expression_count, (void)first_frame, (void)last_frame;
+    (void)axes, (void)bits, (void)frame_bits, (void)expression, (void)expression_count;
+    (void)first_frame, (void)last_frame;
     memset(answer, 0, 5 * sizeof answer[0]);
     return named("NUMBERS_NUMBER");
 }

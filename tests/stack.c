@@ -3,9 +3,9 @@
  *
  * Each call is made on a stack of its own that is painted beforehand. What is painted no more was taken, the frame of
  * the call itself among it; two paints are tried, so that what is written in the colour of one is seen on the other.
- * The calls go the deepest way: to level 40 of axes 4, bits 10, in the low halves and in the high ones, with room short
- * of the formula and with all of it, with the most rows and words, with 13 digits to print; and every function is
- * refused, too. A call that does not return the number that stands beside it fails: it did not go that way.
+ * The calls go the deepest way: to level 42 of axes 4, bits 10, frame bits 12, in the low halves and in the high ones,
+ * with room short of the formula and with all of it, with the most rows and words, with 13 digits to print; and every
+ * function is refused, too. A call that does not return the number that stands beside it fails: it did not go that way.
  */
 #define _GNU_SOURCE
 #include <inttypes.h>
@@ -16,13 +16,14 @@
 
 #include "durbizhan.h"
 
-enum { AXES = 4, BITS = 10, LEVELS = 40, STACK = 1 << 20, GUARD = 1 << 16, ROOM = 1 << 19 };
+enum { AXES = 4, BITS = 10, FRAME_BITS = 12, LEVELS = 42, SIDE = 1 << BITS, FRAMES = 1 << FRAME_BITS };
+enum { STACK = 1 << 20, GUARD = 1 << 16, ROOM = 1 << 19 };
 
 #define COUNT(array) (sizeof(array) / sizeof((array)[0]))
 
 /* What the next call is given. `bytes` is an expression, or a file. */
 struct scene {
-    uint64_t axes, bits;
+    uint64_t axes, bits, frame_bits;
     const int64_t *rows;
     size_t rows_count;
     const uint16_t *first;
@@ -31,72 +32,76 @@ struct scene {
     size_t second_count;
 };
 static struct scene scene;
-static uint64_t axes, bits, last_frame, place;
+static uint64_t axes, bits, frame_bits, last_frame, place, frame;
 static uint8_t bytes[ROOM], path[LEVELS + 1], out[ROOM];
-static size_t bytes_count, path_count, lent;
+static size_t bytes_count, path_count, lent, counts_count;
 static double corner;
 
 /* What it returned and wrote. */
-static uint64_t number, answer[7];
+static uint64_t number, answer[9], counts[FRAMES];
 static int64_t rows[1280];
 static uint16_t first[255], second[255];
 
 /* The calls. */
 static void leaves(void) { number = durbizhan_leaves(scene.first, scene.first_count); }
 
-static void room(void) { number = durbizhan_room(axes, bits, UINT64_MAX, answer); }
+static void room(void) { number = durbizhan_room(axes, bits, frame_bits, UINT64_MAX, answer); }
 
 static void raw_one(void)
 {
-    number = durbizhan_raw_one(scene.axes, scene.bits, scene.rows, scene.rows_count, scene.first, scene.first_count,
-                               out, lent, answer);
+    number = durbizhan_raw_one(scene.axes, scene.bits, scene.frame_bits, scene.rows, scene.rows_count,
+                               scene.first, scene.first_count, out, lent, answer);
 }
 
 static void raw_two(void)
 {
-    number = durbizhan_raw_two(scene.axes, scene.bits, scene.rows, scene.rows_count, scene.first, scene.first_count,
-                               scene.second, scene.second_count, out, lent, answer);
+    number = durbizhan_raw_two(scene.axes, scene.bits, scene.frame_bits, scene.rows, scene.rows_count,
+                               scene.first, scene.first_count, scene.second, scene.second_count, out, lent, answer);
 }
 
 static void merged_one(void)
 {
-    number = durbizhan_merged_one(scene.axes, scene.bits, scene.rows, scene.rows_count, scene.first, scene.first_count,
-                                  out, lent, answer);
+    number = durbizhan_merged_one(scene.axes, scene.bits, scene.frame_bits, scene.rows, scene.rows_count,
+                                  scene.first, scene.first_count, out, lent, answer);
 }
 
 static void merged_two(void)
 {
-    number = durbizhan_merged_two(scene.axes, scene.bits, scene.rows, scene.rows_count, scene.first, scene.first_count,
-                                  scene.second, scene.second_count, out, lent, answer);
+    number = durbizhan_merged_two(scene.axes, scene.bits, scene.frame_bits, scene.rows, scene.rows_count,
+                                  scene.first, scene.first_count, scene.second, scene.second_count, out, lent, answer);
 }
 
 static void verdict(void)
 {
-    number = durbizhan_verdict(scene.axes, scene.bits, scene.rows, scene.rows_count, scene.first, scene.first_count,
-                               scene.second, scene.second_count, 0, last_frame, out, lent, answer);
+    number = durbizhan_verdict(scene.axes, scene.bits, scene.frame_bits, scene.rows, scene.rows_count,
+                               scene.first, scene.first_count, scene.second, scene.second_count, 0, last_frame, out,
+                               lent, answer);
     answer[0] = answer[4];
 }
 
-static void well_formed(void) { number = durbizhan_well_formed(axes, bits, bytes, bytes_count); }
+static void well_formed(void) { number = durbizhan_well_formed(axes, bits, frame_bits, bytes, bytes_count); }
 
-static void numbers(void) { number = durbizhan_numbers(axes, bits, bytes, bytes_count, 0, last_frame, answer); }
-
-static uint64_t counts[1024];
-static size_t counts_count;
+static void numbers(void)
+{
+    number = durbizhan_numbers(axes, bits, frame_bits, bytes, bytes_count, 0, last_frame, answer);
+}
 
 static void report(void)
 {
-    number = durbizhan_report(axes, bits, bytes, bytes_count, 0, last_frame, counts, counts_count, answer);
+    number = durbizhan_report(axes, bits, frame_bits, bytes, bytes_count, 0, last_frame, counts, counts_count, answer);
 }
 
 static void colour(void)
 {
-    number = durbizhan_colour(axes, bits, bytes, bytes_count, place, place, place, place, answer);
+    number = durbizhan_colour(axes, bits, frame_bits, bytes, bytes_count, place, place, place, frame, answer);
 }
 
-static void part(void) { number = durbizhan_part(axes, bits, bytes, bytes_count, path, path_count, answer); }
+static void part(void)
+{
+    number = durbizhan_part(axes, bits, frame_bits, bytes, bytes_count, path, path_count, answer);
+}
 
-static void merge(void) { number = durbizhan_merge(axes, bits, bytes, bytes_count, out, lent, answer); }
+static void merge(void) { number = durbizhan_merge(axes, bits, frame_bits, bytes, bytes_count, out, lent, answer); }
 
 static void read_scene(void) { number = durbizhan_scene(bytes, bytes_count, rows, first, second, answer); }
 
@@ -109,7 +114,10 @@ static void lines(void)
 
 static void shape_read(void) { number = durbizhan_shape_read(bytes, bytes_count, out, lent, answer); }
 
-static void shape_write(void) { number = durbizhan_shape_write(axes, bits, bytes, bytes_count, out, lent, answer); }
+static void shape_write(void)
+{
+    number = durbizhan_shape_write(axes, bits, frame_bits, bytes, bytes_count, out, lent, answer);
+}
 
 static void box(void) { number = durbizhan_box(0, 0, 0, corner, corner, corner, 64, 64, 64, rows); }
 
@@ -162,10 +170,10 @@ static void begin(const char *named)
 
 static void end(void) { printf("%s %zu\n", function, most); }
 
-/* Below 1/2 on each axis, above 1023 and 1/2 on each, and two oblique halfspaces. */
+/* Below 1/2 on each axis, above 1023 and 1/2 on each but 4095 and 1/2 on the last, and two oblique halfspaces. */
 static const int64_t halfspaces[] = {
     1, -2, 0, 0, 0,     1, 0, -2, 0, 0,     1, 0, 0, -2, 0,     1, 0, 0, 0, -2,
-    -2047, 2, 0, 0, 0,  -2047, 0, 2, 0, 0,  -2047, 0, 0, 2, 0,  -2047, 0, 0, 0, 2,
+    -2047, 2, 0, 0, 0,  -2047, 0, 2, 0, 0,  -2047, 0, 0, 2, 0,  -8191, 0, 0, 0, 2,
     -1, 2, -2, 0, 0,    41, -2, 2, 0, 0,
 };
 enum { AND = 3, LOW = 256, HIGH = 260, OBLIQUE = 264 };
@@ -187,18 +195,18 @@ static void fill(void)
         all_words[i] = i < 32 ? LOW + i % 4 : i < 63 || i % 2 == 0 ? AND : LOW;
 }
 
-#define SCENE(d, k, one, two) \
-    (struct scene){d, k, halfspaces, COUNT(halfspaces), one, COUNT(one), two, COUNT(two)}
-#define LARGEST (struct scene){AXES, BITS, all_rows, COUNT(all_rows), all_words, 255, all_words, 255}
+#define SCENE(d, k, f, one, two) \
+    (struct scene){d, k, f, halfspaces, COUNT(halfspaces), one, COUNT(one), two, COUNT(two)}
+#define DEEPEST(one, two) SCENE(AXES, BITS, FRAME_BITS, one, two)
+#define LARGEST (struct scene){AXES, BITS, FRAME_BITS, all_rows, COUNT(all_rows), all_words, 255, all_words, 255}
 
 static void conversions(const char *named, void (*call)(void))
 {
     const struct scene deep[] = {
-        SCENE(AXES, BITS, low_voxel, low_voxel), SCENE(AXES, BITS, high_voxel, high_voxel), LARGEST,
-        SCENE(AXES, BITS, strip, black),
+        DEEPEST(low_voxel, low_voxel), DEEPEST(high_voxel, high_voxel), LARGEST, DEEPEST(strip, black),
     };
     begin(named);
-    last_frame = 1023;
+    last_frame = FRAMES - 1;
     for (size_t i = 0; i < COUNT(deep); i++) {
         scene = deep[i];
         lent = 0;
@@ -212,11 +220,11 @@ static void conversions(const char *named, void (*call)(void))
     }
     expect("the strip is past the scratch room", answer[0] > 65536, 1);
     last_frame = 0;
-    scene = SCENE(AXES, 4, low_voxel, black);
+    scene = SCENE(AXES, 4, 5, low_voxel, black);
     take(call, DURBIZHAN_ACCEPTED);
-    scene = SCENE(5, BITS, low_voxel, black);
+    scene = SCENE(5, BITS, FRAME_BITS, low_voxel, black);
     take(call, DURBIZHAN_BAD_UNIVERSE);
-    scene = SCENE(1, BITS, low_voxel, black);
+    scene = SCENE(1, 0, FRAME_BITS, low_voxel, black);
     take(call, DURBIZHAN_BAD_ROWS);
     scene = LARGEST;
     scene.first_count = 2;
@@ -224,20 +232,21 @@ static void conversions(const char *named, void (*call)(void))
     scene.first_count = 256;
     take(call, DURBIZHAN_OVERFULL_TREE);
     if (call == verdict) {
-        last_frame = 1024;
+        last_frame = FRAMES;
         scene = LARGEST;
         take(call, DURBIZHAN_OUTSIDE);
     }
     end();
 }
 
-/* Expressions that go to level 40 in the low halves, in the high ones, one all black, and one that lacks its end. */
+/* Expressions that go to level 42 in the low halves, in the high ones, one all black, and one that lacks its end. */
 enum shape { IN_LOW, IN_HIGH, ALL_BLACK, UNENDED };
 
 static void express(enum shape shape)
 {
     axes = AXES;
     bits = BITS;
+    frame_bits = FRAME_BITS;
     bytes_count = 2 * LEVELS + (shape != UNENDED);
     for (size_t i = 0; i <= 2 * LEVELS; i++) {
         int halved = shape == IN_HIGH ? i % 2 == 0 && i < 2 * LEVELS : i < LEVELS;
@@ -264,9 +273,11 @@ static void questions(void (*call)(void), uint64_t where_black, uint64_t where_s
 static void questions_at_places(void)
 {
     begin("durbizhan_colour");
-    for (place = 0; place < 1024; place += 1023) questions(colour, DURBIZHAN_ACCEPTED, DURBIZHAN_ACCEPTED);
+    for (place = frame = 0; place < SIDE; place += SIDE - 1, frame += FRAMES - 1)
+        questions(colour, DURBIZHAN_ACCEPTED, DURBIZHAN_ACCEPTED);
     express(IN_LOW);
-    place = 1024;
+    place = SIDE - 1;
+    frame = FRAMES;
     take(colour, DURBIZHAN_OUTSIDE);
     end();
     begin("durbizhan_part");
@@ -290,8 +301,8 @@ static void put(uint64_t value, int length)
 static void scene_file(struct scene of, uint64_t last)
 {
     bytes_count = 0;
-    put(0x01435348, 4);
-    put(of.axes << 8 | of.bits << 16, 4);
+    put(0x02435348, 4);
+    put(of.axes << 8 | of.bits << 16 | of.frame_bits << 24, 4);
     put(of.rows_count / 5, 2);
     put(of.first_count, 2);
     put(of.second_count, 2);
@@ -306,23 +317,28 @@ static void scene_file(struct scene of, uint64_t last)
 static void scenes(const char *named, void (*call)(void), uint64_t of_strip)
 {
     const struct scene taken_in[] = {
-        LARGEST, SCENE(AXES, BITS, low_voxel, low_voxel), SCENE(AXES, BITS, high_voxel, high_voxel),
-        SCENE(AXES, BITS, black, black), SCENE(AXES, 4, low_voxel, black),
+        LARGEST, DEEPEST(low_voxel, low_voxel), DEEPEST(high_voxel, high_voxel), DEEPEST(black, black),
+        SCENE(AXES, 4, 5, low_voxel, black),
     };
     begin(named);
     for (size_t i = 0; i < COUNT(taken_in); i++) {
-        scene_file(taken_in[i], taken_in[i].bits == BITS ? 1023 : 15);
+        scene_file(taken_in[i], taken_in[i].bits == BITS ? FRAMES - 1 : 31);
         take(call, DURBIZHAN_ACCEPTED);
     }
-    scene_file(SCENE(AXES, BITS, strip, black), 1023);
+    /* version 1 */
+    scene_file(SCENE(AXES, BITS, 0, low_voxel, low_voxel), SIDE - 1);
+    bytes[3] = 1;
+    take(call, DURBIZHAN_ACCEPTED);
+    scene_file(DEEPEST(strip, black), FRAMES - 1);
     take(call, of_strip);
-    scene_file(LARGEST, 1024);
+    scene_file(LARGEST, FRAMES);
     take(call, DURBIZHAN_OUTSIDE);
     bytes[5] = 1;
+    bytes[6] = 0;
     take(call, DURBIZHAN_BAD_ROWS);
-    bytes[5] = 5;
+    bytes[6] = 1;
     take(call, DURBIZHAN_BAD_UNIVERSE);
-    bytes[7] = 1;
+    bytes[3] = 3;
     take(call, DURBIZHAN_BAD_FILE);
     struct scene wrong = LARGEST;
     wrong.second_count = 2;
@@ -344,10 +360,10 @@ static void shapes(void)
     for (enum shape shape = IN_LOW; shape <= UNENDED; shape++) {
         express(shape);
         size_t count = bytes_count;
-        memmove(bytes + 11, bytes, count);
+        memmove(bytes + 12, bytes, count);
         bytes_count = 0;
-        put(0x01544e42, 4);
-        put(AXES << 8 | BITS << 16, 3);
+        put(0x02544e42, 4);
+        put(AXES << 8 | BITS << 16 | FRAME_BITS << 24, 4);
         put(count, 4);
         bytes_count += count;
         lent = ROOM;
@@ -359,6 +375,14 @@ static void shapes(void)
     take(shape_read, DURBIZHAN_BAD_UNIVERSE);
     bytes_count--;
     take(shape_read, DURBIZHAN_BAD_FILE);
+    /* version 1 */
+    bytes_count = 0;
+    put(0x01544e42, 4);
+    put(AXES << 8 | BITS << 16, 3);
+    put(1, 4);
+    put('B', 1);
+    lent = ROOM;
+    take(shape_read, DURBIZHAN_ACCEPTED);
     end();
 }
 
@@ -387,8 +411,9 @@ int main(void)
     begin("durbizhan_room");
     axes = AXES;
     bits = BITS;
+    frame_bits = FRAME_BITS;
     take(room, DURBIZHAN_ACCEPTED);
-    bits = BITS + 1;
+    frame_bits = FRAME_BITS + 1;
     take(room, DURBIZHAN_BAD_UNIVERSE);
     end();
     conversions("durbizhan_raw_one", raw_one);
@@ -400,20 +425,20 @@ int main(void)
     questions(well_formed, DURBIZHAN_ACCEPTED, DURBIZHAN_ACCEPTED);
     end();
     begin("durbizhan_numbers");
-    last_frame = 1023;
+    last_frame = FRAMES - 1;
     questions(numbers, DURBIZHAN_ACCEPTED, DURBIZHAN_ACCEPTED);
     express(IN_HIGH);
-    last_frame = 1024;
+    last_frame = FRAMES;
     take(numbers, DURBIZHAN_OUTSIDE);
     end();
     begin("durbizhan_report");
-    last_frame = 1023;
-    counts_count = 1024;
+    last_frame = FRAMES - 1;
+    counts_count = FRAMES;
     questions(report, DURBIZHAN_ACCEPTED, DURBIZHAN_ACCEPTED);
     express(IN_HIGH);
-    counts_count = 1023;
+    counts_count = FRAMES - 1;
     take(report, DURBIZHAN_NO_ROOM);
-    last_frame = 1024;
+    last_frame = FRAMES;
     take(report, DURBIZHAN_OUTSIDE);
     end();
     questions_at_places();

@@ -20,8 +20,10 @@ const LINES: &[u64] = &[0, 1, 2, 3, 4, 5, 6, 9];
 /// Two trees over rows, and a window.
 #[derive(Clone)]
 struct Scene {
+    version: u16,
     axes: u64,
     bits: u64,
+    frame_bits: u64,
     rows: Vec<i64>,
     first: Vec<u16>,
     second: Vec<u16>,
@@ -31,7 +33,8 @@ struct Scene {
 /// The scene of examples/program.txt: a hit in frames 1 and 2, of 13 symbols.
 fn example() -> Scene {
     let rows = vec![0, 1, -1, 0, 0, 1, -1, 1, 0, 0, -2, 1, 0, 0, 0, 3, -1, 0, 0, 0];
-    Scene { axes: 2, bits: 2, rows, first: vec![256, 257, 3], second: vec![258, 259, 3], window: [0, 3] }
+    let (first, second) = (vec![256, 257, 3], vec![258, 259, 3]);
+    Scene { version: 2, axes: 2, bits: 2, frame_bits: 2, rows, first, second, window: [0, 3] }
 }
 
 /// The example with one thing changed, and the number that it then has.
@@ -45,9 +48,15 @@ fn scenes() -> Vec<(u64, Scene)> {
         changed(0, |_| ()),
         changed(0, |scene| scene.window = [3, 3]),
         changed(0, |scene| scene.second = vec![0]),
+        changed(0, |scene| scene.version = 1),
+        changed(0, |scene| (scene.frame_bits, scene.window) = (12, [0, 4095])),
+        changed(0, |scene| (scene.bits, scene.frame_bits, scene.window) = (1, 0, [0, 0])),
         changed(2, |scene| scene.axes = 0),
         changed(2, |scene| scene.axes = 5),
         changed(2, |scene| scene.bits = 11),
+        changed(2, |scene| scene.frame_bits = 13),
+        changed(2, |scene| scene.axes = 1),
+        changed(3, |scene| (scene.axes, scene.bits) = (1, 0)),
         changed(3, |scene| scene.rows[3] = 1),
         changed(3, |scene| scene.rows[0] = (1 << 40) + 1),
         changed(4, |scene| scene.first = vec![]),
@@ -55,6 +64,7 @@ fn scenes() -> Vec<(u64, Scene)> {
         changed(5, |scene| scene.first = vec![1; 33]),
         changed(5, |scene| scene.second = vec![1; 256]),
         changed(9, |scene| scene.window = [0, 4]),
+        changed(9, |scene| (scene.frame_bits, scene.window) = (12, [0, 4096])),
         changed(9, |scene| scene.window = [2, 1]),
     ]
 }
@@ -63,7 +73,10 @@ impl Scene {
     fn file(&self) -> Vec<u8> {
         let counts = [self.rows.len() / 5, self.first.len(), self.second.len()].map(|count| count as u16);
         let frames = self.window.map(|frame| frame as u16);
-        let mut file = [b"HSC\x01\0", [self.axes as u8, self.bits as u8, 0].as_slice()].concat();
+        // version 1 has a zero byte in place of the frame bits
+        let last = if self.version == 1 { 0 } else { self.frame_bits as u8 };
+        let universe = [self.axes as u8, self.bits as u8, last];
+        let mut file = [b"HSC".as_slice(), &self.version.to_le_bytes(), &universe].concat();
         file.extend([counts.as_slice(), &frames].concat().iter().flat_map(|number| number.to_le_bytes()));
         file.extend(self.rows.iter().flat_map(|number| number.to_le_bytes()));
         file.extend([&self.first[..], &self.second].concat().iter().flat_map(|word| word.to_le_bytes()));
@@ -84,25 +97,52 @@ fn leaves() {
 }
 
 fn rooms() -> Vec<u64> {
-    let cases = [(0, 2, 2), (0, 4, 10), (0, 1, 0), (2, 0, 2), (2, 5, 2), (2, 4, 11), (2, 257, 2), (2, 2, u64::MAX)];
-    for (wanted, axes, bits) in cases {
+    let cases = [
+        (0, 2, 2, 2),
+        (0, 4, 10, 10),
+        (0, 4, 10, 12),
+        (0, 3, 2, 0),
+        (0, 3, 0, 2),
+        (0, 1, 0, 0),
+        (0, 1, 0, 12),
+        (2, 0, 2, 2),
+        (2, 5, 2, 2),
+        (2, 4, 11, 10),
+        (2, 4, 10, 13),
+        (2, 1, 1, 12),
+        (2, 257, 2, 2),
+        (2, 2, u64::MAX, 2),
+        (2, 2, 2, u64::MAX),
+    ];
+    for (wanted, axes, bits, frame_bits) in cases {
         let mut answer = [u64::MAX];
-        let number = face::room(axes, bits, 4, &mut answer);
+        let number = face::room(axes, bits, frame_bits, 4, &mut answer);
         let faced = if number == ACCEPTED { Ok(answer[0]) } else { Err(Refused { number, needed: 0 }) };
-        held("room", wanted, number, durbizhan::room(Universe { axes, bits }, 4), faced);
+        held("room", wanted, number, durbizhan::room(Universe { axes, bits, frame_bits }, 4), faced);
     }
     cases.map(|(wanted, ..)| wanted).to_vec()
 }
 
 /// The verdict of a scene with so much room lent.
 fn verdict(wanted: u64, scene: &Scene, lent: usize) {
-    let Scene { axes, bits, rows, first, second, window: [first_frame, last_frame] } = scene.clone();
+    let Scene { axes, bits, frame_bits, rows, first, second, window: [first_frame, last_frame], .. } = scene.clone();
+    let universe = Universe { axes, bits, frame_bits };
     let [mut room, mut other_room] = [vec![b'.'; lent], vec![b'.'; lent]];
     let window = Window { first: first_frame, last: last_frame };
-    let wrapped = durbizhan::verdict(Universe { axes, bits }, &rows, &first, &second, window, &mut room);
+    let wrapped = durbizhan::verdict(universe, &rows, &first, &second, window, &mut room);
     let mut answer = [u64::MAX; 5];
-    let number =
-        face::verdict(axes, bits, &rows, &first, &second, first_frame, last_frame, &mut other_room, &mut answer);
+    let number = face::verdict(
+        axes,
+        bits,
+        frame_bits,
+        &rows,
+        &first,
+        &second,
+        first_frame,
+        last_frame,
+        &mut other_room,
+        &mut answer,
+    );
     let faced = match (number, answer) {
         (ACCEPTED, [0, 0, 0, 0, length]) => Ok(Clearance { verdict: Verdict::Clear, length: length as usize }),
         (ACCEPTED, [1, first, last, voxels, length]) => {
@@ -115,7 +155,7 @@ fn verdict(wanted: u64, scene: &Scene, lent: usize) {
 }
 
 fn verdicts() -> Vec<u64> {
-    let mut cases: Vec<_> = scenes().into_iter().map(|(wanted, scene)| (wanted, scene, 20)).collect();
+    let mut cases: Vec<_> = scenes().into_iter().map(|(wanted, scene)| (wanted, scene, 100)).collect();
     cases.extend([(ACCEPTED, example(), 13), (NO_ROOM, example(), 12), (NO_ROOM, example(), 0)]);
     for (wanted, scene, lent) in &cases {
         verdict(*wanted, scene, *lent);
@@ -124,22 +164,26 @@ fn verdicts() -> Vec<u64> {
 }
 
 fn numbers() -> Vec<u64> {
-    let cases: [(u64, u64, u64, &[u8], u64, u64); 11] = [
-        (0, 2, 2, b"(W(((WBW((BWW", 0, 3),
-        (0, 2, 2, b"(W(((WBW((BWW", 2, 2),
-        (0, 2, 2, b"(W(((WBW((BWW", 3, 3),
-        (0, 1, 0, b"W", 0, 0),
-        (2, 0, 2, b"B", 0, 0),
-        (2, 4, 11, b"(", 1, 0),
-        (7, 2, 2, b"", 0, 0),
-        (7, 2, 2, b"(B", 1, 0),
-        (7, 2, 2, b"BB", 0, 4),
-        (9, 2, 2, b"B", 0, 4),
-        (9, 2, 2, b"B", 2, 1),
+    let cases: [(u64, [u64; 3], &[u8], u64, u64); 15] = [
+        (0, [2, 2, 2], b"(W(((WBW((BWW", 0, 3),
+        (0, [2, 2, 2], b"(W(((WBW((BWW", 2, 2),
+        (0, [2, 2, 2], b"(W(((WBW((BWW", 3, 3),
+        (0, [2, 1, 2], b"((WBB", 0, 1),
+        (0, [1, 0, 12], b"(WB", 0, 4095),
+        (0, [1, 0, 0], b"W", 0, 0),
+        (2, [0, 2, 2], b"B", 0, 0),
+        (2, [4, 11, 10], b"(", 1, 0),
+        (2, [4, 10, 13], b"B", 0, 0),
+        (2, [1, 1, 1], b"B", 0, 0),
+        (7, [2, 2, 2], b"", 0, 0),
+        (7, [2, 2, 2], b"(B", 1, 0),
+        (7, [2, 2, 2], b"BB", 0, 4),
+        (9, [1, 0, 12], b"B", 0, 4096),
+        (9, [2, 2, 2], b"B", 2, 1),
     ];
-    for (wanted, axes, bits, expression, first, last) in cases {
+    for (wanted, [axes, bits, frame_bits], expression, first, last) in cases {
         let mut answer = [u64::MAX; 5];
-        let number = face::numbers(axes, bits, expression, first, last, &mut answer);
+        let number = face::numbers(axes, bits, frame_bits, expression, first, last, &mut answer);
         let faced = match (number, answer) {
             (ACCEPTED, [volume, 0, 0, 0, 0]) => Ok(Numbers { volume, verdict: Verdict::Clear }),
             (ACCEPTED, [volume, 1, first, last, voxels]) => {
@@ -148,7 +192,8 @@ fn numbers() -> Vec<u64> {
             (number, [0, 0, 0, 0, 0]) => Err(Refused { number, needed: 0 }),
             _ => panic!("numbers: number {number}, answer {answer:?}"),
         };
-        let wrapped = durbizhan::numbers(Universe { axes, bits }, expression, Window { first, last });
+        let universe = Universe { axes, bits, frame_bits };
+        let wrapped = durbizhan::numbers(universe, expression, Window { first, last });
         held("numbers", wanted, number, wrapped, faced);
     }
     cases.map(|case| case.0).to_vec()
@@ -158,62 +203,72 @@ fn reports() -> Vec<u64> {
     let one = b"(W(((WBW((BWW";
     let twice = [one.as_slice(), one].concat();
     let rubbish = [one.as_slice(), b"W)"].concat();
-    let cases: [(u64, u64, u64, &[u8], [u64; 2], usize); 15] = [
-        (0, 2, 2, one, [0, 3], 4),
-        (0, 2, 2, &twice, [0, 3], 5),
-        (0, 2, 2, &twice, [3, 3], 1),
-        (0, 2, 2, b"", [0, 0], 1),
-        (0, 1, 0, &[b'B'; 256], [0, 0], 1),
-        (2, 0, 2, b"B", [0, 0], 1),
-        (2, 4, 11, b"(", [1, 0], 0),
-        (7, 1, 0, &[b'B'; 257], [0, 0], 1),
-        (7, 2, 2, &rubbish, [0, 3], 4),
-        (7, 2, 2, &twice[..25], [1, 0], 4),
-        (9, 2, 2, one, [0, 4], 5),
-        (9, 2, 2, b"", [2, 1], 0),
-        (6, 2, 2, one, [0, 3], 3),
-        (6, 2, 2, b"", [0, 3], 0),
-        (6, 4, 10, b"B", [0, 1023], 1023),
+    let cases: [(u64, [u64; 3], &[u8], [u64; 2], usize); 20] = [
+        (0, [2, 2, 2], one, [0, 3], 4),
+        (0, [2, 2, 2], &twice, [0, 3], 5),
+        (0, [2, 2, 2], &twice, [3, 3], 1),
+        (0, [2, 2, 2], b"", [0, 0], 1),
+        (0, [2, 1, 2], b"((WBB(WB", [0, 3], 4),
+        (0, [1, 0, 0], &[b'B'; 256], [0, 0], 1),
+        (0, [1, 0, 12], b"(WBB", [0, 4095], 4097),
+        (2, [0, 2, 2], b"B", [0, 0], 1),
+        (2, [4, 11, 10], b"(", [1, 0], 0),
+        (2, [4, 10, 13], b"B", [0, 0], 1),
+        (2, [1, 1, 1], b"B", [0, 0], 1),
+        (7, [1, 0, 0], &[b'B'; 257], [0, 0], 1),
+        (7, [2, 2, 2], &rubbish, [0, 3], 4),
+        (7, [2, 2, 2], &twice[..25], [1, 0], 4),
+        (9, [2, 2, 2], one, [0, 4], 5),
+        (9, [1, 0, 12], b"B", [0, 4096], 4097),
+        (9, [2, 2, 2], b"", [2, 1], 0),
+        (6, [2, 2, 2], one, [0, 3], 3),
+        (6, [2, 2, 2], b"", [0, 3], 0),
+        (6, [4, 10, 12], b"B", [0, 4095], 4095),
     ];
-    for (wanted, axes, bits, expressions, [first, last], lent) in cases {
+    for (wanted, [axes, bits, frame_bits], expressions, [first, last], lent) in cases {
         let [mut counts, mut other_counts] = [vec![u64::MAX; lent], vec![u64::MAX; lent]];
         let mut answer = [u64::MAX; 2];
-        let number = face::report(axes, bits, expressions, first, last, &mut other_counts, &mut answer);
+        let number = face::report(axes, bits, frame_bits, expressions, first, last, &mut other_counts, &mut answer);
         let faced = match (number, answer) {
             (ACCEPTED, [frames, total]) => Ok(Report { frames: frames as usize, total }),
             (number, [needed, 0]) => Err(Refused { number, needed }),
             _ => panic!("report: number {number}, answer {answer:?}"),
         };
-        let wrapped = durbizhan::report(Universe { axes, bits }, expressions, Window { first, last }, &mut counts);
+        let universe = Universe { axes, bits, frame_bits };
+        let wrapped = durbizhan::report(universe, expressions, Window { first, last }, &mut counts);
         held("report", wanted, number, (wrapped, counts), (faced, other_counts));
     }
     cases.map(|case| case.0).to_vec()
 }
 
 fn merges() -> Vec<u64> {
-    let cases: [(u64, u64, u64, &[u8], usize); 11] = [
-        (0, 2, 2, b"(B(B(B(BW", 10),
-        (0, 2, 2, b"(B(B(B(BW", 9),
-        (0, 2, 2, b"((BB(BB", 7),
-        (0, 1, 0, b"W", 1),
-        (2, 0, 2, b"(BB", 3),
-        (2, 4, 11, b"(", 0),
-        (6, 2, 2, b"(B(B(B(BW", 8),
-        (6, 2, 2, b"(BB", 0),
-        (7, 2, 2, b"", 0),
-        (7, 2, 2, b"(B(B", 4),
-        (7, 2, 2, b"BB", 0),
+    let cases: [(u64, [u64; 3], &[u8], usize); 15] = [
+        (0, [2, 2, 2], b"(B(B(B(BW", 10),
+        (0, [2, 2, 2], b"(B(B(B(BW", 9),
+        (0, [2, 2, 2], b"((BB(BB", 7),
+        (0, [2, 1, 2], b"(B(B(BW", 7),
+        (0, [1, 0, 0], b"W", 1),
+        (2, [0, 2, 2], b"(BB", 3),
+        (2, [4, 11, 10], b"(", 0),
+        (2, [4, 10, 13], b"B", 1),
+        (2, [1, 1, 1], b"B", 1),
+        (6, [2, 2, 2], b"(B(B(B(BW", 8),
+        (6, [2, 2, 2], b"(BB", 0),
+        (7, [2, 1, 2], b"(B(B(B(BW", 9),
+        (7, [2, 2, 2], b"", 0),
+        (7, [2, 2, 2], b"(B(B", 4),
+        (7, [2, 2, 2], b"BB", 0),
     ];
-    for (wanted, axes, bits, expression, lent) in cases {
+    for (wanted, [axes, bits, frame_bits], expression, lent) in cases {
         let [mut room, mut other_room] = [vec![b'.'; lent], vec![b'.'; lent]];
         let mut answer = [u64::MAX; 2];
-        let number = face::merge(axes, bits, expression, &mut other_room, &mut answer);
+        let number = face::merge(axes, bits, frame_bits, expression, &mut other_room, &mut answer);
         let faced = match (number, answer) {
             (ACCEPTED, [length, held]) => Ok(Merged { length: length as usize, held }),
             (number, [needed, 0]) => Err(Refused { number, needed }),
             _ => panic!("merge: number {number}, answer {answer:?}"),
         };
-        let wrapped = durbizhan::merge(Universe { axes, bits }, expression, &mut room);
+        let wrapped = durbizhan::merge(Universe { axes, bits, frame_bits }, expression, &mut room);
         held("merge", wanted, number, (wrapped, room), (faced, other_room));
     }
     cases.map(|case| case.0).to_vec()
@@ -227,7 +282,8 @@ fn number_of(lines: &[u8]) -> u64 {
 fn lines() -> Vec<u64> {
     let mut cases: Vec<_> = scenes().into_iter().map(|(wanted, scene)| (wanted, scene.file())).collect();
     // frame 0 of axes 4, bits 5 cut through: 140,431 symbols
-    let many = Scene { axes: 4, bits: 5, rows: vec![-1, 0, 0, 0, 2], first: vec![256], second: vec![1], ..example() };
+    let (rows, first, second) = (vec![-1, 0, 0, 0, 2], vec![256], vec![1]);
+    let many = Scene { axes: 4, bits: 5, frame_bits: 5, rows, first, second, ..example() };
     cases.extend([(NO_ROOM, many.file()), (1, vec![]), (1, vec![0; 65_537])]);
     for (wanted, file) in &cases {
         let mut out = [b'.'; 256];

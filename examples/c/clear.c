@@ -19,7 +19,7 @@
 
 #include "durbizhan.h"
 
-enum { AXES = 2, BITS = 2, FIRST_FRAME = 0, LAST_FRAME = 3 };
+enum { AXES = 2, BITS = 2, FRAME_BITS = 2, FIRST_FRAME = 0, LAST_FRAME = 3 };
 
 /* Two stand-ins of two halfspaces each: one that moves a voxel a frame, and one that stands from 2 to 3. */
 static const int64_t rows[] = {
@@ -67,17 +67,17 @@ int main(int count, char **words)
     uint64_t room[1], verdict[5], numbers[5];
 
     uint64_t leaves = durbizhan_leaves(first, COUNT(first)) + durbizhan_leaves(second, COUNT(second));
-    uint64_t number = durbizhan_room(AXES, BITS, leaves, room);
+    uint64_t number = durbizhan_room(AXES, BITS, FRAME_BITS, leaves, room);
     if (number != DURBIZHAN_ACCEPTED) return refused(number, 0);
     if (room[0] > sizeof out) return refused(DURBIZHAN_NO_ROOM, room[0]);
 
     /* The number is read first: a refused verdict is Clear. */
-    number = durbizhan_verdict(AXES, BITS, rows, COUNT(rows), first, COUNT(first), second, COUNT(second),
+    number = durbizhan_verdict(AXES, BITS, FRAME_BITS, rows, COUNT(rows), first, COUNT(first), second, COUNT(second),
                                FIRST_FRAME, LAST_FRAME, out, sizeof out, verdict);
     if (number != DURBIZHAN_ACCEPTED) return refused(number, verdict[4]);
 
     /* Asked for its numbers, the expression that was written has the same verdict; its volume stands before that. */
-    number = durbizhan_numbers(AXES, BITS, out, verdict[4], FIRST_FRAME, LAST_FRAME, numbers);
+    number = durbizhan_numbers(AXES, BITS, FRAME_BITS, out, verdict[4], FIRST_FRAME, LAST_FRAME, numbers);
     if (number != DURBIZHAN_ACCEPTED) return refused(number, 0);
     if (memcmp(numbers + 1, verdict, 4 * sizeof numbers[0]) != 0) return 1;
 

@@ -24,7 +24,7 @@
 
 #include "durbizhan.h"
 
-enum { AXES = 2, BITS = 3, FIRST_FRAME = 0, LAST_FRAME = 7, FRAMES = 8, SHOTS = 2 };
+enum { AXES = 2, BITS = 3, FRAME_BITS = 3, FIRST_FRAME = 0, LAST_FRAME = 7, FRAMES = 8, SHOTS = 2 };
 
 /* The stand-in between t and t + 1, and the two walls: from 2 to 3, and from 4 to 7. */
 static const int64_t rows[] = {
@@ -44,7 +44,8 @@ static const uint16_t walls[SHOTS][3] = {{258, 259, 3}, {260, 261, 3}};
 static uint64_t report(const uint8_t *expressions, size_t count, uint64_t row[FRAMES + 1])
 {
     uint64_t answer[2];
-    uint64_t number = durbizhan_report(AXES, BITS, expressions, count, FIRST_FRAME, LAST_FRAME, row, FRAMES, answer);
+    uint64_t number = durbizhan_report(AXES, BITS, FRAME_BITS, expressions, count, FIRST_FRAME, LAST_FRAME, row, FRAMES,
+                                       answer);
     row[FRAMES] = answer[1];
     return number;
 }
@@ -58,9 +59,9 @@ int main(void)
     /* The expressions stand one straight after another: each shot's intersection behind the one before it. */
     for (int shot = 0; shot < SHOTS; shot++) {
         uint64_t length[1];
-        uint64_t number = durbizhan_merged_two(AXES, BITS, rows, COUNT(rows), mover, COUNT(mover), walls[shot],
-                                               COUNT(walls[shot]), expressions + start, sizeof expressions - start,
-                                               length);
+        uint64_t number = durbizhan_merged_two(AXES, BITS, FRAME_BITS, rows, COUNT(rows), mover, COUNT(mover),
+                                               walls[shot], COUNT(walls[shot]), expressions + start,
+                                               sizeof expressions - start, length);
         if (number == DURBIZHAN_ACCEPTED) number = report(expressions + start, length[0], columns[shot]);
         if (number != DURBIZHAN_ACCEPTED) {
             printf("refused %" PRIu64 "\n", number);

@@ -34,7 +34,7 @@ const FIRST: [u16; 3] = [256, 257, 3];
 const SECOND: [u16; 3] = [258, 259, 3];
 
 fn judged() -> Result<String, Refused> {
-    let universe = Universe { axes: 2, bits: 2 };
+    let universe = Universe { axes: 2, bits: 2, frame_bits: 2 };
     let window = Window { first: 0, last: 3 };
     let leaves = durbizhan::leaves(&FIRST) + durbizhan::leaves(&SECOND);
     let room = durbizhan::room(universe, leaves)?;

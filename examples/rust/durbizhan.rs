@@ -6,11 +6,12 @@ mod face {
     extern "C" {
         pub fn durbizhan_leaves(words: *const u16, words_count: usize) -> u64;
 
-        pub fn durbizhan_room(axes: u64, bits: u64, leaves: u64, answer: *mut [u64; 1]) -> u64;
+        pub fn durbizhan_room(axes: u64, bits: u64, frame_bits: u64, leaves: u64, answer: *mut [u64; 1]) -> u64;
 
         pub fn durbizhan_verdict(
             axes: u64,
             bits: u64,
+            frame_bits: u64,
             rows: *const i64,
             rows_count: usize,
             first: *const u16,
@@ -27,6 +28,7 @@ mod face {
         pub fn durbizhan_numbers(
             axes: u64,
             bits: u64,
+            frame_bits: u64,
             expression: *const u8,
             expression_count: usize,
             first_frame: u64,
@@ -37,6 +39,7 @@ mod face {
         pub fn durbizhan_report(
             axes: u64,
             bits: u64,
+            frame_bits: u64,
             expressions: *const u8,
             expressions_count: usize,
             first_frame: u64,
@@ -49,6 +52,7 @@ mod face {
         pub fn durbizhan_merge(
             axes: u64,
             bits: u64,
+            frame_bits: u64,
             expression: *const u8,
             expression_count: usize,
             out: *mut u8,
@@ -98,19 +102,21 @@ pub struct Report {
     pub total: u64,
 }
 
-/// The length of the merged expression that was written, and the most symbols that are held back while the expression is
-/// received.
+/// The length of the merged expression that was written, and the most symbols that are held back while the expression
+/// is received.
 #[derive(Debug, PartialEq)]
 pub struct Merged {
     pub length: usize,
     pub held: u64,
 }
 
-/// Axes and bits.
+/// Axes, the last of which counts frames; the bits of each of the others, 0 where there is one axis; and those of the
+/// frames.
 #[derive(Clone, Copy)]
 pub struct Universe {
     pub axes: u64,
     pub bits: u64,
+    pub frame_bits: u64,
 }
 
 /// Frames first to last, both ends in.
@@ -125,8 +131,9 @@ pub fn leaves(words: &[u16]) -> u64 {
 }
 
 pub fn room(universe: Universe, leaves: u64) -> Result<u64, Refused> {
+    let Universe { axes, bits, frame_bits } = universe;
     let mut answer = [0; 1];
-    match unsafe { face::durbizhan_room(universe.axes, universe.bits, leaves, &mut answer) } {
+    match unsafe { face::durbizhan_room(axes, bits, frame_bits, leaves, &mut answer) } {
         ACCEPTED => Ok(answer[0]),
         number => Err(Refused { number, needed: 0 }),
     }
@@ -145,6 +152,7 @@ pub fn verdict(
         face::durbizhan_verdict(
             universe.axes,
             universe.bits,
+            universe.frame_bits,
             rows.as_ptr(),
             rows.len(),
             first.as_ptr(),
@@ -179,6 +187,7 @@ pub fn numbers(universe: Universe, expression: &[u8], window: Window) -> Result<
         face::durbizhan_numbers(
             universe.axes,
             universe.bits,
+            universe.frame_bits,
             expression.as_ptr(),
             expression.len(),
             window.first,
@@ -206,6 +215,7 @@ pub fn report(
         face::durbizhan_report(
             universe.axes,
             universe.bits,
+            universe.frame_bits,
             expressions.as_ptr(),
             expressions.len(),
             window.first,
@@ -229,6 +239,7 @@ pub fn merge(universe: Universe, expression: &[u8], out: &mut [u8]) -> Result<Me
         face::durbizhan_merge(
             universe.axes,
             universe.bits,
+            universe.frame_bits,
             expression.as_ptr(),
             expression.len(),
             out.as_mut_ptr(),

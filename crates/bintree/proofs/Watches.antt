@@ -13,7 +13,7 @@ use lib.Pow.{pow-pos, pow-mono, pow-add}
 use Rattle.lemmas.specs.Sums.{product}
 use Rattle.lemmas.proofs.Machine.{shifted-one}
 use Rattle.universe.specs.declared.Universe.{Universe}
-use Rattle.universe.specs.Universe.{universeRefusal, levels, mostBits, mostLevels, longestSide, frameAxis, frameCount, blockSide}
+use Rattle.universe.specs.Universe.{universeRefusal, levels, mostFrameBits, mostLevels, longestSide, frameAxis, frameCount, blockSide}
 use Rattle.universe.proofs.Universes.{accepted, levels-few, side-few, voxels-left}
 use Rattle.bintree.specs.declared.Colour.the-variants.{Black}
 use Rattle.bintree.specs.declared.Contact.{Contact}
@@ -30,12 +30,12 @@ use Rattle.bintree.proofs.Owed.{bit-under}
 use Rattle.bintree.proofs.Frames.{bits-left, bits-grow}
 
 -- ---- 2 to the bits of so few frames, as code makes it
-pub shifted : (bits : ℕ) → bits ≤ mostBits → (1 * 2 ^ bits) % 2 ^ 64 ≡ 2 ^ bits
+pub shifted : (bits : ℕ) → bits ≤ mostFrameBits → (1 * 2 ^ bits) % 2 ^ 64 ≡ 2 ^ bits
 shifted bits h = shifted-one bits (omega arith)
 
 -- so few frames or voxels have few bits
-few-frames : (frame bits : ℕ) → frame + 2 ^ bits ≤ longestSide → bits ≤ mostBits
-few-frames frame bits h = bit-under {l = bits} {k = mostBits} (omega arith)
+few-frames : (frame bits : ℕ) → frame + 2 ^ bits ≤ longestSide → bits ≤ mostFrameBits
+few-frames frame bits h = bit-under {l = bits} {k = mostFrameBits} (omega arith)
 
 few-voxels : (v n : ℕ) → v + 2 ^ n ≤ 2 ^ mostLevels → n ≤ mostLevels
 few-voxels v n h = bit-under {l = n} {k = mostLevels} (omega arith)

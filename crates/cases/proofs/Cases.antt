@@ -10,7 +10,7 @@ use Rattle.lemmas.specs.Sums.{sum, total, product, every}
 use Rattle.universe.specs.declared.Universe.{Universe}
 use Rattle.universe.specs.Lent.{overwritten}
 use Rattle.universe.specs.Rounds.{round, rounds}
-use Rattle.universe.specs.Universe.{universeRefusal, bitsAlong, levels, order, axisAt, halvings, blocksAlong, blockSide}
+use Rattle.universe.specs.Universe.{universeRefusal, equalBits, bitsAlong, levels, order, axisAt, halvings, blocksAlong, blockSide}
 use Rattle.universe.specs.Block.{wholeBlock}
 use Rattle.universe.specs.Voxel.{voxelRefusal, windowRefusal, pathFrom}
 use Rattle.universe.specs.Room.{blocksAt, innerBlocksAt, levelCount, room, roomAnswer}
@@ -39,7 +39,7 @@ use Rattle.cases.specs.Cases.{closed, cases, Every, NoLeavesRoom, NoBits
 computed : map (λ c. c .computed) closed ≡ map (λ c. c .expected) closed
 unfolding
     sum total product every overwritten
-    round rounds universeRefusal bitsAlong levels order axisAt halvings blocksAlong blockSide
+    round rounds universeRefusal equalBits bitsAlong levels order axisAt halvings blocksAlong blockSide
     voxelRefusal windowRefusal pathFrom blocksAt innerBlocksAt levelCount room roomAnswer
     symbols size readLeaf withHigh readHalves readAt exactly expression expressionRefusal writtenAnswer writtenBuffer join merged
     isPair onward heldIn heldAfter largest mostHeld mergeAnswer mergeBuffer
@@ -67,7 +67,7 @@ unfolding room
 no-leaves u z = room-is u 0 1 z (omega (arith, nothing-counted u (levels u)))
 
 no-levels : (d : ℕ) → levels (universe d 0) ≡ 0
-no-levels d = omega (arith, levels-product (universe d 0))
+no-levels d = omega (arith, levels-product d 0 (omega arith))
 
 no-bits-room : NoBitsRoom
 unfolding room sum

@@ -2,7 +2,7 @@
 use mathlib.Core.Path.{refl}
 use Rattle.lemmas.specs.Sums.{sum, total, every}
 use Rattle.universe.specs.Rounds.{round, rounds}
-use Rattle.universe.specs.Universe.{universeRefusal, bitsAlong, levels, order, axisAt, halvings, blockSide}
+use Rattle.universe.specs.Universe.{universeRefusal, equalBits, bitsAlong, levels, order, axisAt, halvings, blockSide}
 use Rattle.universe.specs.Lent.{overwritten}
 use Rattle.bintree.specs.Shape.{symbols}
 use Rattle.bintree.specs.Answers.{writtenAnswer, writtenBuffer}
@@ -19,7 +19,7 @@ use Rattle.cases.specs.CutFromItself.{CutCases}
 pub cut-cases-hold : CutCases
 unfolding
     sum total every
-    round rounds universeRefusal bitsAlong levels order axisAt halvings blockSide overwritten
+    round rounds universeRefusal equalBits bitsAlong levels order axisAt halvings blockSide overwritten
     symbols writtenAnswer writtenBuffer join merged
     withinLimits rowsRefusal centreValue colourAtCentre least greatest markOver plain reversal
     meaning step finish run parse treeRefusal treeOf

@@ -4,7 +4,7 @@ use Rattle.lemmas.specs.Sums.{sum}
 use Rattle.lemmas.specs.Grid.{put, grid, listed}
 use Rattle.universe.specs.Lent.{overwritten}
 use Rattle.universe.specs.Rounds.{round, rounds}
-use Rattle.universe.specs.Universe.{universeRefusal, bitsAlong, levels, order, axisAt, halvings, blocksAlong, blockSide}
+use Rattle.universe.specs.Universe.{universeRefusal, equalBits, bitsAlong, levels, order, axisAt, halvings, blocksAlong, blockSide}
 use Rattle.universe.specs.Voxel.{windowRefusal, pathFrom}
 use Rattle.bintree.specs.Shape.{size}
 use Rattle.bintree.specs.Reading.{readLeaf, withHigh, readHalves, readAt}
@@ -16,7 +16,8 @@ use Rattle.cases.specs.Reports.{ReportsHold}
 
 pub reports-hold : ReportsHold
 unfolding
-    sum put grid listed overwritten round rounds universeRefusal bitsAlong levels order axisAt halvings blocksAlong blockSide windowRefusal pathFrom
+    sum put grid listed overwritten round rounds
+    universeRefusal equalBits bitsAlong levels order axisAt halvings blocksAlong blockSide windowRefusal pathFrom
     size readLeaf withHigh readHalves readAt part colourAt blackVoxelsAt
     withFirst listFrom listOf listRefusal sumOver frameCounts totalVoxels reportAnswer reportRow
 reports-hold = refl

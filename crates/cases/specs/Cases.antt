@@ -10,7 +10,7 @@ use lib.IntN.{ℤ, pos, negℤ}
 use lib.ListN.{length, take, replicate}
 use Rattle.universe.specs.declared.Universe.{Universe}
 use Rattle.universe.specs.declared.room.RoomAnswer.{RoomAnswer}
-use Rattle.universe.specs.Universe.{universeRefusal}
+use Rattle.universe.specs.Universe.{universeRefusal, equalBits}
 use Rattle.universe.specs.Room.{roomAnswer}
 use Rattle.bintree.specs.declared.Colour.{Colour}
 use Rattle.bintree.specs.declared.Colour.the-variants.{White, Black}
@@ -43,9 +43,9 @@ use Rattle.convert.specs.Answers.{
   doneClearance,
 }
 
--- a universe of d axes and k bits
+-- the universe of d axes with k bits each
 abbrev pub universe : ℕ → ℕ → Universe
-universe d k = record { axes = d; bits = k }
+universe d k = equalBits d k
 
 -- the universe of every case that names no other
 abbrev pub square : Universe

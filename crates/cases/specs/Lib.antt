@@ -2,4 +2,5 @@
 pub mod Cases
 pub mod CutFromItself
 pub mod Numbers
+pub mod FrameBits
 pub mod Reports

@@ -8,9 +8,13 @@ use universe::Universe;
 
 const LENT: usize = 20;
 
-// d 2, k 2.
+// d 2, k 2, f 2.
 fn square() -> Universe {
-    Universe { axes: 2, bits: 2 }
+    Universe {
+        axes: 2,
+        bits: 2,
+        frame_bits: 2,
+    }
 }
 
 fn say(text: &[u8]) {
@@ -137,7 +141,13 @@ fn scene(label: &[u8], universe: Universe, rows: &[i64], first: &[u16], second: 
 // Each number in its order, with all that comes later wrong too.
 fn scenes() {
     scene(b"taken", square(), &[0, 0, 0, 0, 0], &[256], &[1]);
-    scene(b"universe", Universe { axes: 5, bits: 2 }, &[0], &[], &[9]);
+    scene(
+        b"universe",
+        Universe::with_equal_bits(5, 2),
+        &[0],
+        &[],
+        &[9],
+    );
     scene(b"rows", square(), &[0, 0, 0, 1, 0], &[], &[9]);
     scene(b"tree 1", square(), &[], &[9], &[1; 33]);
     scene(b"tree 2", square(), &[], &[1], &[1; 33]);

@@ -24,9 +24,9 @@ use Rattle.standin.specs.declared.Solid.the-variants.{Box, Cut}
 use Rattle.standin.specs.declared.Proxy.{Proxy}
 use Rattle.export.specs.declared.verdicts.Told.{Told}
 
--- a universe of its two numbers
-abbrev pub universeOf : ℕ → ℕ → Universe
-universeOf axes bits = record { axes = axes; bits = bits }
+-- a universe of its three numbers
+abbrev pub universeOf : ℕ → ℕ → ℕ → Universe
+universeOf axes bits frame-bits = record { axes = axes; bits = bits; «frame_bits» = frame-bits }
 
 -- room in symbols
 abbrev pub roomArray : RoomAnswer → List ℕ
@@ -71,16 +71,17 @@ colourArray a = colourNumber (a .colour) ∷ []
 abbrev pub placeArray : Placed → List ℕ
 placeArray a = a .start ∷ a .length ∷ []
 
--- a scene's axes, bits, rows, words of tree 1 and of tree 2, first frame and last frame
+-- a scene's version, axes, bits, frame bits, rows, words of tree 1 and of tree 2, first frame and last frame
 abbrev pub sceneArray : Scene → List ℕ
 sceneArray a =
-    a .universe .axes ∷ a .universe .bits
+    a .version
+    ∷ a .universe .axes ∷ a .universe .bits ∷ a .universe .«frame_bits»
     ∷ a .counts .rows ∷ a .counts .first ∷ a .counts .second
     ∷ a .window .first ∷ a .window .last ∷ []
 
--- a shape's axes, bits and length, needed on 6
+-- a shape's axes, bits, frame bits and length, needed on 6
 abbrev pub shapeArray : ShapeRead → List ℕ
-shapeArray a = a .universe .axes ∷ a .universe .bits ∷ a .length ∷ []
+shapeArray a = a .universe .axes ∷ a .universe .bits ∷ a .universe .«frame_bits» ∷ a .length ∷ []
 
 -- rule 6.1: a corner, a normal or a displacement of its three floats
 abbrev pub tripleOf : Float → Float → Float → Triple

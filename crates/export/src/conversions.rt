@@ -10,13 +10,20 @@ ghost use Rattle.export.specs.Arrays.{universeOf, roomArray, lengthArray
 
 // Room in symbols, for so many words that name a halfspace (rule 4.7).
 #[no_mangle]
-pub extern "C" fn durbizhan_room(axes: u64, bits: u64, leaves: u64, answer: &mut [u64; 1]) -> u64
-    ensures { λ r. ⌜ r ≡ roomAnswer (universeOf axes bits) leaves .refusal ⌝ }
-    ensures { λ _. ⌜ now (answer .exit) ≡ roomArray (roomAnswer (universeOf axes bits) leaves) ⌝ }
+pub extern "C" fn durbizhan_room(
+    axes: u64,
+    bits: u64,
+    frame_bits: u64,
+    leaves: u64,
+    answer: &mut [u64; 1],
+) -> u64
+    ensures { λ r. ⌜ r ≡ roomAnswer (universeOf axes bits «frame_bits») leaves .refusal ⌝ }
+    ensures { λ _. ⌜ now (answer .exit) ≡ roomArray (roomAnswer (universeOf axes bits «frame_bits») leaves) ⌝ }
 {
     let universe = Universe {
         axes: axes,
         bits: bits,
+        frame_bits: frame_bits,
     };
     let found = universe.room(leaves);
     *answer = [found.symbols];
@@ -36,24 +43,26 @@ pub extern "C" fn durbizhan_leaves(words: &[u16]) -> u64
 pub extern "C" fn durbizhan_raw_one(
     axes: u64,
     bits: u64,
+    frame_bits: u64,
     rows: &[i64],
     words: &[u16],
     out: &mut [u8],
     answer: &mut [u64; 1],
 ) -> u64
-    ensures { λ r. let u = universeOf axes bits in
+    ensures { λ r. let u = universeOf axes bits «frame_bits» in
         let surfaces = surfacesOf (now (rows .entry)) in
         ⌜ r ≡ rawOfOneAnswer u surfaces (now (words .entry)) (now (out .entry)) .refusal ⌝ }
-    ensures { λ _. let u = universeOf axes bits in
+    ensures { λ _. let u = universeOf axes bits «frame_bits» in
         let surfaces = surfacesOf (now (rows .entry)) in
         ⌜ now (answer .exit) ≡ lengthArray (rawOfOneAnswer u surfaces (now (words .entry)) (now (out .entry))) ⌝ }
-    ensures { λ _. let u = universeOf axes bits in
+    ensures { λ _. let u = universeOf axes bits «frame_bits» in
         let surfaces = surfacesOf (now (rows .entry)) in
         ⌜ now (out .exit) ≡ rawOfOneBuffer u surfaces (now (words .entry)) (now (out .entry)) ⌝ }
 {
     let universe = Universe {
         axes: axes,
         bits: bits,
+        frame_bits: frame_bits,
     };
     let written = convert::raw_of_one(universe, rows, words, out);
     *answer = [written.length];
@@ -65,23 +74,24 @@ pub extern "C" fn durbizhan_raw_one(
 pub extern "C" fn durbizhan_raw_two(
     axes: u64,
     bits: u64,
+    frame_bits: u64,
     rows: &[i64],
     first: &[u16],
     second: &[u16],
     out: &mut [u8],
     answer: &mut [u64; 1],
 ) -> u64
-    ensures { λ r. let u = universeOf axes bits in
+    ensures { λ r. let u = universeOf axes bits «frame_bits» in
         let surfaces = surfacesOf (now (rows .entry)) in
         let first = now (first .entry) in
         let second = now (second .entry) in
         ⌜ r ≡ rawOfTwoAnswer u surfaces first second (now (out .entry)) .refusal ⌝ }
-    ensures { λ _. let u = universeOf axes bits in
+    ensures { λ _. let u = universeOf axes bits «frame_bits» in
         let surfaces = surfacesOf (now (rows .entry)) in
         let first = now (first .entry) in
         let second = now (second .entry) in
         ⌜ now (answer .exit) ≡ lengthArray (rawOfTwoAnswer u surfaces first second (now (out .entry))) ⌝ }
-    ensures { λ _. let u = universeOf axes bits in
+    ensures { λ _. let u = universeOf axes bits «frame_bits» in
         let surfaces = surfacesOf (now (rows .entry)) in
         let first = now (first .entry) in
         let second = now (second .entry) in
@@ -90,6 +100,7 @@ pub extern "C" fn durbizhan_raw_two(
     let universe = Universe {
         axes: axes,
         bits: bits,
+        frame_bits: frame_bits,
     };
     let written = convert::raw_of_two(universe, rows, first, second, out);
     *answer = [written.length];
@@ -101,24 +112,26 @@ pub extern "C" fn durbizhan_raw_two(
 pub extern "C" fn durbizhan_merged_one(
     axes: u64,
     bits: u64,
+    frame_bits: u64,
     rows: &[i64],
     words: &[u16],
     out: &mut [u8],
     answer: &mut [u64; 1],
 ) -> u64
-    ensures { λ r. let u = universeOf axes bits in
+    ensures { λ r. let u = universeOf axes bits «frame_bits» in
         let surfaces = surfacesOf (now (rows .entry)) in
         ⌜ r ≡ mergedOfOneAnswer u surfaces (now (words .entry)) (now (out .entry)) .refusal ⌝ }
-    ensures { λ _. let u = universeOf axes bits in
+    ensures { λ _. let u = universeOf axes bits «frame_bits» in
         let surfaces = surfacesOf (now (rows .entry)) in
         ⌜ now (answer .exit) ≡ lengthArray (mergedOfOneAnswer u surfaces (now (words .entry)) (now (out .entry))) ⌝ }
-    ensures { λ _. let u = universeOf axes bits in
+    ensures { λ _. let u = universeOf axes bits «frame_bits» in
         let surfaces = surfacesOf (now (rows .entry)) in
         ⌜ now (out .exit) ≡ mergedOfOneBuffer u surfaces (now (words .entry)) (now (out .entry)) ⌝ }
 {
     let universe = Universe {
         axes: axes,
         bits: bits,
+        frame_bits: frame_bits,
     };
     let written = convert::merged_of_one(universe, rows, words, out);
     *answer = [written.length];
@@ -130,23 +143,24 @@ pub extern "C" fn durbizhan_merged_one(
 pub extern "C" fn durbizhan_merged_two(
     axes: u64,
     bits: u64,
+    frame_bits: u64,
     rows: &[i64],
     first: &[u16],
     second: &[u16],
     out: &mut [u8],
     answer: &mut [u64; 1],
 ) -> u64
-    ensures { λ r. let u = universeOf axes bits in
+    ensures { λ r. let u = universeOf axes bits «frame_bits» in
         let surfaces = surfacesOf (now (rows .entry)) in
         let first = now (first .entry) in
         let second = now (second .entry) in
         ⌜ r ≡ mergedOfTwoAnswer u surfaces first second (now (out .entry)) .refusal ⌝ }
-    ensures { λ _. let u = universeOf axes bits in
+    ensures { λ _. let u = universeOf axes bits «frame_bits» in
         let surfaces = surfacesOf (now (rows .entry)) in
         let first = now (first .entry) in
         let second = now (second .entry) in
         ⌜ now (answer .exit) ≡ lengthArray (mergedOfTwoAnswer u surfaces first second (now (out .entry))) ⌝ }
-    ensures { λ _. let u = universeOf axes bits in
+    ensures { λ _. let u = universeOf axes bits «frame_bits» in
         let surfaces = surfacesOf (now (rows .entry)) in
         let first = now (first .entry) in
         let second = now (second .entry) in
@@ -155,6 +169,7 @@ pub extern "C" fn durbizhan_merged_two(
     let universe = Universe {
         axes: axes,
         bits: bits,
+        frame_bits: frame_bits,
     };
     let written = convert::merged_of_two(universe, rows, first, second, out);
     *answer = [written.length];

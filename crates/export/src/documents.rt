@@ -18,7 +18,7 @@ pub extern "C" fn durbizhan_scene(
     rows: &mut [i64; MOST_NUMBERS],
     first: &mut [u16; MOST_WORDS],
     second: &mut [u16; MOST_WORDS],
-    answer: &mut [u64; 7],
+    answer: &mut [u64; 9],
 ) -> u64
     ensures { λ r. ⌜ r ≡ sceneAnswer (now (bytes .entry)) .refusal ⌝ }
     ensures { λ _. ⌜ now (answer .exit) ≡ sceneArray (sceneAnswer (now (bytes .entry))) ⌝ }
@@ -31,8 +31,10 @@ pub extern "C" fn durbizhan_scene(
     let counts = scene.counts;
     let window = scene.window;
     *answer = [
+        scene.version,
         universe.axes,
         universe.bits,
+        universe.frame_bits,
         counts.rows,
         counts.first,
         counts.second,
@@ -54,14 +56,19 @@ pub extern "C" fn durbizhan_lines(scene: &[u8], out: &mut [u8; MOST_BYTES]) -> u
 
 // Reads a shape file: its symbols go to the front of the lent room.
 #[no_mangle]
-pub extern "C" fn durbizhan_shape_read(bytes: &[u8], out: &mut [u8], answer: &mut [u64; 3]) -> u64
+pub extern "C" fn durbizhan_shape_read(bytes: &[u8], out: &mut [u8], answer: &mut [u64; 4]) -> u64
     ensures { λ r. ⌜ r ≡ readAnswer (now (bytes .entry)) (now (out .entry)) .refusal ⌝ }
     ensures { λ _. ⌜ now (answer .exit) ≡ shapeArray (readAnswer (now (bytes .entry)) (now (out .entry))) ⌝ }
     ensures { λ _. ⌜ now (out .exit) ≡ readBuffer (now (bytes .entry)) (now (out .entry)) ⌝ }
 {
     let shape = files::read_shape(bytes, out);
     let universe = shape.universe;
-    *answer = [universe.axes, universe.bits, shape.length];
+    *answer = [
+        universe.axes,
+        universe.bits,
+        universe.frame_bits,
+        shape.length,
+    ];
     shape.refusal
 }
 
@@ -70,20 +77,22 @@ pub extern "C" fn durbizhan_shape_read(bytes: &[u8], out: &mut [u8], answer: &mu
 pub extern "C" fn durbizhan_shape_write(
     axes: u64,
     bits: u64,
+    frame_bits: u64,
     expression: &[u8],
     out: &mut [u8],
     answer: &mut [u64; 1],
 ) -> u64
-    ensures { λ r. let u = universeOf axes bits in
+    ensures { λ r. let u = universeOf axes bits «frame_bits» in
         ⌜ r ≡ writeAnswer u (now (expression .entry)) (now (out .entry)) .refusal ⌝ }
-    ensures { λ _. let u = universeOf axes bits in
+    ensures { λ _. let u = universeOf axes bits «frame_bits» in
         ⌜ now (answer .exit) ≡ lengthArray (writeAnswer u (now (expression .entry)) (now (out .entry))) ⌝ }
-    ensures { λ _. let u = universeOf axes bits in
+    ensures { λ _. let u = universeOf axes bits «frame_bits» in
         ⌜ now (out .exit) ≡ writeBuffer u (now (expression .entry)) (now (out .entry)) ⌝ }
 {
     let universe = Universe {
         axes: axes,
         bits: bits,
+        frame_bits: frame_bits,
     };
     let written = files::write_shape(universe, expression, out);
     *answer = [written.length];

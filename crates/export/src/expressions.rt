@@ -11,12 +11,18 @@ ghost use Rattle.export.specs.Arrays.{colourNumber, colourArray, placeAr
 
 // Whether an expression is well-formed.
 #[no_mangle]
-pub extern "C" fn durbizhan_well_formed(axes: u64, bits: u64, expression: &[u8]) -> u64
-    ensures { λ r. ⌜ r ≡ wellFormedRefusal (universeOf axes bits) (now (expression .entry)) ⌝ }
+pub extern "C" fn durbizhan_well_formed(
+    axes: u64,
+    bits: u64,
+    frame_bits: u64,
+    expression: &[u8],
+) -> u64
+    ensures { λ r. ⌜ r ≡ wellFormedRefusal (universeOf axes bits «frame_bits») (now (expression .entry)) ⌝ }
 {
     let universe = Universe {
         axes: axes,
         bits: bits,
+        frame_bits: frame_bits,
     };
     bintree::well_formed(universe, expression)
 }
@@ -36,6 +42,7 @@ fn number_of(colour: Colour) -> u64
 pub extern "C" fn durbizhan_colour(
     axes: u64,
     bits: u64,
+    frame_bits: u64,
     expression: &[u8],
     x: u64,
     y: u64,
@@ -43,14 +50,15 @@ pub extern "C" fn durbizhan_colour(
     t: u64,
     answer: &mut [u64; 1],
 ) -> u64
-    ensures { λ r. let u = universeOf axes bits in
+    ensures { λ r. let u = universeOf axes bits «frame_bits» in
         ⌜ r ≡ colourAnswer u (now (expression .entry)) (x ∷ y ∷ z ∷ t ∷ []) .refusal ⌝ }
-    ensures { λ _. let u = universeOf axes bits in
+    ensures { λ _. let u = universeOf axes bits «frame_bits» in
         ⌜ now (answer .exit) ≡ colourArray (colourAnswer u (now (expression .entry)) (x ∷ y ∷ z ∷ t ∷ [])) ⌝ }
 {
     let universe = Universe {
         axes: axes,
         bits: bits,
+        frame_bits: frame_bits,
     };
     let shown = bintree::colour_at(universe, expression, [x, y, z, t]);
     let colour = shown.colour;
@@ -63,18 +71,20 @@ pub extern "C" fn durbizhan_colour(
 pub extern "C" fn durbizhan_part(
     axes: u64,
     bits: u64,
+    frame_bits: u64,
     expression: &[u8],
     path: &[u8],
     answer: &mut [u64; 2],
 ) -> u64
-    ensures { λ r. let u = universeOf axes bits in
+    ensures { λ r. let u = universeOf axes bits «frame_bits» in
         ⌜ r ≡ placeAnswer u (now (expression .entry)) (now (path .entry)) .refusal ⌝ }
-    ensures { λ _. let u = universeOf axes bits in
+    ensures { λ _. let u = universeOf axes bits «frame_bits» in
         ⌜ now (answer .exit) ≡ placeArray (placeAnswer u (now (expression .entry)) (now (path .entry))) ⌝ }
 {
     let universe = Universe {
         axes: axes,
         bits: bits,
+        frame_bits: frame_bits,
     };
     let placed = bintree::part_place(universe, expression, path);
     *answer = [placed.start, placed.length];
@@ -86,20 +96,22 @@ pub extern "C" fn durbizhan_part(
 pub extern "C" fn durbizhan_merge(
     axes: u64,
     bits: u64,
+    frame_bits: u64,
     expression: &[u8],
     out: &mut [u8],
     answer: &mut [u64; 2],
 ) -> u64
-    ensures { λ r. let u = universeOf axes bits in
+    ensures { λ r. let u = universeOf axes bits «frame_bits» in
         ⌜ r ≡ mergeAnswer u (now (expression .entry)) (now (out .entry)) .refusal ⌝ }
-    ensures { λ _. let u = universeOf axes bits in
+    ensures { λ _. let u = universeOf axes bits «frame_bits» in
         ⌜ now (answer .exit) ≡ mergedArray (mergeAnswer u (now (expression .entry)) (now (out .entry))) ⌝ }
-    ensures { λ _. let u = universeOf axes bits in
+    ensures { λ _. let u = universeOf axes bits «frame_bits» in
         ⌜ now (out .exit) ≡ mergeBuffer u (now (expression .entry)) (now (out .entry)) ⌝ }
 {
     let universe = Universe {
         axes: axes,
         bits: bits,
+        frame_bits: frame_bits,
     };
     let merged = bintree::merge(universe, expression, out);
     *answer = [merged.length, merged.held];

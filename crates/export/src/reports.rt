@@ -10,26 +10,28 @@ ghost use Rattle.export.specs.Arrays.{universeOf, reportArray};
 pub extern "C" fn durbizhan_report(
     axes: u64,
     bits: u64,
+    frame_bits: u64,
     expressions: &[u8],
     first_frame: u64,
     last_frame: u64,
     counts: &mut [u64],
     answer: &mut [u64; 2],
 ) -> u64
-    ensures { λ r. let u = universeOf axes bits in
+    ensures { λ r. let u = universeOf axes bits «frame_bits» in
         let row = now (counts .entry) in
         ⌜ r ≡ reportAnswer u (now (expressions .entry)) «first_frame» «last_frame» row .refusal ⌝ }
-    ensures { λ _. let u = universeOf axes bits in
+    ensures { λ _. let u = universeOf axes bits «frame_bits» in
         let row = now (counts .entry) in
         let told = reportAnswer u (now (expressions .entry)) «first_frame» «last_frame» row in
         ⌜ now (answer .exit) ≡ reportArray told ⌝ }
-    ensures { λ _. let u = universeOf axes bits in
+    ensures { λ _. let u = universeOf axes bits «frame_bits» in
         let row = now (counts .entry) in
         ⌜ now (counts .exit) ≡ reportRow u (now (expressions .entry)) «first_frame» «last_frame» row ⌝ }
 {
     let universe = Universe {
         axes: axes,
         bits: bits,
+        frame_bits: frame_bits,
     };
     let report = report::report_of(universe, expressions, first_frame, last_frame, counts);
     *answer = [report.frames, report.total];

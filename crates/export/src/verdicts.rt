@@ -40,6 +40,7 @@ fn told_of(verdict: Verdict) -> Told
 pub extern "C" fn durbizhan_verdict(
     axes: u64,
     bits: u64,
+    frame_bits: u64,
     rows: &[i64],
     first: &[u16],
     second: &[u16],
@@ -48,20 +49,20 @@ pub extern "C" fn durbizhan_verdict(
     out: &mut [u8],
     answer: &mut [u64; 5],
 ) -> u64
-    ensures { λ r. let u = universeOf axes bits in
+    ensures { λ r. let u = universeOf axes bits «frame_bits» in
         let surfaces = surfacesOf (now (rows .entry)) in
         let first = now (first .entry) in
         let second = now (second .entry) in
         let out = now (out .entry) in
         ⌜ r ≡ clearanceAnswer u surfaces first second «first_frame» «last_frame» out .refusal ⌝ }
-    ensures { λ _. let u = universeOf axes bits in
+    ensures { λ _. let u = universeOf axes bits «frame_bits» in
         let surfaces = surfacesOf (now (rows .entry)) in
         let first = now (first .entry) in
         let second = now (second .entry) in
         let out = now (out .entry) in
         ⌜ now (answer .exit)
         ≡ clearanceArray (clearanceAnswer u surfaces first second «first_frame» «last_frame» out) ⌝ }
-    ensures { λ _. let u = universeOf axes bits in
+    ensures { λ _. let u = universeOf axes bits «frame_bits» in
         let surfaces = surfacesOf (now (rows .entry)) in
         let first = now (first .entry) in
         let second = now (second .entry) in
@@ -71,6 +72,7 @@ pub extern "C" fn durbizhan_verdict(
     let universe = Universe {
         axes: axes,
         bits: bits,
+        frame_bits: frame_bits,
     };
     let found = convert::verdict_of_two(
         universe,
@@ -93,20 +95,22 @@ pub extern "C" fn durbizhan_verdict(
 pub extern "C" fn durbizhan_numbers(
     axes: u64,
     bits: u64,
+    frame_bits: u64,
     expression: &[u8],
     first_frame: u64,
     last_frame: u64,
     answer: &mut [u64; 5],
 ) -> u64
-    ensures { λ r. let u = universeOf axes bits in
+    ensures { λ r. let u = universeOf axes bits «frame_bits» in
         ⌜ r ≡ numbersAnswer u (now (expression .entry)) «first_frame» «last_frame» .refusal ⌝ }
-    ensures { λ _. let u = universeOf axes bits in
+    ensures { λ _. let u = universeOf axes bits «frame_bits» in
         let numbers = numbersAnswer u (now (expression .entry)) «first_frame» «last_frame» in
         ⌜ now (answer .exit) ≡ numbersArray numbers ⌝ }
 {
     let universe = Universe {
         axes: axes,
         bits: bits,
+        frame_bits: frame_bits,
     };
     let numbers = bintree::numbers_of(universe, expression, first_frame, last_frame);
     let verdict = numbers.verdict;

@@ -7,9 +7,13 @@ use universe::Universe;
 
 const LENT: usize = 20;
 
-// d 2, k 2.
+// d 2, k 2, f 2.
 fn square() -> Universe {
-    Universe { axes: 2, bits: 2 }
+    Universe {
+        axes: 2,
+        bits: 2,
+        frame_bits: 2,
+    }
 }
 
 fn say(text: &[u8]) {
@@ -129,7 +133,7 @@ fn readers() {
     read_on(square(), b"(BW");
     read_on(square(), b"(B(WB");
     read_on(square(), b"(B");
-    read_on(Universe { axes: 0, bits: 2 }, b"B");
+    read_on(Universe::with_equal_bits(0, 2), b"B");
 }
 
 // Cases 3, 9 and 11: questions.
@@ -146,49 +150,92 @@ fn readings() {
 }
 
 // The numbers of an expression over a window, on a line.
-fn over(axes: u64, bits: u64, expression: &[u8], first_frame: u64, last_frame: u64) {
-    number(axes);
+fn over(universe: Universe, expression: &[u8], first_frame: u64, last_frame: u64) {
+    number(universe.axes);
     say(b" ");
-    number(bits);
+    number(universe.bits);
+    say(b" ");
+    number(universe.frame_bits);
     say(b" ");
     say(expression);
     say(b" over ");
     number(first_frame);
     say(b" ");
     number(last_frame);
-    let universe = Universe {
-        axes: axes,
-        bits: bits,
-    };
     numbers(universe, expression, first_frame, last_frame);
     say(b"\n");
+}
+
+// The same where every axis has so many bits.
+fn equal(axes: u64, bits: u64, expression: &[u8], first_frame: u64, last_frame: u64) {
+    over(
+        Universe::with_equal_bits(axes, bits),
+        expression,
+        first_frame,
+        last_frame,
+    );
+}
+
+// The same where there are so many frame bits.
+fn framed(bits: u64, frame_bits: u64, expression: &[u8], first_frame: u64, last_frame: u64) {
+    let universe = Universe {
+        axes: 2,
+        bits: bits,
+        frame_bits: frame_bits,
+    };
+    over(universe, expression, first_frame, last_frame);
+}
+
+// Frames without space and space without frames, used-up axes passed over, and the last of 4,096 frames.
+fn long_shots() {
+    framed(0, 2, b"(W(WB", 0, 3);
+    framed(2, 0, b"(W(WB", 0, 0);
+    framed(2, 0, b"(W(WB", 0, 1);
+    framed(1, 2, b"(((BWW(B(BW", 0, 3);
+    framed(1, 2, b"(((BWW(B(BW", 3, 3);
+    framed(1, 2, b"(((BWW(B((BWW", 0, 3);
+    framed(2, 1, b"((B(WBB", 1, 1);
+    framed(10, 12, b"B", 4_095, 4_095);
+    framed(10, 12, b"B", 0, 4_096);
+    framed(10, 13, b"B", 0, 0);
+    over(
+        Universe {
+            axes: 1,
+            bits: 1,
+            frame_bits: 1,
+        },
+        b"B",
+        0,
+        0,
+    );
 }
 
 // Windows at both ends, one with no black voxel, no bits, one axis, the most voxels; then 2, 7 and 9, each with another
 // fault behind it.
 fn windows() {
-    over(2, 2, b"(((W(BWW(B((BWB", 0, 3);
-    over(2, 2, b"(((W(BWW(B((BWB", 0, 0);
-    over(2, 2, b"(((W(BWW(B((BWB", 3, 3);
-    over(2, 2, b"(W(W((BB(BW", 3, 3);
-    over(2, 2, b"(W(W(B(BW", 2, 2);
-    over(2, 2, b"(W(W(B(BW", 0, 1);
-    over(4, 0, b"B", 0, 0);
-    over(4, 0, b"W", 0, 0);
-    over(1, 2, b"((WBB", 0, 3);
-    over(1, 2, b"((WBB", 0, 0);
-    over(4, 10, b"B", 1_023, 1_023);
-    over(5, 2, b"(B", 2, 1);
-    over(2, 11, b"B", 2, 1);
-    over(2, 2, b"(B", 2, 1);
-    over(2, 2, b"BB", 0, 4);
-    over(2, 2, b"B", 2, 1);
-    over(2, 2, b"B", 0, 4);
-    over(4, 0, b"B", 0, 1);
+    equal(2, 2, b"(((W(BWW(B((BWB", 0, 3);
+    equal(2, 2, b"(((W(BWW(B((BWB", 0, 0);
+    equal(2, 2, b"(((W(BWW(B((BWB", 3, 3);
+    equal(2, 2, b"(W(W((BB(BW", 3, 3);
+    equal(2, 2, b"(W(W(B(BW", 2, 2);
+    equal(2, 2, b"(W(W(B(BW", 0, 1);
+    equal(4, 0, b"B", 0, 0);
+    equal(4, 0, b"W", 0, 0);
+    equal(1, 2, b"((WBB", 0, 3);
+    equal(1, 2, b"((WBB", 0, 0);
+    equal(4, 10, b"B", 1_023, 1_023);
+    equal(5, 2, b"(B", 2, 1);
+    equal(2, 11, b"B", 2, 1);
+    equal(2, 2, b"(B", 2, 1);
+    equal(2, 2, b"BB", 0, 4);
+    equal(2, 2, b"B", 2, 1);
+    equal(2, 2, b"B", 0, 4);
+    equal(4, 0, b"B", 0, 1);
 }
 
 fn main() {
     readings();
     windows();
+    long_shots();
     readers();
 }

@@ -4,6 +4,7 @@ use Prim.Native.Nat.{ℕ, _*_, _/_, _≤_}
 use native.Mathlib.Omega.{arith}
 use native.Mathlib.Decide.{ℕ-discrete}
 use mathlib.Core.Path.{_≡_, refl, sym, ap, _∙_}
+use mathlib.Core.Bool.{Bool, true, false, cond}
 use mathlib.Core.List.{List}
 use lib.IntN.{ℤ}
 use lib.ListN.{length, take, length-take}
@@ -17,6 +18,7 @@ use Rattle.bintree.proofs.Answers.{is-refused, is-done, number-of}
 use Rattle.csg.specs.Halfspace.{mostRows, rowLength, rowCount, rowsRefusal}
 use Rattle.csg.specs.Words.{treeRefusal}
 use Rattle.files.specs.declared.Scene.{Scene}
+use Rattle.files.specs.Scenes.{isScene, sceneHeaderOf, noSceneHeader}
 use Rattle.files.specs.Scenes.{sceneHeader, rowsOf, firstWordsOf, secondWordsOf, namedBy, sceneRefusal, refusedScene, sceneAnswer}
 use Rattle.files.specs.Scenes.{rowsAfter, firstWordsAfter, secondWordsAfter}
 use Rattle.files.proofs.Numbers.{front-is}
@@ -74,6 +76,19 @@ module _ (bytes : List ℕ) {s : Scene} (e : s ≡ sceneAnswer bytes) where
     pub answer-scene : s ≡ sceneHeader bytes .scene
     unfolding sceneAnswer
     answer-scene = e ∙ sym (is-done refusedScene (sceneHeader bytes .scene) (sceneRefusal bytes) none)
+
+    is-scene : isScene bytes ≡ true
+    unfolding sceneHeader
+    is-scene = by (isScene bytes) refl (scene-accepts bytes none .file)
+      where
+        by : (b : Bool) → isScene bytes ≡ b → cond b (sceneHeaderOf bytes) noSceneHeader .scene .refusal ≡ 0 → isScene bytes ≡ true
+        by true is z = is
+        by false is z = absurd (omega arith)
+
+    -- it is what stands in the header's bytes
+    pub answer-said : s ≡ sceneHeaderOf bytes .scene
+    unfolding sceneHeader
+    answer-said = answer-scene ∙ rw is-scene
 
     pub answer-ready : HeaderReady bytes s
     answer-ready = rw answer-scene (header-ready bytes none)

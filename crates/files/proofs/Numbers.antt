@@ -22,7 +22,9 @@ use Rattle.lemmas.specs.Grid.{listed}
 use Rattle.lemmas.proofs.Sums.{and-left, and-right, every-all, one-not-every}
 use Rattle.lemmas.proofs.Grid.{listed-length, listed-next}
 use Rattle.lemmas.proofs.Machine.{read-call}
-use Rattle.files.specs.Numbers.{fromBits, u64At, hasHeader}
+use Rattle.universe.specs.declared.Universe.{Universe}
+use Rattle.universe.specs.Universe.{equalBits}
+use Rattle.files.specs.Numbers.{fromBits, u64At, versionOf, universeSaid, hasHeader}
 
 -- ---- 64 bits as a whole number
 
@@ -150,6 +152,18 @@ module _ (bytes : List ℕ) (header : ℕ) (mark : List ℕ) where
   header-there {f} e t = header-long (sym e ∙ not-false f t)
 
 pub ruleset marking-laws = (needs, marking-short, marking-start, marking-place, marking-next, marking-off, marking-end)
+
+-- ---- the universe of a file, by its version
+
+module _ (bytes : List ℕ) {v axes bits : ℕ} (e : v ≡ versionOf bytes) (a : axes ≡ getD bytes 5 0) (b : bits ≡ getD bytes 6 0) where
+  pub first-universe : {u : Universe} → v ≡ 1 → u ≡ equalBits axes bits → u ≡ universeSaid bytes
+  first-universe t g = g ∙ rw (a, b, ← e, eq-eqb v 1 t)
+
+  pub later-universe : {frame : ℕ} → (v ≡ 1 → ⊥) → frame ≡ getD bytes 7 0 →
+      record { axes = axes; bits = bits; «frame_bits» = frame } ≡ universeSaid bytes
+  later-universe n f = rw (a, b, f, ← e, ne-eqb v 1 n)
+
+pub ruleset universe-laws = (needs, first-universe, later-universe)
 
 -- ---- a number below 2^32 is what its four bytes make, and four bytes are those of what they make
 

@@ -1,33 +1,42 @@
--- THEOREMS on shape files: reading what was written gives the universe and the symbols (`written-read`), and writing what was read gives the bytes
--- (`read-written`). The header's bytes are listed one by one; a count below 2^32 is made of its four bytes, and four bytes are those of what they make.
-use Prim.Native.Nat.{ℕ, _+_, _≤_, _<_}
+-- THEOREMS on shape files: reading what was written gives the universe and the symbols (`written-read`); writing what was read gives the version 2 file of
+-- them (`read-written`, `read-left`), which is the very file that was read where that was of version 2 (`same-bytes`), and otherwise that of equal bits
+-- (`first-bytes`). The header's bytes are listed one by one; a count below 2^32 is made of its four bytes, and four bytes are those of what they make.
+use Prim.Native.Nat.{ℕ, _+_, _-_, _≤_, _<_}
 use native.Mathlib.Omega.{arith}
+use native.Mathlib.Decide.{ℕ-discrete}
 use mathlib.Core.Path.{_≡_, refl, sym, ap, _∙_}
 use mathlib.Core.Bool.{Bool, true, false}
+use mathlib.Core.Logic.{_⊎_, inl, inr}
 use mathlib.Core.List.{List, _++_}
 use lib.ListN.{length, getD, drop, length-drop}
 use lib.Seq.{take-length, take-all}
-use borrow.Author.Tests.{le-leb, eq-eqb}
+use borrow.Author.Tests.{le-leb, eq-eqb, eqb-true}
 use Rattle.lemmas.specs.Sums.{every}
 use Rattle.lemmas.specs.Grid.{listed}
 use Rattle.lemmas.proofs.Grid.{listed-own}
 use Rattle.universe.specs.declared.Universe.{Universe}
+use Rattle.universe.specs.Universe.{equalBits}
 use Rattle.universe.specs.Lent.{overwritten}
 use Rattle.universe.proofs.Lent.{written}
 use Rattle.bintree.specs.declared.Written.{Written}
 use Rattle.files.specs.declared.ShapeRead.{ShapeRead}
 use Rattle.files.specs.declared.ShapeHeader.{ShapeHeader}
-use Rattle.files.specs.Numbers.{u32At, hasHeader}
-use Rattle.files.specs.Shapes.{shapeMark, shapeHeaderLength, shapeLength, mostSymbols, symbolsRefusal, shapeHeaderBytes, shapeBytes}
+use Rattle.files.specs.Numbers.{u32At, versionOf, hasHeader}
+use Rattle.files.specs.Shapes.{shapeMark, shapeVersion, shapeHeaderLength, symbolCount, shapeLength, mostSymbols, symbolsRefusal}
+use Rattle.files.specs.Shapes.{shapeHeaderBytes, shapeBytes}
 use Rattle.files.specs.Shapes.{writeAnswer, writeBuffer, isShape, shapeHeaderOf, noShapeHeader, shapeHeader, symbolsOf, shapeRefusal}
 use Rattle.files.specs.Shapes.{readAnswer, readBuffer}
 use Rattle.files.proofs.Refusals.{left-last, left-next, left-accepts, left-others}
-use Rattle.files.proofs.Numbers.{mark-at, u32-back, first-byte, second-byte, third-byte, fourth-byte}
-use Rattle.files.proofs.Shapes.{is-shape, shape-checks, read-all, write-all}
+use Rattle.files.proofs.Numbers.{first-universe, later-universe, mark-at, u32-back, first-byte, second-byte, third-byte, fourth-byte}
+use Rattle.files.proofs.Shapes.{later-read, is-shape, shape-long, shape-checks, read-all, write-all}
+
+file-long : (u : Universe) (s : List ℕ) → shapeLength (length s) ≡ length (shapeBytes u s)
+unfolding shapeBytes
+file-long u s = omega arith
 
 -- what the header of a written file says
 module _ (u : Universe) (s : List ℕ) (few : length s ≤ mostSymbols) where
-  count-back : u32At (shapeBytes u s) 7 ≡ length s
+  count-back : symbolCount (shapeBytes u s) ≡ length s
   unfolding shapeBytes
   count-back = u32-back (length s) (omega arith)
 
@@ -35,11 +44,11 @@ module _ (u : Universe) (s : List ℕ) (few : length s ≤ mostSymbols) where
   unfolding shapeBytes isShape hasHeader every
   is-file =
       let file = shapeBytes u s in
-      rw (le-leb shapeHeaderLength (length file) (omega arith), eq-eqb (length file) (shapeLength (u32At file 7)) (omega (arith, count-back)))
+      rw (le-leb (shapeLength 0) (length file) (omega arith), eq-eqb (length file) (shapeLength (symbolCount file)) (omega (arith, count-back)))
 
   -- the header itself
   abbrev told : ShapeHeader
-  told = record { shape = record { refusal = 0; universe = u; length = length s }; place = shapeHeaderLength }
+  told = record { shape = record { refusal = 0; universe = u; length = length s }; place = shapeLength 0 }
 
   told-is : told ≡ shapeHeader (shapeBytes u s)
   unfolding shapeHeader shapeBytes
@@ -79,57 +88,101 @@ module _ (bytes : List ℕ) (small : (i : ℕ) → getD bytes i 0 < 256) (accept
   unfolding shapeHeader
   header-said = rw said
 
-  rest-long : length (drop shapeHeaderLength bytes) ≡ u32At bytes 7
-  rest-long = length-drop shapeHeaderLength bytes ∙ omega (arith, is-shape bytes said .whole)
+  -- the universe and the symbols that reading gives
+  abbrev pub readUniverse : Universe
+  readUniverse = shapeHeader bytes .shape .universe
 
-  symbols-said : symbolsOf bytes (shapeHeader bytes) ≡ drop shapeHeaderLength bytes
-  symbols-said = rw header-said (take-all (u32At bytes 7) (drop shapeHeaderLength bytes) (omega (arith, rest-long)))
+  abbrev pub readSymbols : List ℕ
+  readSymbols = symbolsOf bytes (shapeHeader bytes)
 
-  bytes-said : shapeHeaderBytes (shapeHeaderOf bytes .shape .universe) (u32At bytes 7) ≡ listed shapeHeaderLength (λ i. getD bytes i 0)
-  unfolding listed
-  bytes-said =
-      let m = mark-at bytes shapeHeaderLength shapeMark (is-shape bytes said .header) in
-      let m0 = m 0 (omega arith) in
-      let m1 = m 1 (omega arith) in
-      let m2 = m 2 (omega arith) in
-      let m3 = m 3 (omega arith) in
-      let m4 = m 4 (omega arith) in
-      let a = first-byte _ _ _ _ (small 7) (small 8) (small 9) (small 10) in
-      let b = second-byte _ _ _ _ (small 7) (small 8) (small 9) (small 10) in
-      let c = third-byte _ _ _ _ (small 7) (small 8) (small 9) (small 10) in
-      let d = fourth-byte _ _ _ _ (small 7) (small 8) (small 9) (small 10) in
-      cc
+  -- it is of one of the two versions
+  pub read-version : (versionOf bytes ≡ 1) ⊎ (versionOf bytes ≡ shapeVersion)
+  read-version = by (ℕ-discrete (versionOf bytes) 1)
+    where
+      by : Dec (versionOf bytes ≡ 1) → (versionOf bytes ≡ 1) ⊎ (versionOf bytes ≡ shapeVersion)
+      by (yes e) = inl e
+      by (no n) = inr (eqb-true _ _ (later-read (versionOf bytes) n ∙ is-shape bytes said .version))
 
-  -- THEOREM: the shape file of what was read is the file
-  pub read-bytes : shapeBytes (shapeHeader bytes .shape .universe) (symbolsOf bytes (shapeHeader bytes)) ≡ bytes
-  unfolding shapeBytes
-  read-bytes =
-      let u = shapeHeaderOf bytes .shape .universe in
-      let rest = drop shapeHeaderLength bytes in
-      ap (λ (h : ShapeHeader). shapeBytes (h .shape .universe) (symbolsOf bytes (shapeHeader bytes))) header-said
-      ∙ ap (shapeBytes u) symbols-said
-      ∙ ap (λ (n : ℕ). shapeHeaderBytes u n ++ rest) rest-long
-      ∙ ap (λ (l : List ℕ). l ++ rest) bytes-said
-      ∙ listed-own shapeHeaderLength (λ i. getD bytes i 0) bytes 0 (λ i. refl) (omega (arith, is-shape bytes said .whole))
+  rest-long : length (drop (shapeHeaderLength (versionOf bytes)) bytes) ≡ symbolCount bytes
+  rest-long = length-drop (shapeHeaderLength (versionOf bytes)) bytes ∙ omega (arith, is-shape bytes said .whole)
 
-  -- so writing what was read, into room enough, answers the file's length and leaves the file's bytes
-  module _ (out : List ℕ) (room : length bytes ≤ length out) where
-    symbols-long : length (symbolsOf bytes (shapeHeader bytes)) ≡ u32At bytes 7
-    symbols-long = ap length symbols-said ∙ rest-long
+  symbols-said : readSymbols ≡ drop (shapeHeaderLength (versionOf bytes)) bytes
+  symbols-said =
+      rw header-said (take-all (symbolCount bytes) (drop (shapeHeaderLength (versionOf bytes)) bytes) (omega (arith, rest-long)))
 
-    pub read-written :
-        writeAnswer (shapeHeader bytes .shape .universe) (symbolsOf bytes (shapeHeader bytes)) out ≡ record { refusal = 0; length = length bytes }
+  long : {v : ℕ} → versionOf bytes ≡ v → shapeHeaderLength v ≤ length bytes
+  long e = rw (← e) (shape-long bytes refl said)
+
+  symbols-long : length readSymbols ≡ symbolCount bytes
+  symbols-long = ap length symbols-said ∙ rest-long
+
+  -- THEOREM: writing what was read, into room enough, leaves the shape file of that universe and those symbols, which is of version 2
+  module _ (out : List ℕ) (room : shapeLength (length readSymbols) ≤ length out) where
+    pub read-written : writeAnswer readUniverse readSymbols out ≡ record { refusal = 0; length = shapeLength (length readSymbols) }
     read-written =
-        let n = symbols-long in
-        let w = is-shape bytes said .whole in
-        let k : shapeHeaderLength + length (symbolsOf bytes (shapeHeader bytes)) ≡ length bytes = omega arith in
         let z = left-accepts (left-others (shape-checks bytes refl) accepted) accepted in
-        sym (write-all _ _ out refl z (omega (arith, small 7, small 8, small 9, small 10)) (omega arith) refl)
-        ∙ ap (λ (l : ℕ). record { refusal = 0; length = l }) k
+        let at = shapeHeaderLength (versionOf bytes) - 4 in
+        sym (write-all _ _ out refl z (omega (arith, symbols-long, small at, small (at + 1), small (at + 2), small (at + 2 + 1))) room refl)
 
-    pub read-left : writeBuffer (shapeHeader bytes .shape .universe) (symbolsOf bytes (shapeHeader bytes)) out ≡ bytes ++ drop (length bytes) out
+    pub read-left : writeBuffer readUniverse readSymbols out ≡ shapeBytes readUniverse readSymbols ++ drop (shapeLength (length readSymbols)) out
     read-left =
-        let u = shapeHeader bytes .shape .universe in
-        let s = symbolsOf bytes (shapeHeader bytes) in
-        ap (λ (v : List ℕ). overwritten (writeAnswer u s out .refusal) v out) read-bytes
-        ∙ sym (written bytes out (ap (λ (w : Written). w .refusal) read-written) refl)
+        sym (written (shapeBytes readUniverse readSymbols) out (ap (λ (w : Written). w .refusal) read-written) (file-long readUniverse readSymbols))
+
+  -- THEOREM: of a file of version 2 that is the file itself
+  module _ (second : versionOf bytes ≡ shapeVersion) where
+    abbrev own : Universe
+    own = record { axes = getD bytes 5 0; bits = getD bytes 6 0; «frame_bits» = getD bytes 7 0 }
+
+    own-said : readUniverse ≡ own
+    own-said =
+        ap (λ (h : ShapeHeader). h .shape .universe) header-said ∙ sym (later-universe bytes refl refl refl (λ e. omega arith) refl)
+
+    own-symbols : readSymbols ≡ drop (shapeLength 0) bytes
+    own-symbols = symbols-said ∙ ap (λ (v : ℕ). drop (shapeHeaderLength v) bytes) second
+
+    own-long : length (drop (shapeLength 0) bytes) ≡ u32At bytes 8
+    own-long = ap length (sym own-symbols) ∙ symbols-long ∙ ap (λ (v : ℕ). u32At bytes (shapeHeaderLength v - 4)) second
+
+    bytes-said : shapeHeaderBytes own (u32At bytes 8) ≡ listed (shapeLength 0) (λ i. getD bytes i 0)
+    unfolding listed
+    bytes-said =
+        let m = mark-at bytes (shapeHeaderLength (versionOf bytes)) shapeMark (is-shape bytes said .header) in
+        let m0 = m 0 (omega arith) in
+        let m1 = m 1 (omega arith) in
+        let m2 = m 2 (omega arith) in
+        let m3 : getD bytes 3 0 ≡ 2 = omega (arith, small 3, second) in
+        let m4 : getD bytes 4 0 ≡ 0 = omega (arith, small 3, second) in
+        let a = first-byte _ _ _ _ (small 8) (small 9) (small 10) (small 11) in
+        let b = second-byte _ _ _ _ (small 8) (small 9) (small 10) (small 11) in
+        let c = third-byte _ _ _ _ (small 8) (small 9) (small 10) (small 11) in
+        let d = fourth-byte _ _ _ _ (small 8) (small 9) (small 10) (small 11) in
+        cc
+
+    pub same-bytes : shapeBytes readUniverse readSymbols ≡ bytes
+    unfolding shapeBytes
+    same-bytes =
+        let rest = drop (shapeLength 0) bytes in
+        ap (λ (u : Universe). shapeBytes u readSymbols) own-said
+        ∙ ap (shapeBytes own) own-symbols
+        ∙ ap (λ (n : ℕ). shapeHeaderBytes own n ++ rest) own-long
+        ∙ ap (λ (l : List ℕ). l ++ rest) bytes-said
+        ∙ listed-own (shapeLength 0) (λ i. getD bytes i 0) bytes 0 (λ i. refl) (long second)
+
+    same-long : shapeLength (length readSymbols) ≡ length bytes
+    same-long = file-long readUniverse readSymbols ∙ ap length same-bytes
+
+    module _ (out : List ℕ) (room : length bytes ≤ length out) where
+      pub same-written : writeAnswer readUniverse readSymbols out ≡ record { refusal = 0; length = length bytes }
+      same-written = read-written out (omega (arith, same-long)) ∙ ap (λ (n : ℕ). record { refusal = 0; length = n }) same-long
+
+      pub same-left : writeBuffer readUniverse readSymbols out ≡ bytes ++ drop (length bytes) out
+      same-left = read-left out (omega (arith, same-long)) ∙ rw (same-long, same-bytes)
+
+  -- THEOREM: of a file of version 1 it is the file of the universe whose axes all have its bits (rule 1.10), and of the same symbols
+  module _ (first : versionOf bytes ≡ 1) where
+    pub first-bytes : shapeBytes readUniverse readSymbols ≡ shapeBytes (equalBits (getD bytes 5 0) (getD bytes 6 0)) (drop 11 bytes)
+    first-bytes =
+        ap (λ (u : Universe). shapeBytes u readSymbols)
+        (ap (λ (h : ShapeHeader). h .shape .universe) header-said ∙ sym (first-universe bytes refl refl refl first refl))
+        ∙ ap (shapeBytes (equalBits (getD bytes 5 0) (getD bytes 6 0)))
+        (symbols-said ∙ ap (λ (v : ℕ). drop (shapeHeaderLength v) bytes) first)

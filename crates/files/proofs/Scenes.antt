@@ -27,8 +27,9 @@ use Rattle.csg.proofs.Rows.{rows-too-many}
 use Rattle.csg.proofs.Words.{too-long}
 use Rattle.files.specs.declared.Scene.{Scene}
 use Rattle.files.specs.declared.SceneHeader.{SceneHeader}
-use Rattle.files.specs.Numbers.{u16At, numberBytes, wordBytes, hasHeader}
-use Rattle.files.specs.Scenes.{sceneMark, sceneHeaderLength, rowBytes, sceneLength, isScene, refusedScene, sceneHeaderOf, noSceneHeader, sceneHeader}
+use Rattle.files.specs.Numbers.{u16At, numberBytes, wordBytes, versionOf, universeSaid, hasHeader}
+use Rattle.files.specs.Scenes.{sceneMark, sceneHeaderLength, rowBytes, sceneLength, hasVersion, isScene, refusedScene, sceneHeaderOf}
+use Rattle.files.specs.Scenes.{noSceneHeader, sceneHeader}
 use Rattle.files.specs.Scenes.{rowsOf, firstWordsOf, secondWordsOf, namedBy, sceneChecks, sceneRefusal, sceneAnswer}
 use Rattle.files.specs.Scenes.{rowsAfter, firstWordsAfter, secondWordsAfter}
 use Rattle.files.proofs.Refusals.{Left, left-refused, left-next, left-last, left-accepts, left-others}
@@ -36,28 +37,34 @@ use Rattle.files.proofs.Numbers.{front-is, front-length, header-there}
 
 -- ---- the tests of a scene
 
+-- the version is read, and then the byte for frame bits that version 1 lacks
+module _ (bytes : List ℕ) {v : ℕ} (e : v ≡ versionOf bytes) where
+  pub first-version : {zero : ℕ} → v ≡ 1 → zero ≡ getD bytes 7 0 → eqb zero 0 ≡ hasVersion bytes
+  unfolding hasVersion
+  first-version t k = rw (← e, eq-eqb v 1 t, k)
+
+  pub later-version : (v ≡ 1 → ⊥) → eqb v 2 ≡ hasVersion bytes
+  unfolding hasVersion
+  later-version n = rw (← e, ne-eqb v 1 n)
+
 module _ (bytes : List ℕ) {f : Bool} (e : f ≡ hasHeader bytes sceneHeaderLength sceneMark) where
   pub scene-no-header : not f ≡ true → false ≡ isScene bytes
   unfolding isScene
   scene-no-header t = rw (← e, not-true f t)
 
-  module _ (t : not f ≡ false) where
-    pub scene-zero-there : 7 < length bytes
-    scene-zero-there = omega (arith, header-there bytes sceneHeaderLength sceneMark e t)
+  module _ (t : not f ≡ false) {v : Bool} (k : v ≡ hasVersion bytes) where
+    pub scene-no-version : not v ≡ true → false ≡ isScene bytes
+    unfolding isScene
+    scene-no-version n = rw (← e, not-false f t, ← k, not-true v n)
 
-    module _ {z : ℕ} (k : z ≡ getD bytes 7 0) where
-      pub scene-not-zero : (z ≡ 0 → ⊥) → false ≡ isScene bytes
-      unfolding isScene
-      scene-not-zero n = rw (← e, not-false f t, ← k, ne-eqb z 0 n)
-
-      pub scene-by-length : {w : Bool} → z ≡ 0 → w ≡ eqb (length bytes) (sceneLength bytes) → w ≡ isScene bytes
-      unfolding isScene
-      scene-by-length n g = g ∙ rw (← e, not-false f t, ← k, eq-eqb z 0 n)
+    pub scene-by-length : {w : Bool} → not v ≡ false → w ≡ eqb (length bytes) (sceneLength bytes) → w ≡ isScene bytes
+    unfolding isScene
+    scene-by-length n g = g ∙ rw (← e, not-false f t, ← k, not-false v n)
 
 module _ (bytes : List ℕ) (is : isScene bytes ≡ true) where
   scene-whole : length bytes ≡ sceneLength bytes
   unfolding isScene
-  scene-whole = eqb-true _ _ (and-right (hasHeader bytes sceneHeaderLength sceneMark && eqb (getD bytes 7 0) 0) _ is)
+  scene-whole = eqb-true _ _ (and-right (hasHeader bytes sceneHeaderLength sceneMark && hasVersion bytes) _ is)
 
 -- ---- the header
 
@@ -66,12 +73,14 @@ module _ (bytes : List ℕ) {rows first second : ℕ} (r : rows ≡ u16At bytes 
   pub whole-told : eqb (length bytes) (sceneHeaderLength + rowBytes * rows + wordBytes * (first + second)) ≡ eqb (length bytes) (sceneLength bytes)
   whole-told = rw (r, f, s)
 
-  pub header-made : {axes bits start last : ℕ} → axes ≡ getD bytes 5 0 → bits ≡ getD bytes 6 0 → start ≡ u16At bytes 14 → last ≡ u16At bytes 16 →
+  pub header-made : {version start last : ℕ} {u : Universe} → version ≡ versionOf bytes → u ≡ universeSaid bytes → start ≡ u16At bytes 14 →
+      last ≡ u16At bytes 16 →
       record {
         scene =
             record {
               refusal = 0;
-              universe = record { axes = axes; bits = bits };
+              version = version;
+              universe = u;
               counts = record { rows = rows; first = first; second = second };
               window = record { first = start; last = last };
             };
@@ -279,8 +288,9 @@ pub ruleset scene-laws = (
   needs,
   header-there,
   scene-no-header,
-  scene-zero-there,
-  scene-not-zero,
+  first-version,
+  later-version,
+  scene-no-version,
   scene-by-length,
   scene-long,
   whole-told,

@@ -3,65 +3,140 @@
 use Prim.Native.Nat.{ℕ, _+_, _-_, _^_, _≤_, _<_}
 use native.Mathlib.Omega.{arith}
 use mathlib.Core.Path.{_≡_, refl, sym, ap, _∙_}
-use mathlib.Core.Bool.{Bool, true, false, not, cond}
+use mathlib.Core.Bool.{Bool, true, false, not, cond, _&&_}
 use mathlib.Core.List.{List, _++_}
 use lib.Dec.{eqb}
-use lib.ListN.{length, getD, take, drop, length-take, length-append}
+use lib.ListN.{length, take, drop, length-take, length-append}
 use lib.Seq.{sets}
 use borrow.Author.Needs.{needs}
-use borrow.Author.Tests.{le-leb, lt-leb, eqb-true, not-true, not-false}
+use borrow.Author.Tests.{le-leb, lt-leb, eq-eqb, ne-eqb, eqb-true, not-true, not-false}
 use Rattle.lemmas.proofs.Sums.{and-left, and-right}
 use Rattle.lemmas.proofs.Stores.{sets-append, sets-first}
 use Rattle.universe.specs.declared.Universe.{Universe}
 use Rattle.universe.specs.Refusals.{firstRefusal, badFile, noRoom}
 use Rattle.universe.specs.Lent.{roomRefusal}
 use Rattle.universe.specs.Universe.{universeRefusal}
-use Rattle.universe.proofs.Universes.{accepted}
+use Rattle.universe.proofs.Universes.{accepted, most-bits}
 use Rattle.universe.proofs.Lent.{untouched, written, room-enough, room-short}
 use Rattle.bintree.specs.declared.Written.{Written}
 use Rattle.bintree.specs.Answers.{unlessRefused, refusedWriting, shortWriting, doneWriting}
 use Rattle.bintree.proofs.Answers.{is-refused, is-done}
 use Rattle.files.specs.declared.ShapeRead.{ShapeRead}
 use Rattle.files.specs.declared.ShapeHeader.{ShapeHeader}
-use Rattle.files.specs.Numbers.{u32At, hasHeader}
-use Rattle.files.specs.Shapes.{shapeMark, shapeHeaderLength, shapeLength, mostSymbols, symbolsChecks, symbolsRefusal, shapeHeaderBytes, shapeBytes}
+use Rattle.files.specs.Numbers.{u32At, versionOf, universeSaid, hasHeader}
+use Rattle.files.specs.Shapes.{shapeMark, shapeVersion, shapeHeaderLength, symbolCount, isVersion, shapeLength, mostSymbols, symbolsChecks}
+use Rattle.files.specs.Shapes.{symbolsRefusal, shapeHeaderBytes, shapeBytes}
 use Rattle.files.specs.Shapes.{fileRefusal, writeAnswer, writeBuffer, isShape, refusedShape, shortShape, shapeHeaderOf, noShapeHeader, shapeHeader}
 use Rattle.files.specs.Shapes.{symbolsOf, shapeChecks, shapeRefusal, readAnswer, readBuffer}
 use Rattle.files.proofs.Numbers.{header-there}
 use Rattle.files.proofs.Refusals.{Left, left-refused, left-next, left-last, left-accepts}
 
+-- ---- the versions, and the length of the header
+
+-- a header of version 1 has a byte less
+pub first-header : (v : ℕ) → v ≡ 1 → 11 ≡ shapeHeaderLength v
+first-header v e = rw (eq-eqb v 1 e)
+
+pub later-header : (v : ℕ) → (v ≡ 1 → ⊥) → 12 ≡ shapeHeaderLength v
+later-header v n = rw (ne-eqb v 1 n)
+
+-- the versions that are read
+pub first-read : (v : ℕ) → v ≡ 1 → true ≡ isVersion v
+first-read v e = rw (eq-eqb v 1 e)
+
+pub later-read : (v : ℕ) → (v ≡ 1 → ⊥) → eqb v shapeVersion ≡ isVersion v
+later-read v n = rw (ne-eqb v 1 n)
+
+pub ruleset version-laws = (needs, first-header, later-header, first-read, later-read)
+
+-- either header has so many bytes at the least, and at the most
+least : (v : ℕ) → 11 ≤ shapeHeaderLength v
+least v = go (eqb v 1)
+  where
+    go : (b : Bool) → 11 ≤ cond b 11 12
+    go true = omega arith
+    go false = omega arith
+
+most : (v : ℕ) → shapeHeaderLength v ≤ 12
+most v = go (eqb v 1)
+  where
+    go : (b : Bool) → cond b 11 12 ≤ 12
+    go true = omega arith
+    go false = omega arith
+
+-- so the mark and the count are within it
+module _ (v : ℕ) {h : ℕ} (l : h ≡ shapeHeaderLength v) where
+  pub mark-within : 3 ≤ h
+  mark-within = omega (arith, least v)
+
+  pub count-within : 4 ≤ h
+  count-within = omega (arith, least v)
+
+  pub count-there : {n : ℕ} → h ≤ n → h - 4 + 4 ≤ n
+  count-there k = omega (arith, least v)
+
+  pub whole-fits : {count : ℕ} → count < 2 ^ 32 → h + count < 2 ^ 64
+  whole-fits k = omega (arith, most v)
+
+-- and the version and the universe within bytes that are as long
+module _ (v : ℕ) {n : ℕ} (long : shapeHeaderLength v ≤ n) where
+  pub version-there : 5 ≤ n
+  version-there = omega (arith, least v)
+
+  pub universe-there : 8 ≤ n
+  universe-there = omega (arith, least v)
+
+pub said-count-there : (bytes : List ℕ) {v h : ℕ} → v ≡ versionOf bytes → h ≡ shapeHeaderLength v →
+    shapeHeaderLength (versionOf bytes) ≤ length bytes → h - 4 + 4 ≤ length bytes
+said-count-there bytes {v} e l long = count-there v l (rw (l, e) long)
+
 -- ---- the tests of a shape
 
-module _ (bytes : List ℕ) {f : Bool} (e : f ≡ hasHeader bytes shapeHeaderLength shapeMark) where
+pub shape-short : (bytes : List ℕ) → length bytes < 11 → false ≡ isShape bytes
+unfolding isShape hasHeader
+shape-short bytes h = rw (lt-leb (shapeHeaderLength (versionOf bytes)) (length bytes) (omega (arith, least (versionOf bytes))))
+
+module _ (bytes : List ℕ) {v h : ℕ} {f : Bool} (e : v ≡ versionOf bytes) (l : h ≡ shapeHeaderLength v) (m : f ≡ hasHeader bytes h shapeMark) where
+  same-header : f ≡ hasHeader bytes (shapeHeaderLength (versionOf bytes)) shapeMark
+  same-header = m ∙ ap (λ (n : ℕ). hasHeader bytes n shapeMark) (l ∙ ap shapeHeaderLength e)
+
   pub shape-no-header : not f ≡ true → false ≡ isShape bytes
   unfolding isShape
-  shape-no-header t = rw (← e, not-true f t)
+  shape-no-header t = rw (← same-header, not-true f t)
 
-  pub shape-by-length : {count : ℕ} → not f ≡ false → count ≡ u32At bytes 7 → eqb (length bytes) (shapeLength count) ≡ isShape bytes
-  unfolding isShape
-  shape-by-length t k = rw (← e, not-false f t, k)
+  module _ (t : not f ≡ false) {r : Bool} (k : r ≡ isVersion v) where
+    pub shape-no-version : not r ≡ true → false ≡ isShape bytes
+    unfolding isShape
+    shape-no-version n = rw (← same-header, not-false f t, ← e, ← k, not-true r n)
+
+    pub shape-by-length : {count : ℕ} → not r ≡ false → count ≡ u32At bytes (h - 4) → eqb (length bytes) (h + count) ≡ isShape bytes
+    unfolding isShape
+    shape-by-length n c = rw (← same-header, not-false f t, ← e, ← k, not-false r n, c, l)
 
 -- what the tests say of a shape file
 pub record IsShape (bytes : List ℕ) : Type 0 where
-  pub header : hasHeader bytes shapeHeaderLength shapeMark ≡ true
-  pub whole : length bytes ≡ shapeLength (u32At bytes 7)
+  pub header : hasHeader bytes (shapeHeaderLength (versionOf bytes)) shapeMark ≡ true
+  pub version : isVersion (versionOf bytes) ≡ true
+  pub whole : length bytes ≡ shapeHeaderLength (versionOf bytes) + symbolCount bytes
 
 pub is-shape : (bytes : List ℕ) → isShape bytes ≡ true → IsShape bytes
 unfolding isShape
 is-shape bytes e =
-    let a = hasHeader bytes shapeHeaderLength shapeMark in
-    let b = eqb (length bytes) (shapeLength (u32At bytes 7)) in
-    record { header = and-left a b e; whole = eqb-true _ _ (and-right a b e) }
+    let a = hasHeader bytes (shapeHeaderLength (versionOf bytes)) shapeMark in
+    let b = isVersion (versionOf bytes) in
+    let c = eqb (length bytes) (shapeHeaderLength (versionOf bytes) + symbolCount bytes) in
+    let both = and-left (a && b) c e in
+    record { header = and-left a b both; version = and-right a b both; whole = eqb-true _ _ (and-right (a && b) c e) }
 
 -- ---- the header
 
 -- each number is read at its place
-pub header-made : (bytes : List ℕ) {axes bits count : ℕ} → axes ≡ getD bytes 5 0 → bits ≡ getD bytes 6 0 → count ≡ u32At bytes 7 →
-    record { shape = record { refusal = 0; universe = record { axes = axes; bits = bits }; length = count }; place = shapeHeaderLength } ≡ shapeHeaderOf bytes
-header-made bytes a b c = rw (a, b, c)
+pub header-made : (bytes : List ℕ) {v h count : ℕ} {u : Universe} → v ≡ versionOf bytes → h ≡ shapeHeaderLength v → u ≡ universeSaid bytes →
+    count ≡ u32At bytes (h - 4) → record { shape = record { refusal = 0; universe = u; length = count }; place = h } ≡ shapeHeaderOf bytes
+header-made bytes e l u c = rw (c, l, e, u)
 
 module _ (bytes : List ℕ) {f : Bool} (e : f ≡ isShape bytes) where
-  pub shape-long : f ≡ true → shapeHeaderLength ≤ length bytes
+  pub shape-long : f ≡ true → shapeHeaderLength (versionOf bytes) ≤ length bytes
   shape-long t = omega (arith, is-shape bytes (sym e ∙ t) .whole)
 
   pub header-told : {h : ShapeHeader} → f ≡ true → h ≡ shapeHeaderOf bytes → h ≡ shapeHeader bytes
@@ -72,7 +147,25 @@ module _ (bytes : List ℕ) {f : Bool} (e : f ≡ isShape bytes) where
   unfolding shapeHeader
   header-none t g = rw (← e, t, g)
 
-pub ruleset shape-laws = (needs, header-there, shape-no-header, shape-by-length, shape-long, header-made, header-told, header-none)
+pub ruleset shape-laws = (
+  needs,
+  mark-within,
+  count-within,
+  count-there,
+  whole-fits,
+  said-count-there,
+  version-there,
+  universe-there,
+  header-there,
+  shape-short,
+  shape-no-header,
+  shape-no-version,
+  shape-by-length,
+  shape-long,
+  header-made,
+  header-told,
+  header-none,
+)
 
 -- ---- the symbols that a header tells of are there, and the answer is up to the checks
 
@@ -115,9 +208,12 @@ module _ (u : Universe) (z : universeRefusal u ≡ 0) where
   axes-small = omega (arith, accepted u z .few-axes)
 
   pub bits-small : u .bits < 256
-  bits-small = omega (arith, accepted u z .few-bits)
+  bits-small = omega (arith, accepted u z .few-bits, most-bits (u .axes))
 
-pub ruleset header-laws = (needs, axes-small, bits-small)
+  pub frame-bits-small : u .«frame_bits» < 256
+  frame-bits-small = omega (arith, accepted u z .few-frame-bits)
+
+pub ruleset header-laws = (needs, axes-small, bits-small, frame-bits-small)
 
 -- ---- writing: what it answers, and what the room holds afterwards
 
@@ -189,12 +285,12 @@ module _ (u : Universe) (s out : List ℕ) where
 
           -- the header stored from the first place on, and the symbols behind it
           pub write-leaves : {header front now : List ℕ} → header ≡ shapeHeaderBytes u (length s) → front ≡ sets out 0 header →
-              now ≡ sets front shapeHeaderLength s → now ≡ writeBuffer u s out
+              now ≡ sets front (shapeHeaderLength shapeVersion) s → now ≡ writeBuffer u s out
           unfolding shapeBytes
           write-leaves k f g =
               let bytes = shapeHeaderBytes u (length s) in
               g
-              ∙ ap (λ (l : List ℕ). sets l shapeHeaderLength s) (f ∙ ap (sets out 0) k)
+              ∙ ap (λ (l : List ℕ). sets l (shapeHeaderLength shapeVersion) s) (f ∙ ap (sets out 0) k)
               ∙ sets-append bytes s out 0
               ∙ sets-first (bytes ++ s) out (omega (arith, length-append bytes s))
               ∙ written (bytes ++ s) out (sym (ap (λ (w : Written). w .refusal) all)) refl

@@ -7,6 +7,8 @@ use lib.ListN.{length, getD}
 use lib.IntN.{ℤ, pos, _-ℤ_}
 use Rattle.lemmas.specs.Sums.{every}
 use Rattle.lemmas.specs.Grid.{listed}
+use Rattle.universe.specs.declared.Universe.{Universe}
+use Rattle.universe.specs.Universe.{equalBits}
 
 -- an unsigned number at a place: its lower half comes first
 abbrev pub u16At : List ℕ → ℕ → ℕ
@@ -42,9 +44,18 @@ u16Bytes n = n % 256 ∷ n / 256 % 256 ∷ []
 abbrev pub u32Bytes : ℕ → List ℕ
 u32Bytes n = n % 256 ∷ n / 256 % 256 ∷ n / 65_536 % 256 ∷ n / 16_777_216 % 256 ∷ []
 
--- rules 7.2 and 7.3: a file begins with the three bytes of its mark and with version 1
+-- rules 7.2 and 7.3: a file begins with the three bytes of its mark; then comes its version
 abbrev pub markOf : ℕ → ℕ → ℕ → List ℕ
-markOf a b c = a ∷ b ∷ c ∷ u16Bytes 1
+markOf a b c = a ∷ b ∷ c ∷ []
+
+abbrev pub versionOf : List ℕ → ℕ
+versionOf bytes = u16At bytes 3
+
+-- and then axes, bits and frame bits; rule 7.5: a file of version 1 has no frame bits, and each axis has its bits
+abbrev pub universeSaid : List ℕ → Universe
+universeSaid bytes =
+    cond (eqb (versionOf bytes) 1) (equalBits (getD bytes 5 0) (getD bytes 6 0))
+    (record { axes = getD bytes 5 0; bits = getD bytes 6 0; «frame_bits» = getD bytes 7 0 })
 
 -- whether bytes are as long as a header of so many bytes, and begin with its mark
 unfoldable pub hasHeader : List ℕ → ℕ → List ℕ → Bool

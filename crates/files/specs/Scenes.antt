@@ -1,4 +1,5 @@
--- Rules 7.2 and 7.4: the scene. `sceneHeader`, by `isScene` and `sceneHeaderOf`, alone knows its version and places.
+-- Rules 7.2, 7.4 and 7.5: the scene. Behind what every file begins with, `sceneHeader`, by `isScene` and
+-- `sceneHeaderOf`, alone knows its versions and places.
 use Prim.Native.Nat.{ℕ, _+_, _*_}
 use mathlib.Core.Bool.{Bool, cond, _&&_}
 use mathlib.Core.List.{List, [], _∷_}
@@ -16,7 +17,8 @@ use Rattle.csg.specs.Words.{treeRefusal}
 use Rattle.files.specs.declared.Counts.{Counts}
 use Rattle.files.specs.declared.Scene.{Scene}
 use Rattle.files.specs.declared.SceneHeader.{SceneHeader}
-use Rattle.files.specs.Numbers.{u16At, i64sAt, u16sAt, numberBytes, wordBytes, markOf, hasHeader}
+use Rattle.files.specs.Numbers.{u16At, i64sAt, u16sAt, numberBytes, wordBytes}
+use Rattle.files.specs.Numbers.{markOf, versionOf, universeSaid, hasHeader}
 
 -- rule 7.2: a scene's mark, `HSC`
 abbrev pub sceneMark : List ℕ
@@ -32,19 +34,22 @@ rowBytes = numberBytes * rowLength
 abbrev pub sceneLength : List ℕ → ℕ
 sceneLength bytes = sceneHeaderLength + rowBytes * u16At bytes 8 + wordBytes * (u16At bytes 10 + u16At bytes 12)
 
+-- rule 7.5: version 1, whose byte for the frame bits is 0, or version 2
+unfoldable pub hasVersion : List ℕ → Bool
+hasVersion bytes = cond (eqb (versionOf bytes) 1) (eqb (getD bytes 7 0) 0) (eqb (versionOf bytes) 2)
+
 -- whether bytes are a scene by mark, version, zero byte and length
 unfoldable pub isScene : List ℕ → Bool
 isScene bytes =
-    hasHeader bytes sceneHeaderLength sceneMark
-    && eqb (getD bytes 7 0) 0
-    && eqb (length bytes) (sceneLength bytes)
+    hasHeader bytes sceneHeaderLength sceneMark && hasVersion bytes && eqb (length bytes) (sceneLength bytes)
 
 -- rule 8.3: a number, and zeros
 abbrev pub refusedScene : ℕ → Scene
 refusedScene number =
     record {
       refusal = number;
-      universe = record { axes = 0; bits = 0 };
+      version = 0;
+      universe = record { axes = 0; bits = 0; «frame_bits» = 0 };
       counts = record { rows = 0; first = 0; second = 0 };
       window = record { first = 0; last = 0 };
     }
@@ -56,7 +61,8 @@ sceneHeaderOf bytes =
       scene =
           record {
             refusal = 0;
-            universe = record { axes = getD bytes 5 0; bits = getD bytes 6 0 };
+            version = versionOf bytes;
+            universe = universeSaid bytes;
             counts = record { rows = u16At bytes 8; first = u16At bytes 10; second = u16At bytes 12 };
             window = record { first = u16At bytes 14; last = u16At bytes 16 };
           };

@@ -1,10 +1,14 @@
-// Numbers in bytes, little-endian.
+// Numbers in bytes, little-endian, and with what a file begins.
 ghost use mathlib.Core.Path.{_≡_};
 ghost use mathlib.Core.List.{_++_};
 ghost use Prim.Native.Nat.{_+_, _*_, _≤_, _<_};
 ghost use lib.ListN.{length, getD, drop};
 ghost use Rattle.files.specs.Numbers.{u16At, u32At, u64At, fromBits, i64sAt, u16sAt};
-ghost use Rattle.files.specs.Numbers.{numberBytes, wordBytes, hasHeader};
+ghost use Rattle.files.specs.Numbers.{numberBytes, wordBytes, versionOf, universeSaid, hasHeader};
+use universe::Universe;
+
+// The version of a file that has no frame bits.
+pub const FIRST_VERSION: u64 = 1;
 
 // The bytes of a number, and of a word.
 pub(crate) const NUMBER_BYTES: usize = 8;
@@ -45,6 +49,29 @@ pub(crate) fn u16_at(bytes: &[u8], at: usize) -> u16
     let low = bytes[at] as u16;
     let high = bytes[at + 1] as u16;
     low + 256 * high
+}
+
+// The version of a file, behind the three bytes of its mark.
+pub(crate) fn version_of(bytes: &[u8]) -> u64
+    requires { ⌜ 5 ≤ length (now bytes) ⌝ }
+    ensures { λ r. ⌜ r ≡ versionOf (now (bytes .entry)) ⌝ }
+{
+    u16_at(bytes, 3) as u64
+}
+
+// The universe that a file says, behind its version.
+pub(crate) fn universe_said(bytes: &[u8]) -> Universe
+    requires { ⌜ 8 ≤ length (now bytes) ⌝ }
+    ensures { λ r. ⌜ r ≡ universeSaid (now (bytes .entry)) ⌝ }
+{
+    if version_of(bytes) == FIRST_VERSION {
+        return Universe::with_equal_bits(byte_at(bytes, 5), byte_at(bytes, 6));
+    }
+    Universe {
+        axes: byte_at(bytes, 5),
+        bits: byte_at(bytes, 6),
+        frame_bits: byte_at(bytes, 7),
+    }
 }
 
 // The unsigned number of four bytes at a place.

@@ -3,6 +3,7 @@ mod decode;
 mod scene_file;
 mod shape_file;
 
+pub use decode::FIRST_VERSION;
 pub use scene_file::MOST_NUMBERS;
 pub use scene_file::read_scene;
 pub use shape_file::read_shape;
@@ -29,6 +30,7 @@ pub struct Window {
 // What reading a scene answers: 0 and what the scene says, or a refusal and zeros.
 pub struct Scene {
     pub refusal: u64,
+    pub version: u64,
     pub universe: Universe,
     pub counts: Counts,
     pub window: Window,
@@ -40,7 +42,12 @@ impl Scene {
     {
         Scene {
             refusal: number,
-            universe: Universe { axes: 0, bits: 0 },
+            version: 0,
+            universe: Universe {
+                axes: 0,
+                bits: 0,
+                frame_bits: 0,
+            },
             counts: Counts {
                 rows: 0,
                 first: 0,
@@ -79,7 +86,11 @@ impl ShapeRead {
     {
         ShapeRead {
             refusal: number,
-            universe: Universe { axes: 0, bits: 0 },
+            universe: Universe {
+                axes: 0,
+                bits: 0,
+                frame_bits: 0,
+            },
             length: 0,
         }
     }
@@ -90,7 +101,11 @@ impl ShapeRead {
     {
         ShapeRead {
             refusal: refusals::NO_ROOM,
-            universe: Universe { axes: 0, bits: 0 },
+            universe: Universe {
+                axes: 0,
+                bits: 0,
+                frame_bits: 0,
+            },
             length: needed,
         }
     }

@@ -6,7 +6,7 @@ ghost use lib.ListN.{length};
 ghost use Rattle.csg.specs.Halfspace.{rowLength, rowsRefusal};
 ghost use Rattle.csg.specs.Words.{treeRefusal};
 ghost use Rattle.files.specs.Numbers.{i64sAt, u16sAt, wordBytes};
-ghost use Rattle.files.specs.Scenes.{sceneHeaderLength, rowBytes, sceneLength, isScene};
+ghost use Rattle.files.specs.Scenes.{sceneHeaderLength, rowBytes, sceneLength, hasVersion, isScene};
 ghost use Rattle.files.specs.Scenes.{sceneHeaderOf, sceneHeader, sceneRefusal};
 ghost use Rattle.files.specs.Scenes.{sceneAnswer, rowsAfter, firstWordsAfter, secondWordsAfter};
 use crate::Counts;
@@ -14,6 +14,7 @@ use crate::Places;
 use crate::Scene;
 use crate::SceneHeader;
 use crate::Window;
+use crate::decode::FIRST_VERSION;
 use crate::decode::NUMBER_BYTES;
 use crate::decode::WORD_BYTES;
 use crate::decode::byte_at;
@@ -21,6 +22,8 @@ use crate::decode::has_header;
 use crate::decode::read_numbers;
 use crate::decode::read_words;
 use crate::decode::u16_at;
+use crate::decode::universe_said;
+use crate::decode::version_of;
 use csg::MOST_ROWS;
 use csg::MOST_WORDS;
 use csg::ROW_LENGTH;
@@ -32,8 +35,11 @@ use universe::refusals;
 // The numbers of all rows of a scene.
 pub const MOST_NUMBERS: usize = MOST_ROWS * ROW_LENGTH;
 
-// With what a scene file begins: its mark and its version.
-const MARK: [u8; 5] = [b'H', b'S', b'C', 1, 0];
+// With what a scene file begins.
+const MARK: [u8; 3] = [b'H', b'S', b'C'];
+
+// The version that has frame bits.
+const VERSION: u64 = 2;
 
 // The length of a scene file's header, and of a row.
 const HEADER_LENGTH: usize = 18;
@@ -51,6 +57,18 @@ fn is_whole(bytes: &[u8]) -> bool
     bytes.len() == HEADER_LENGTH + ROW_BYTES * rows + WORD_BYTES * (first + second)
 }
 
+// Whether the version is read: the first one has a byte 0 where frame bits stand.
+fn has_version(bytes: &[u8]) -> bool
+    requires { ⌜ sceneHeaderLength ≤ length (now bytes) ⌝ }
+    ensures { λ r. ⌜ r ≡ hasVersion (now (bytes .entry)) ⌝ }
+{
+    let version = version_of(bytes);
+    if version == FIRST_VERSION {
+        return byte_at(bytes, 7) == 0;
+    }
+    version == VERSION
+}
+
 // Whether the bytes are a scene file by mark, version, zero byte and length.
 fn is_scene(bytes: &[u8]) -> bool
     ensures { λ r. ⌜ r ≡ isScene (now (bytes .entry)) ⌝ }
@@ -58,7 +76,7 @@ fn is_scene(bytes: &[u8]) -> bool
     if !has_header(bytes, HEADER_LENGTH, &MARK) {
         return false;
     }
-    if byte_at(bytes, 7) != 0 {
+    if !has_version(bytes) {
         return false;
     }
     is_whole(bytes)
@@ -75,10 +93,8 @@ fn header_of(bytes: &[u8]) -> SceneHeader
     SceneHeader {
         scene: Scene {
             refusal: 0,
-            universe: Universe {
-                axes: byte_at(bytes, 5),
-                bits: byte_at(bytes, 6),
-            },
+            version: version_of(bytes),
+            universe: universe_said(bytes),
             counts: Counts {
                 rows: rows,
                 first: first,

@@ -3,25 +3,35 @@ ghost use mathlib.Core.Path.{_≡_};
 ghost use Prim.Native.Nat.{_≤_};
 ghost use lib.ListN.{length};
 ghost use Rattle.universe.specs.Universe.{universeRefusal};
-ghost use Rattle.files.specs.Shapes.{shapeHeaderLength, mostSymbols, symbolsRefusal, shapeHeaderBytes, isShape};
-ghost use Rattle.files.specs.Shapes.{shapeHeaderOf, shapeHeader, shapeRefusal};
+ghost use Rattle.files.specs.Numbers.{versionOf};
+ghost use Rattle.files.specs.Shapes.{shapeHeaderLength, mostSymbols, symbolsRefusal, shapeHeaderBytes};
+ghost use Rattle.files.specs.Shapes.{isVersion, isShape, shapeHeaderOf, shapeHeader, shapeRefusal};
 ghost use Rattle.files.specs.Shapes.{writeAnswer, writeBuffer, readAnswer, readBuffer};
 use crate::ShapeHeader;
 use crate::ShapeRead;
-use crate::decode::byte_at;
+use crate::decode::FIRST_VERSION;
 use crate::decode::has_header;
 use crate::decode::u32_at;
+use crate::decode::universe_said;
+use crate::decode::version_of;
 use bintree::Written;
 use bintree::copy;
 use bintree::merge;
 use universe::Universe;
 use universe::refusals;
 
-// With what a shape file begins: its mark and its version.
-const MARK: [u8; 5] = [b'B', b'N', b'T', 1, 0];
+// With what a shape file begins.
+const MARK: [u8; 3] = [b'B', b'N', b'T'];
 
-// The length of a shape file's header.
-const HEADER_LENGTH: usize = 11;
+// The version that is written, and the length of its header; the first version has no byte for the frame bits.
+const VERSION: u64 = 2;
+
+const HEADER_LENGTH: usize = 12;
+
+const FIRST_HEADER_LENGTH: usize = 11;
+
+// The bytes that count the symbols, at the end of the header.
+const COUNT_BYTES: usize = 4;
 
 // The most symbols that a shape file counts.
 const MOST_SYMBOLS: usize = 4_294_967_295;
@@ -52,10 +62,11 @@ fn header_bytes(universe: Universe, count: usize) -> [u8; HEADER_LENGTH]
         b'B',
         b'N',
         b'T',
-        1,
+        VERSION as u8,
         0,
         universe.axes as u8,
         universe.bits as u8,
+        universe.frame_bits as u8,
         (count % 256) as u8,
         (count / 256 % 256) as u8,
         (count / 65_536 % 256) as u8,
@@ -86,31 +97,57 @@ pub fn write_shape(universe: Universe, expression: &[u8], out: &mut [u8]) -> Wri
     Written::done(needed as u64)
 }
 
+// The length of the header of a version.
+fn header_length(version: u64) -> usize
+    ensures { λ r. ⌜ r ≡ shapeHeaderLength version ⌝ }
+{
+    if version == FIRST_VERSION {
+        return FIRST_HEADER_LENGTH;
+    }
+    HEADER_LENGTH
+}
+
+// Whether a version is read.
+fn is_version(version: u64) -> bool
+    ensures { λ r. ⌜ r ≡ isVersion version ⌝ }
+{
+    if version == FIRST_VERSION {
+        return true;
+    }
+    version == VERSION
+}
+
 // Whether the bytes are a shape file by mark, version and length.
 fn is_shape(bytes: &[u8]) -> bool
     ensures { λ r. ⌜ r ≡ isShape (now (bytes .entry)) ⌝ }
 {
-    if !has_header(bytes, HEADER_LENGTH, &MARK) {
+    if bytes.len() < FIRST_HEADER_LENGTH {
         return false;
     }
-    bytes.len() == HEADER_LENGTH + u32_at(bytes, 7) as usize
+    let version = version_of(bytes);
+    let header = header_length(version);
+    if !has_header(bytes, header, &MARK) {
+        return false;
+    }
+    if !is_version(version) {
+        return false;
+    }
+    bytes.len() == header + u32_at(bytes, header - COUNT_BYTES) as usize
 }
 
 // What the header of a shape file says.
 fn header_of(bytes: &[u8]) -> ShapeHeader
-    requires { ⌜ shapeHeaderLength ≤ length (now bytes) ⌝ }
+    requires { ⌜ shapeHeaderLength (versionOf (now bytes)) ≤ length (now bytes) ⌝ }
     ensures { λ r. ⌜ r ≡ shapeHeaderOf (now (bytes .entry)) ⌝ }
 {
+    let header = header_length(version_of(bytes));
     ShapeHeader {
         shape: ShapeRead {
             refusal: 0,
-            universe: Universe {
-                axes: byte_at(bytes, 5),
-                bits: byte_at(bytes, 6),
-            },
-            length: u32_at(bytes, 7) as u64,
+            universe: universe_said(bytes),
+            length: u32_at(bytes, header - COUNT_BYTES) as u64,
         },
-        place: HEADER_LENGTH,
+        place: header,
     }
 }
 

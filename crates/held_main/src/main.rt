@@ -15,12 +15,9 @@ fn tell(word: &[u8], n: u64) {
     io::print_decimal(STDOUT_FILENO, n);
 }
 
-// An expression merged into the room lent.
+// An expression merged into the room lent, where every axis has so many bits.
 fn merge(axes: u64, bits: u64, expression: &[u8], room: &mut [u8]) {
-    let universe = Universe {
-        axes: axes,
-        bits: bits,
-    };
+    let universe = Universe::with_equal_bits(axes, bits);
     let answer = bintree::merge(universe, expression, room);
     tell(b"axes ", axes);
     tell(b" bits ", bits);

@@ -4,12 +4,13 @@ use native.Mathlib.Omega.{arith}
 use mathlib.Core.Path.{_≡_, sym, ap, _∙_}
 use mathlib.Core.List.{List, _++_}
 use lib.IntN.{ℤ, pos}
-use lib.ListN.{length, take, drop, replicate, length-append}
+use lib.ListN.{length, getD, take, drop, replicate, length-append}
 use lib.Seq.{length-take-le}
 use borrow.Author.Tests.{eq-eqb, ne-eqb, lt-ltb, le-ltb}
 use Rattle.universe.specs.declared.Universe.{Universe}
 use Rattle.universe.specs.declared.room.RoomAnswer.{RoomAnswer}
 use Rattle.universe.specs.Refusals.{badFile, noRoom}
+use Rattle.universe.specs.Universe.{equalBits}
 use Rattle.universe.specs.Room.{roomAnswer}
 use Rattle.csg.specs.Halfspace.{mostRows, rowLength}
 use Rattle.csg.specs.Surfaces.{Surfaces, surfacesOf}
@@ -17,22 +18,24 @@ use Rattle.csg.specs.Words.{mostWords, halfspaceWords}
 use Rattle.convert.specs.declared.verdict.Clearance.{Clearance}
 use Rattle.convert.specs.Answers.{clearanceAnswer}
 use Rattle.files.specs.declared.Scene.{Scene}
+use Rattle.files.specs.Numbers.{versionOf}
 use Rattle.files.specs.Scenes.{sceneAnswer, rowsAfter, firstWordsAfter, secondWordsAfter}
-use Rattle.lines.specs.Lines.{refusedLine, shortLine, universeLine, countsLine, verdictLine}
+use Rattle.files.proofs.Accepted.{answer-said}
+use Rattle.lines.specs.Lines.{text, labelled, bitsOf, refusedLine, shortLine, universeLine, countsLine, verdictLine}
 use Rattle.lines.specs.Program.{mostSceneBytes, lentSymbols, clearanceLines, judgedLines, sceneLines, programLines}
 
 -- ---- what the conversion answers
-module _ (u : Universe) (leaves : ℕ) (c : Clearance) where
-  pub short-lines : c .refusal ≡ noRoom → shortLine (c .length) ≡ clearanceLines u leaves c
+module _ (version : ℕ) (u : Universe) (leaves : ℕ) (c : Clearance) where
+  pub short-lines : c .refusal ≡ noRoom → shortLine (c .length) ≡ clearanceLines version u leaves c
   unfolding clearanceLines
   short-lines e = rw (eq-eqb (c .refusal) noRoom e)
 
-  pub refused-lines : (c .refusal ≡ noRoom → ⊥) → (c .refusal ≡ 0 → ⊥) → refusedLine (c .refusal) ≡ clearanceLines u leaves c
+  pub refused-lines : (c .refusal ≡ noRoom → ⊥) → (c .refusal ≡ 0 → ⊥) → refusedLine (c .refusal) ≡ clearanceLines version u leaves c
   unfolding clearanceLines
   refused-lines f g = rw (ne-eqb (c .refusal) noRoom f, ne-eqb (c .refusal) 0 g)
 
   pub three-lines : {room : RoomAnswer} → (c .refusal ≡ noRoom → ⊥) → c .refusal ≡ 0 → room ≡ roomAnswer u leaves
-      → universeLine u ++ countsLine leaves (c .length) (room .symbols) ++ verdictLine (c .verdict) ≡ clearanceLines u leaves c
+      → universeLine version u ++ countsLine leaves (c .length) (room .symbols) ++ verdictLine (c .verdict) ≡ clearanceLines version u leaves c
   unfolding clearanceLines
   three-lines f e q = rw (ne-eqb (c .refusal) noRoom f, eq-eqb (c .refusal) 0 e, q)
 
@@ -41,7 +44,7 @@ pub judged-lines : (s : Scene) (surfaces : Surfaces) (first second : List ℕ) {
     → c ≡ clearanceAnswer (s .universe) surfaces first second (s .window .first) (s .window .last) (replicate lentSymbols 0)
     → a ≡ halfspaceWords first
     → b ≡ halfspaceWords second
-    → clearanceLines (s .universe) (a + b) c ≡ judgedLines s surfaces first second
+    → clearanceLines (s .version) (s .universe) (a + b) c ≡ judgedLines s surfaces first second
 unfolding judgedLines
 judged-lines s surfaces first second e f g = rw (e, f, g)
 
@@ -62,6 +65,21 @@ module _ (bytes : List ℕ) {s : Scene} (e : s ≡ sceneAnswer bytes) where
       ≡ sceneLines bytes
   unfolding sceneLines
   read-lines z p q r = rw (eq-eqb (sceneAnswer bytes .refusal) 0 (number ∙ z), p, q, r, e)
+
+-- ---- line 1 of a scene that was read says the bytes of its file
+
+module _ (bytes : List ℕ) {s : Scene} (e : s ≡ sceneAnswer bytes) (accepted : s .refusal ≡ 0) where
+  -- THEOREM: of version 1 the number printed as bits is the file's own
+  pub first-version-line : versionOf bytes ≡ 1
+      → universeLine (s .version) (s .universe) ≡ labelled "axes " (getD bytes 5 0) ++ labelled " bits " (getD bytes 6 0) ++ text "\n"
+  unfolding bitsOf equalBits
+  first-version-line v = rw (answer-said bytes e accepted, v)
+
+  pub later-version-line : (versionOf bytes ≡ 1 → ⊥)
+      → universeLine (s .version) (s .universe)
+      ≡ labelled "axes " (getD bytes 5 0) ++ (labelled " bits " (getD bytes 6 0) ++ labelled " frame " (getD bytes 7 0)) ++ text "\n"
+  unfolding bitsOf
+  later-version-line n = rw (answer-said bytes e accepted, ne-eqb (versionOf bytes) 1 n)
 
 -- ---- the length of a scene
 pub long-lines : (bytes : List ℕ) → mostSceneBytes < length bytes → refusedLine badFile ≡ programLines bytes

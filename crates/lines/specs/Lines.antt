@@ -1,5 +1,7 @@
 -- Rules 9.2 to 9.4: the lines, byte for byte.
 use Prim.Native.Nat.{ℕ}
+use mathlib.Core.Bool.{cond}
+use lib.Dec.{eqb}
 use Prim.Native.String.{String}
 use Prim.Native.Char.{code}
 use mathlib.Core.List.{List, [], _∷_, _++_}
@@ -27,9 +29,15 @@ refusedLine number = labelled "refused " number ++ text "\n"
 abbrev pub shortLine : ℕ → List ℕ
 shortLine needed = labelled "refused " noRoom ++ labelled " needed " needed ++ text "\n"
 
--- rule 9.2, line 1: the universe
-abbrev pub universeLine : Universe → List ℕ
-universeLine u = labelled "axes " (u .axes) ++ labelled " bits " (u .bits) ++ text "\n"
+-- rule 9.2, line 1: the universe of a scene of a version; version 1 says how many bits each axis has (rule 7.5), which
+-- are the frame bits, and for one axis those alone
+unfoldable pub bitsOf : ℕ → Universe → List ℕ
+bitsOf version u =
+    cond (eqb version 1) (labelled " bits " (u .«frame_bits»))
+    (labelled " bits " (u .bits) ++ labelled " frame " (u .«frame_bits»))
+
+abbrev pub universeLine : ℕ → Universe → List ℕ
+universeLine version u = labelled "axes " (u .axes) ++ bitsOf version u ++ text "\n"
 
 -- line 2: N (rule 3.6), the raw expression's length, and room (rule 4.7)
 abbrev pub countsLine : ℕ → ℕ → ℕ → List ℕ

@@ -26,18 +26,19 @@ mostSceneBytes = 65_536
 abbrev pub lentSymbols : ℕ
 lentSymbols = 32_768
 
--- three lines, or the one line of the number that refuses, with the symbols needed where that is noRoom
-unfoldable pub clearanceLines : Universe → ℕ → Clearance → List ℕ
-clearanceLines u leaves c =
+-- three lines, of a scene of a version, or the one line of the number that refuses, with the symbols needed where that
+-- is noRoom
+unfoldable pub clearanceLines : ℕ → Universe → ℕ → Clearance → List ℕ
+clearanceLines version u leaves c =
     cond (eqb (c .refusal) noRoom) (shortLine (c .length))
     (cond (eqb (c .refusal) 0)
-    (universeLine u ++ countsLine leaves (c .length) (roomAnswer u leaves .symbols) ++ verdictLine (c .verdict))
+    (universeLine version u ++ countsLine leaves (c .length) (roomAnswer u leaves .symbols) ++ verdictLine (c .verdict))
     (refusedLine (c .refusal)))
 
 -- those of a scene that was read, with its surfaces and words: its two trees are intersected and judged over its window
 unfoldable pub judgedLines : Scene → Surfaces → List ℕ → List ℕ → List ℕ
 judgedLines s surfaces first second =
-    clearanceLines (s .universe) (halfspaceWords first + halfspaceWords second)
+    clearanceLines (s .version) (s .universe) (halfspaceWords first + halfspaceWords second)
     (clearanceAnswer (s .universe) surfaces first second (s .window .first) (s .window .last) (replicate lentSymbols 0))
 
 -- the surfaces and the words that reading a scene leaves at the front of arrays of zeros

@@ -1,13 +1,15 @@
 // The lines, each behind what stands before it. A line is as long as its words and at most 20 digits for each number.
 ghost use Prim.Native.Nat.{_+_, _*_, _≤_};
 ghost use mathlib.Core.List.{_++_};
-ghost use Rattle.lines.specs.Lines.{refusedLine, shortLine, universeLine, countsLine, contactLine, verdictLine};
+ghost use Rattle.lines.specs.Lines.{refusedLine, shortLine, bitsOf, universeLine, countsLine, contactLine};
+ghost use Rattle.lines.specs.Lines.{verdictLine};
 ghost use Rattle.lines.specs.Appended.{mostDigits, mostBytes, Appended};
 use crate::append::MOST_BYTES;
 use crate::append::append_labelled;
 use crate::append::append_text;
 use bintree::Contact;
 use bintree::Verdict;
+use files::FIRST_VERSION;
 use universe::Universe;
 use universe::refusals::NO_ROOM;
 
@@ -28,12 +30,26 @@ pub(crate) fn write_short(needed: u64, out: &mut [u8; MOST_BYTES]) -> usize
     append_text(b"\n", out, end)
 }
 
+// The bits that line 1 says of a scene of a version: of the first version those of each axis.
+fn append_bits(version: u64, universe: Universe, out: &mut [u8; MOST_BYTES], at: usize) -> usize
+    requires { ⌜ at + (13 + 2 * mostDigits) ≤ mostBytes ⌝ }
+    ensures { λ r. let bits = bitsOf version universe in
+        ⌜ Appended (13 + 2 * mostDigits) (now (out .entry)) at bits (now (out .exit)) r ⌝ }
+{
+    if version == FIRST_VERSION {
+        return append_labelled(b" bits ", universe.frame_bits, out, at);
+    }
+    let frame = append_labelled(b" bits ", universe.bits, out, at);
+    append_labelled(b" frame ", universe.frame_bits, out, frame)
+}
+
 // Line 1.
-fn append_universe(universe: Universe, out: &mut [u8; MOST_BYTES]) -> usize
-    ensures { λ r. ⌜ Appended (12 + 2 * mostDigits) (now (out .entry)) 0 (universeLine universe) (now (out .exit)) r ⌝ }
+fn append_universe(version: u64, universe: Universe, out: &mut [u8; MOST_BYTES]) -> usize
+    ensures { λ r. let line = universeLine version universe in
+        ⌜ Appended (19 + 3 * mostDigits) (now (out .entry)) 0 line (now (out .exit)) r ⌝ }
 {
     let bits = append_labelled(b"axes ", universe.axes, out, 0);
-    let end = append_labelled(b" bits ", universe.bits, out, bits);
+    let end = append_bits(version, universe, out, bits);
     append_text(b"\n", out, end)
 }
 
@@ -73,6 +89,7 @@ fn append_verdict(verdict: Verdict, out: &mut [u8; MOST_BYTES], at: usize) -> us
 
 // The three lines.
 pub(crate) fn write_three(
+    version: u64,
     universe: Universe,
     leaves: u64,
     raw: u64,
@@ -80,10 +97,10 @@ pub(crate) fn write_three(
     verdict: Verdict,
     out: &mut [u8; MOST_BYTES],
 ) -> usize
-    ensures { λ r. let lines = universeLine universe ++ countsLine leaves raw room ++ verdictLine verdict in
+    ensures { λ r. let lines = universeLine version universe ++ countsLine leaves raw room ++ verdictLine verdict in
         ⌜ Appended mostBytes (now (out .entry)) 0 lines (now (out .exit)) r ⌝ }
 {
-    let counts = append_universe(universe, out);
+    let counts = append_universe(version, universe, out);
     let third = append_counts(leaves, raw, room, out, counts);
     append_verdict(verdict, out, third)
 }

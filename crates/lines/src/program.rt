@@ -21,14 +21,15 @@ pub const MOST_SCENE_BYTES: usize = 65_536;
 // The symbols lent to the conversion.
 const LENT: usize = 32_768;
 
-// The lines of what the conversion answers, with so many leaves.
+// The lines of what the conversion answers of a scene of a version, with so many leaves.
 fn write_clearance(
+    version: u64,
     universe: Universe,
     leaves: u64,
     clearance: Clearance,
     out: &mut [u8; MOST_BYTES],
 ) -> usize
-    ensures { λ r. let lines = clearanceLines universe leaves clearance in
+    ensures { λ r. let lines = clearanceLines version universe leaves clearance in
         ⌜ Appended mostBytes (now (out .entry)) 0 lines (now (out .exit)) r ⌝ }
 {
     if clearance.refusal == NO_ROOM {
@@ -40,6 +41,7 @@ fn write_clearance(
     let room = universe.room(leaves);
     let verdict = clearance.verdict;
     write_three(
+        version,
         universe,
         leaves,
         clearance.length,
@@ -73,7 +75,7 @@ fn write_judged(
         &mut symbols,
     );
     let leaves = csg::halfspace_words(first) + csg::halfspace_words(second);
-    write_clearance(scene.universe, leaves, clearance, out)
+    write_clearance(scene.version, scene.universe, leaves, clearance, out)
 }
 
 // The lines of a scene.

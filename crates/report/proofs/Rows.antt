@@ -12,7 +12,7 @@ use lib.Seq.{getD-set-same, getD-set-other, drop-set-lt}
 use Rattle.lemmas.specs.Sums.{sum}
 use Rattle.lemmas.proofs.Machine.{shifted-one}
 use Rattle.universe.specs.declared.Universe.{Universe}
-use Rattle.universe.specs.Universe.{levels, mostBits, mostLevels, longestSide, axisAt, frameAxis, frameCount}
+use Rattle.universe.specs.Universe.{levels, mostFrameBits, mostLevels, longestSide, axisAt, frameAxis, frameCount}
 use Rattle.universe.proofs.Questions.{axes-left-at}
 use Rattle.universe.proofs.Universes.{accepted, levels-few, side-few}
 use Rattle.bintree.specs.Counts.{inside}
@@ -172,8 +172,8 @@ module _ (before : List ℕ) (from to each : ℕ) where
 pub ruleset adding-laws = (needs, adding-first, adding-long, adding-place, adding-fits, adding-next, adding-end)
 
 -- ---- the laws of `add_block`: places of the row and frames of the block are the same run
-few-bits : (frame bits : ℕ) → frame + 2 ^ bits ≤ longestSide → bits ≤ mostBits
-few-bits frame bits h = bit-under {l = bits} {k = mostBits} (omega arith)
+few-bits : (frame bits : ℕ) → frame + 2 ^ bits ≤ longestSide → bits ≤ mostFrameBits
+few-bits frame bits h = bit-under {l = bits} {k = mostFrameBits} (omega arith)
 
 pub same-run :
     (w : Window) (frame n each c : ℕ) → c < lengthOf w →

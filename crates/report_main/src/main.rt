@@ -27,7 +27,7 @@ fn row(counts: &[u64]) {
     }
 }
 
-// A report over a window in the row lent, on a line.
+// A report over a window in the row lent, where every axis has so many bits, on a line.
 fn over(
     label: &[u8],
     axes: u64,
@@ -37,10 +37,7 @@ fn over(
     last_frame: u64,
     counts: &mut [u64],
 ) {
-    let universe = Universe {
-        axes: axes,
-        bits: bits,
-    };
+    let universe = Universe::with_equal_bits(axes, bits);
     let answer = report::report_of(universe, expressions, first_frame, last_frame, counts);
     say(label);
     tell(b", ", first_frame);
@@ -103,6 +100,24 @@ fn lists() {
     );
 }
 
+// As many expressions as there may be, all black, over every frame of the largest universe: the greatest total.
+fn most() {
+    let universe = Universe {
+        axes: Universe::MOST_AXES,
+        bits: Universe::MOST_BITS,
+        frame_bits: Universe::MOST_FRAME_BITS,
+    };
+    let mut counts = [9u64; Universe::LONGEST_SIDE as usize];
+    let last = Universe::LONGEST_SIDE - 1;
+    let answer = report::report_of(universe, &[b'B'; 256], 0, last, &mut counts);
+    tell(b"all of the largest universe: ", answer.refusal);
+    tell(b" frames ", answer.frames);
+    tell(b" total ", answer.total);
+    tell(b" first ", counts[0]);
+    tell(b" last ", counts[last as usize]);
+    say(b"\n");
+}
+
 // One frame at each end and two inside; a row that fits, one place short and one too long.
 fn windows() {
     square(b"a slope", b"(((W(BWW(B((BWB", 0, 0, &mut [9; 1]);
@@ -125,6 +140,7 @@ fn refusals() {
 
 fn main() {
     lists();
+    most();
     windows();
     refusals();
 }

@@ -3,9 +3,6 @@
 use libc::STDOUT_FILENO;
 use universe::Universe;
 
-// The bytes of the shape file that the edges are tried on: `(W(W(B(BW` at d 2, k 2.
-const LENGTH: usize = 20;
-
 fn say(text: &[u8]) {
     io::write_all(STDOUT_FILENO, text);
 }
@@ -24,6 +21,7 @@ fn read(label: &[u8], bytes: &[u8], room: &mut [u8]) {
     tell(b": ", answer.refusal);
     tell(b" axes ", shape.axes);
     tell(b" bits ", shape.bits);
+    tell(b" frame ", shape.frame_bits);
     tell(b" symbols ", answer.length);
     say(b" ");
     say(room);
@@ -31,10 +29,11 @@ fn read(label: &[u8], bytes: &[u8], room: &mut [u8]) {
 }
 
 // An expression written as a shape file into the room lent: the number, the length, then the bytes.
-fn write(label: &[u8], axes: u64, bits: u64, expression: &[u8], room: &mut [u8]) {
+fn write(label: &[u8], axes: u64, bits: u64, frame: u64, expression: &[u8], room: &mut [u8]) {
     let universe = Universe {
         axes: axes,
         bits: bits,
+        frame_bits: frame,
     };
     let answer = files::write_shape(universe, expression, room);
     say(label);
@@ -48,9 +47,9 @@ fn byte(n: u8) {
     tell(b" ", n as u64);
 }
 
-// Mark, version, axes, bits and count byte by byte, then the rest.
+// Mark, version, axes, bits, frame bits and count byte by byte, then the rest.
 fn bytes_of(room: &[u8]) {
-    if 11 <= room.len() {
+    if 12 <= room.len() {
         byte(room[0]);
         byte(room[1]);
         byte(room[2]);
@@ -62,141 +61,349 @@ fn bytes_of(room: &[u8]) {
         byte(room[8]);
         byte(room[9]);
         byte(room[10]);
+        byte(room[11]);
         say(b" ");
-        say(&room[11..]);
+        say(&room[12..]);
     }
 }
 
-// The file with one byte changed.
-fn changed(place: usize, byte: u8) {
-    let mut file = *b"BNT\x01\x00\x02\x02\x09\x00\x00\x00(W(W(B(BW";
-    if place < LENGTH {
+// A shape file read into room for its symbols alone, and what was read written.
+fn again(label: &[u8], bytes: &[u8], symbols: &mut [u8]) {
+    let answer = files::read_shape(bytes, symbols);
+    let shape = answer.universe;
+    write(
+        label,
+        shape.axes,
+        shape.bits,
+        shape.frame_bits,
+        symbols,
+        &mut [b'.'; 22],
+    );
+}
+
+// A file with one byte changed.
+fn changed(file: &mut [u8], place: usize, byte: u8) {
+    if place < file.len() {
         file[place] = byte;
-        tell(b"byte ", place as u64);
+        tell(b" byte ", place as u64);
         tell(b" is ", byte as u64);
-        read(b"", &file, &mut [b'.'; 10]);
+        read(b"", file, &mut [b'.'; 10]);
     }
 }
 
-// Each byte of the header one up, one down or far off.
-fn header() {
-    changed(0, 67);
-    changed(1, 110);
-    changed(2, 83);
-    changed(3, 0);
-    changed(3, 2);
-    changed(4, 1);
-    changed(5, 0);
-    changed(5, 1);
-    changed(5, 4);
-    changed(5, 5);
-    changed(6, 1);
-    changed(6, 10);
-    changed(6, 11);
-    changed(7, 8);
-    changed(7, 10);
-    changed(8, 1);
-    changed(9, 1);
-    changed(10, 1);
+// `(W(W(B(BW` at d 2, k 2, f 2, as version 2 has it.
+fn second(place: usize, byte: u8) {
+    let mut file = *b"BNT\x02\x00\x02\x02\x02\x09\x00\x00\x00(W(W(B(BW";
+    say(b"version 2,");
+    changed(&mut file, place, byte);
+}
+
+// The same of version 1.
+fn first(place: usize, byte: u8) {
+    let mut file = *b"BNT\x01\x00\x02\x02\x09\x00\x00\x00(W(W(B(BW";
+    say(b"version 1,");
+    changed(&mut file, place, byte);
+}
+
+// Each byte of the header one up, one down or far off: mark and version.
+fn marks() {
+    second(0, 67);
+    second(1, 110);
+    second(2, 83);
+    second(3, 0);
+    second(3, 1);
+    second(3, 3);
+    second(4, 1);
+    first(0, 67);
+    first(1, 110);
+    first(2, 83);
+    first(3, 0);
+    first(3, 2);
+    first(3, 3);
+    first(4, 1);
+}
+
+// Axes, bits and frame bits.
+fn universes() {
+    second(5, 0);
+    second(5, 1);
+    second(5, 4);
+    second(5, 5);
+    second(6, 1);
+    second(6, 10);
+    second(6, 11);
+    second(7, 1);
+    second(7, 12);
+    second(7, 13);
+    first(5, 0);
+    first(5, 1);
+    first(5, 4);
+    first(5, 5);
+    first(6, 1);
+    first(6, 10);
+    first(6, 11);
+}
+
+// The count.
+fn counts() {
+    second(8, 8);
+    second(8, 10);
+    second(9, 1);
+    second(10, 1);
+    second(11, 1);
+    first(7, 8);
+    first(7, 10);
+    first(8, 1);
+    first(9, 1);
+    first(10, 1);
+}
+
+// One axis has frame bits alone; version 1 says them as its bits, of which ten are the most.
+fn one_axis() {
+    read(
+        b"version 2, one axis, frame 12",
+        b"BNT\x02\x00\x01\x00\x0c\x03\x00\x00\x00(WB",
+        &mut [b'.'; 10],
+    );
+    read(
+        b"version 2, one axis, frame 13",
+        b"BNT\x02\x00\x01\x00\x0d\x03\x00\x00\x00(WB",
+        &mut [b'.'; 10],
+    );
+    read(
+        b"version 2, one axis, bits 1",
+        b"BNT\x02\x00\x01\x01\x01\x03\x00\x00\x00(WB",
+        &mut [b'.'; 10],
+    );
+    read(
+        b"version 1, one axis, bits 10",
+        b"BNT\x01\x00\x01\x0a\x03\x00\x00\x00(WB",
+        &mut [b'.'; 10],
+    );
+    read(
+        b"version 1, one axis, bits 11",
+        b"BNT\x01\x00\x01\x0b\x03\x00\x00\x00(WB",
+        &mut [b'.'; 10],
+    );
 }
 
 // Symbols that are no merged expression.
 fn bodies() {
-    changed(11, b'B');
-    changed(15, b'W');
-    changed(17, b'B');
-    changed(18, b'W');
-    changed(19, b'(');
-    changed(19, b'B');
-    changed(19, 0);
+    second(12, b'B');
+    second(16, b'W');
+    second(18, b'B');
+    second(19, b'W');
+    second(20, b'(');
+    second(20, b'B');
+    second(20, 0);
+    first(11, b'B');
+    first(18, b'W');
+    first(19, b'(');
     read(
         b"not merged",
-        b"BNT\x01\x00\x02\x02\x03\x00\x00\x00(BB",
+        b"BNT\x02\x00\x02\x02\x02\x03\x00\x00\x00(BB",
         &mut [b'.'; 10],
     );
     read(
         b"not merged, no universe",
-        b"BNT\x01\x00\x05\x02\x03\x00\x00\x00(BB",
+        b"BNT\x02\x00\x05\x02\x02\x03\x00\x00\x00(BB",
         &mut [b'.'; 10],
     );
     read(
         b"not merged, no room",
-        b"BNT\x01\x00\x02\x02\x03\x00\x00\x00(BB",
+        b"BNT\x02\x00\x02\x02\x02\x03\x00\x00\x00(BB",
         &mut [b'.'; 2],
     );
 }
 
 // Files too short or too long.
-fn lengths() {
+fn second_lengths() {
     read(b"empty", b"", &mut [b'.'; 10]);
+    read(b"four bytes", b"BNT\x02", &mut [b'.'; 10]);
     read(
-        b"ten bytes",
+        b"version 2, eleven bytes",
+        b"BNT\x02\x00\x02\x02\x02\x00\x00\x00",
+        &mut [b'.'; 10],
+    );
+    read(
+        b"version 2, no symbols",
+        b"BNT\x02\x00\x02\x02\x02\x00\x00\x00\x00",
+        &mut [b'.'; 10],
+    );
+    read(
+        b"version 2, one symbol",
+        b"BNT\x02\x00\x02\x02\x02\x01\x00\x00\x00B",
+        &mut [b'.'; 10],
+    );
+    read(
+        b"version 2, a byte short",
+        b"BNT\x02\x00\x02\x02\x02\x09\x00\x00\x00(W(W(B(B",
+        &mut [b'.'; 10],
+    );
+    read(
+        b"version 2, a newline",
+        b"BNT\x02\x00\x02\x02\x02\x09\x00\x00\x00(W(W(B(BW\n",
+        &mut [b'.'; 10],
+    );
+}
+
+fn first_lengths() {
+    read(
+        b"version 1, ten bytes",
         b"BNT\x01\x00\x02\x02\x00\x00\x00",
         &mut [b'.'; 10],
     );
     read(
-        b"no symbols",
+        b"version 1, no symbols",
         b"BNT\x01\x00\x02\x02\x00\x00\x00\x00",
         &mut [b'.'; 10],
     );
     read(
-        b"one symbol",
+        b"version 1, one symbol",
         b"BNT\x01\x00\x02\x02\x01\x00\x00\x00B",
         &mut [b'.'; 10],
     );
     read(
-        b"a byte short",
+        b"version 1, a byte short",
         b"BNT\x01\x00\x02\x02\x09\x00\x00\x00(W(W(B(B",
         &mut [b'.'; 10],
     );
     read(
-        b"a newline",
+        b"version 1, a newline",
         b"BNT\x01\x00\x02\x02\x09\x00\x00\x00(W(W(B(BW\n",
         &mut [b'.'; 10],
     );
 }
 
-// Room for exactly what is read or written, one less, and none.
-fn rooms() {
+// Room for exactly what is read, one less, and none.
+fn read_rooms() {
     read(
-        b"9 lent",
+        b"version 2, 9 lent",
+        b"BNT\x02\x00\x02\x02\x02\x09\x00\x00\x00(W(W(B(BW",
+        &mut [b'.'; 9],
+    );
+    read(
+        b"version 2, 8 lent",
+        b"BNT\x02\x00\x02\x02\x02\x09\x00\x00\x00(W(W(B(BW",
+        &mut [b'.'; 8],
+    );
+    read(
+        b"version 2, none lent",
+        b"BNT\x02\x00\x02\x02\x02\x09\x00\x00\x00(W(W(B(BW",
+        &mut [],
+    );
+    read(
+        b"version 1, 9 lent",
         b"BNT\x01\x00\x02\x02\x09\x00\x00\x00(W(W(B(BW",
         &mut [b'.'; 9],
     );
     read(
-        b"8 lent",
+        b"version 1, 8 lent",
         b"BNT\x01\x00\x02\x02\x09\x00\x00\x00(W(W(B(BW",
         &mut [b'.'; 8],
     );
-    read(
-        b"none lent",
-        b"BNT\x01\x00\x02\x02\x09\x00\x00\x00(W(W(B(BW",
-        &mut [],
+}
+
+// Room for exactly what is written, one less, and none.
+fn write_rooms() {
+    write(b"write, 22 lent", 2, 2, 2, b"(W(W(B(BW", &mut [b'.'; 22]);
+    write(b"write, 21 lent", 2, 2, 2, b"(W(W(B(BW", &mut [b'.'; 21]);
+    write(b"write, 20 lent", 2, 2, 2, b"(W(W(B(BW", &mut [b'.'; 20]);
+    write(b"write, none lent", 2, 2, 2, b"(W(W(B(BW", &mut []);
+}
+
+// Universes at both sides of their limits.
+fn write_universes() {
+    write(b"write at 4, 10, 12", 4, 10, 12, b"(BW", &mut [b'.'; 15]);
+    write(b"write at axes 5", 5, 2, 2, b"(BB", &mut [b'.'; 15]);
+    write(b"write at bits 11", 2, 11, 2, b"(BB", &mut [b'.'; 15]);
+    write(b"write at frame 13", 2, 2, 13, b"(BB", &mut [b'.'; 15]);
+    write(b"write at frame 258", 2, 2, 258, b"B", &mut [b'.'; 15]);
+    write(b"write at axes 257", 257, 0, 2, b"B", &mut [b'.'; 15]);
+    write(b"write at one axis, bits 1", 1, 1, 1, b"B", &mut [b'.'; 15]);
+    write(
+        b"write at one axis, frame 12",
+        1,
+        0,
+        12,
+        b"(BW",
+        &mut [b'.'; 15],
     );
-    write(b"write, 21 lent", 2, 2, b"(W(W(B(BW", &mut [b'.'; 21]);
-    write(b"write, 20 lent", 2, 2, b"(W(W(B(BW", &mut [b'.'; 20]);
-    write(b"write, 19 lent", 2, 2, b"(W(W(B(BW", &mut [b'.'; 19]);
-    write(b"write, none lent", 2, 2, b"(W(W(B(BW", &mut []);
-    write(b"write at axes 4, bits 10", 4, 10, b"(BW", &mut [b'.'; 14]);
-    write(b"write at axes 5", 5, 2, b"(BB", &mut [b'.'; 14]);
-    write(b"write at bits 11", 2, 11, b"(BB", &mut [b'.'; 14]);
-    write(b"write at axes 257", 257, 2, b"B", &mut [b'.'; 14]);
-    write(b"write at bits 0", 1, 0, b"B", &mut [b'.'; 12]);
-    write(b"write one level too deep", 1, 0, b"(BW", &mut [b'.'; 14]);
-    write(b"write not merged", 2, 2, b"(BB", &mut [b'.'; 14]);
-    write(b"write not merged, no room", 2, 2, b"(W(BB", &mut []);
-    write(b"write no symbols", 2, 2, b"", &mut [b'.'; 14]);
-    write(b"write two expressions", 2, 2, b"BB", &mut [b'.'; 14]);
+    write(b"write at no bits", 1, 0, 0, b"B", &mut [b'.'; 13]);
+    write(
+        b"write at bits 0, frame 1",
+        2,
+        0,
+        1,
+        b"(BW",
+        &mut [b'.'; 15],
+    );
+    write(
+        b"write at bits 1, frame 0",
+        2,
+        1,
+        0,
+        b"(BW",
+        &mut [b'.'; 15],
+    );
+}
+
+// Expressions that are refused.
+fn write_bodies() {
+    write(
+        b"write one level too deep",
+        1,
+        0,
+        0,
+        b"(BW",
+        &mut [b'.'; 15],
+    );
+    write(b"write not merged", 2, 2, 2, b"(BB", &mut [b'.'; 15]);
+    write(b"write not merged, no room", 2, 2, 2, b"(W(BB", &mut []);
+    write(b"write no symbols", 2, 2, 2, b"", &mut [b'.'; 15]);
+    write(b"write two expressions", 2, 2, 2, b"BB", &mut [b'.'; 15]);
+}
+
+// What was read from either version is written as version 2.
+fn round_trips() {
+    again(
+        b"version 2 again",
+        b"BNT\x02\x00\x02\x03\x01\x09\x00\x00\x00(W(W(B(BW",
+        &mut [b'.'; 9],
+    );
+    again(
+        b"version 1 again",
+        b"BNT\x01\x00\x02\x02\x09\x00\x00\x00(W(W(B(BW",
+        &mut [b'.'; 9],
+    );
+    again(
+        b"version 1 again, one axis",
+        b"BNT\x01\x00\x01\x0a\x03\x00\x00\x00(WB",
+        &mut [b'.'; 3],
+    );
 }
 
 fn main() {
     read(
-        b"whole",
+        b"version 2, whole",
+        b"BNT\x02\x00\x02\x02\x02\x09\x00\x00\x00(W(W(B(BW",
+        &mut [b'.'; 10],
+    );
+    read(
+        b"version 1, whole",
         b"BNT\x01\x00\x02\x02\x09\x00\x00\x00(W(W(B(BW",
         &mut [b'.'; 10],
     );
-    header();
+    marks();
+    universes();
+    counts();
+    one_axis();
     bodies();
-    lengths();
-    rooms();
+    second_lengths();
+    first_lengths();
+    read_rooms();
+    write_rooms();
+    write_universes();
+    write_bodies();
+    round_trips();
 }

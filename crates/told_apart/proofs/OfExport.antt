@@ -6,31 +6,31 @@ use Rattle.told_apart.specs.Answers.{TellsApart}
 use Rattle.told_apart.proofs.Alike.{same, one, two, three, five, behind}
 
 pub durbizhan-room : (w : World) → TellsApart w export.conversions.durbizhan_room.ended export.conversions.durbizhan_room.clauses
-durbizhan-room w _ _ = ((tt, refl), λ _ _ _ _ _. two w (λ p q. (same (p .0) (q .0), λ i. behind 3 (same (p .1) (q .1) i, tt))))
+durbizhan-room w _ _ = ((tt, refl), λ _ _ _ _ _. two w (λ p q. (same (p .0) (q .0), λ i. behind 4 (same (p .1) (q .1) i, tt))))
 
 pub durbizhan-leaves : (w : World) → TellsApart w export.conversions.durbizhan_leaves.ended export.conversions.durbizhan_leaves.clauses
 durbizhan-leaves w _ _ = ((tt, refl), λ _ _ _ _ _. one w (λ p q. (same p q, refl)))
 
 pub durbizhan-raw-one : (w : World) → TellsApart w export.conversions.durbizhan_raw_one.ended export.conversions.durbizhan_raw_one.clauses
-durbizhan-raw-one w _ _ = ((tt, refl), λ _ _ _ _ _. three w (λ p q. (same (p .0) (q .0), λ i. behind 4 (same (p .2) (q .2) i, (same (p .1) (q .1) i, tt)))))
+durbizhan-raw-one w _ _ = ((tt, refl), λ _ _ _ _ _. three w (λ p q. (same (p .0) (q .0), λ i. behind 5 (same (p .2) (q .2) i, (same (p .1) (q .1) i, tt)))))
 
 pub durbizhan-raw-two : (w : World) → TellsApart w export.conversions.durbizhan_raw_two.ended export.conversions.durbizhan_raw_two.clauses
-durbizhan-raw-two w _ _ = ((tt, refl), λ _ _ _ _ _. three w (λ p q. (same (p .0) (q .0), λ i. behind 5 (same (p .2) (q .2) i, (same (p .1) (q .1) i, tt)))))
+durbizhan-raw-two w _ _ = ((tt, refl), λ _ _ _ _ _. three w (λ p q. (same (p .0) (q .0), λ i. behind 6 (same (p .2) (q .2) i, (same (p .1) (q .1) i, tt)))))
 
 pub durbizhan-merged-one : (w : World) → TellsApart w export.conversions.durbizhan_merged_one.ended export.conversions.durbizhan_merged_one.clauses
-durbizhan-merged-one w _ _ = ((tt, refl), λ _ _ _ _ _. three w (λ p q. (same (p .0) (q .0), λ i. behind 4 (same (p .2) (q .2) i, (same (p .1) (q .1) i, tt)))))
+durbizhan-merged-one w _ _ = ((tt, refl), λ _ _ _ _ _. three w (λ p q. (same (p .0) (q .0), λ i. behind 5 (same (p .2) (q .2) i, (same (p .1) (q .1) i, tt)))))
 
 pub durbizhan-merged-two : (w : World) → TellsApart w export.conversions.durbizhan_merged_two.ended export.conversions.durbizhan_merged_two.clauses
-durbizhan-merged-two w _ _ = ((tt, refl), λ _ _ _ _ _. three w (λ p q. (same (p .0) (q .0), λ i. behind 5 (same (p .2) (q .2) i, (same (p .1) (q .1) i, tt)))))
+durbizhan-merged-two w _ _ = ((tt, refl), λ _ _ _ _ _. three w (λ p q. (same (p .0) (q .0), λ i. behind 6 (same (p .2) (q .2) i, (same (p .1) (q .1) i, tt)))))
 
 pub durbizhan-verdict : (w : World) → TellsApart w export.verdicts.durbizhan_verdict.ended export.verdicts.durbizhan_verdict.clauses
-durbizhan-verdict w _ _ = ((tt, refl), λ _ _ _ _ _. three w (λ p q. (same (p .0) (q .0), λ i. behind 7 (same (p .2) (q .2) i, (same (p .1) (q .1) i, tt)))))
+durbizhan-verdict w _ _ = ((tt, refl), λ _ _ _ _ _. three w (λ p q. (same (p .0) (q .0), λ i. behind 8 (same (p .2) (q .2) i, (same (p .1) (q .1) i, tt)))))
 
 pub durbizhan-numbers : (w : World) → TellsApart w export.verdicts.durbizhan_numbers.ended export.verdicts.durbizhan_numbers.clauses
-durbizhan-numbers w _ _ = ((tt, refl), λ _ _ _ _ _. two w (λ p q. (same (p .0) (q .0), λ i. behind 5 (same (p .1) (q .1) i, tt))))
+durbizhan-numbers w _ _ = ((tt, refl), λ _ _ _ _ _. two w (λ p q. (same (p .0) (q .0), λ i. behind 6 (same (p .1) (q .1) i, tt))))
 
 pub durbizhan-report : (w : World) → TellsApart w export.reports.durbizhan_report.ended export.reports.durbizhan_report.clauses
-durbizhan-report w _ _ = ((tt, refl), λ _ _ _ _ _. three w (λ p q. (same (p .0) (q .0), λ i. behind 5 (same (p .2) (q .2) i, (same (p .1) (q .1) i, tt)))))
+durbizhan-report w _ _ = ((tt, refl), λ _ _ _ _ _. three w (λ p q. (same (p .0) (q .0), λ i. behind 6 (same (p .2) (q .2) i, (same (p .1) (q .1) i, tt)))))
 
 pub durbizhan-scene : (w : World) → TellsApart w export.documents.durbizhan_scene.ended export.documents.durbizhan_scene.clauses
 durbizhan-scene w _ _ = (
@@ -50,19 +50,19 @@ pub durbizhan-shape-read : (w : World) → TellsApart w export.documents.durbizh
 durbizhan-shape-read w _ _ = ((tt, refl), λ _ _ _ _ _. three w (λ p q. (same (p .0) (q .0), λ i. behind 1 (same (p .2) (q .2) i, (same (p .1) (q .1) i, tt)))))
 
 pub durbizhan-shape-write : (w : World) → TellsApart w export.documents.durbizhan_shape_write.ended export.documents.durbizhan_shape_write.clauses
-durbizhan-shape-write w _ _ = ((tt, refl), λ _ _ _ _ _. three w (λ p q. (same (p .0) (q .0), λ i. behind 3 (same (p .2) (q .2) i, (same (p .1) (q .1) i, tt)))))
+durbizhan-shape-write w _ _ = ((tt, refl), λ _ _ _ _ _. three w (λ p q. (same (p .0) (q .0), λ i. behind 4 (same (p .2) (q .2) i, (same (p .1) (q .1) i, tt)))))
 
 pub durbizhan-well-formed : (w : World) → TellsApart w export.expressions.durbizhan_well_formed.ended export.expressions.durbizhan_well_formed.clauses
 durbizhan-well-formed w _ _ = ((tt, refl), λ _ _ _ _ _. one w (λ p q. (same p q, refl)))
 
 pub durbizhan-colour : (w : World) → TellsApart w export.expressions.durbizhan_colour.ended export.expressions.durbizhan_colour.clauses
-durbizhan-colour w _ _ = ((tt, refl), λ _ _ _ _ _. two w (λ p q. (same (p .0) (q .0), λ i. behind 7 (same (p .1) (q .1) i, tt))))
+durbizhan-colour w _ _ = ((tt, refl), λ _ _ _ _ _. two w (λ p q. (same (p .0) (q .0), λ i. behind 8 (same (p .1) (q .1) i, tt))))
 
 pub durbizhan-part : (w : World) → TellsApart w export.expressions.durbizhan_part.ended export.expressions.durbizhan_part.clauses
-durbizhan-part w _ _ = ((tt, refl), λ _ _ _ _ _. two w (λ p q. (same (p .0) (q .0), λ i. behind 4 (same (p .1) (q .1) i, tt))))
+durbizhan-part w _ _ = ((tt, refl), λ _ _ _ _ _. two w (λ p q. (same (p .0) (q .0), λ i. behind 5 (same (p .1) (q .1) i, tt))))
 
 pub durbizhan-merge : (w : World) → TellsApart w export.expressions.durbizhan_merge.ended export.expressions.durbizhan_merge.clauses
-durbizhan-merge w _ _ = ((tt, refl), λ _ _ _ _ _. three w (λ p q. (same (p .0) (q .0), λ i. behind 3 (same (p .2) (q .2) i, (same (p .1) (q .1) i, tt)))))
+durbizhan-merge w _ _ = ((tt, refl), λ _ _ _ _ _. three w (λ p q. (same (p .0) (q .0), λ i. behind 4 (same (p .2) (q .2) i, (same (p .1) (q .1) i, tt)))))
 
 pub durbizhan-box : (w : World) → TellsApart w export.proxies.durbizhan_box.ended export.proxies.durbizhan_box.clauses
 durbizhan-box w _ _ = ((tt, refl), λ _ _ _ _ _. two w (λ p q. (same (p .0) (q .0), λ i. behind 9 (same (p .1) (q .1) i, tt))))

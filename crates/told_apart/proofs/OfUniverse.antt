@@ -8,6 +8,9 @@ use Rattle.told_apart.proofs.Alike.{same, one}
 pub universe-refusal : (w : World) → TellsApart w universe.Universe.refusal.ended universe.Universe.refusal.clauses
 universe-refusal w _ _ = ((tt, refl), λ _ _ _ _ _. one w (λ p q. (same p q, refl)))
 
+pub universe-with-equal-bits : (w : World) → TellsApart w universe.Universe.with_equal_bits.ended universe.Universe.with_equal_bits.clauses
+universe-with-equal-bits w _ _ = ((tt, refl), λ _ _ _ _ _. one w (λ p q. (same p q, refl)))
+
 pub universe-window-refusal : (w : World) → TellsApart w universe.Universe.window_refusal.ended universe.Universe.window_refusal.clauses
 universe-window-refusal w _ _ = ((tt, refl), λ _ _ _ _ _. one w (λ p q. (same p q, refl)))
 

@@ -15,9 +15,9 @@ use mir.Val.{Fits}
 use Rattle.lemmas.proofs.Grid.{listed-length, listed-at, listed-same, listed-cong}
 use Rattle.universe.specs.declared.Universe.{Universe}
 use Rattle.universe.specs.Rounds.{round, rounds}
-use Rattle.universe.specs.Universe.{mostAxes, mostBits, mostLevels, universeRefusal, bitsAlong, levels, order, axisAt}
+use Rattle.universe.specs.Universe.{mostAxes, mostFrameBits, mostLevels, universeRefusal, bitsAlong, levels, order, axisAt}
 use Rattle.universe.specs.Questions.{levelsAnswer, axesLeft}
-use Rattle.universe.proofs.Orders.{laidBefore, Begins, rounds-begin, rounds-alike, order-long}
+use Rattle.universe.proofs.Orders.{round-behind, round-passed, laidBefore, Begins, rounds-begin, rounds-alike, order-long}
 use Rattle.universe.proofs.Universes.{accepted, bits-few, bits-within, levels-few}
 use Rattle.universe.proofs.Questions.{levels-refused, levels-told}
 use Rattle.universe.proofs.Blocks.{zero-low}
@@ -37,7 +37,7 @@ pub record Laying (u : Universe) (axes : List ℕ) (left r i : ℕ) : Type 0 whe
 
 -- the steps left until every axis has had the most rounds
 abbrev pub stepsLeft : ℕ → ℕ → ℕ
-stepsLeft r i = suc mostAxes * mostBits - (suc mostAxes * r + i)
+stepsLeft r i = suc mostAxes * mostFrameBits - (suc mostAxes * r + i)
 
 -- ---- what is laid, and the order
 
@@ -49,12 +49,11 @@ module _ (u : Universe) (r i : ℕ) where
       (rounds-begin (bitsAlong u) (u .axes) r i (levels u + suc r) h (omega arith))
 
   laid-here : r < bitsAlong u i → laidBefore (bitsAlong u) (u .axes) r (i + 1) ≡ laidBefore (bitsAlong u) (u .axes) r i ++ (i ∷ [])
-  unfolding round
-  laid-here h = rw (add-one i, lt-ltb r (bitsAlong u i) h) (sym (append-assoc (rounds (bitsAlong u) (u .axes) r) (round (bitsAlong u) r i) (i ∷ [])))
+  laid-here h =
+      rw (add-one i, round-behind (bitsAlong u) r i h) (sym (append-assoc (rounds (bitsAlong u) (u .axes) r) (round (bitsAlong u) r i) (i ∷ [])))
 
   laid-passed : bitsAlong u i ≤ r → laidCount u r (i + 1) ≡ laidCount u r i
-  unfolding round
-  laid-passed h = rw (add-one i, le-ltb r (bitsAlong u i) h, append-nil)
+  laid-passed h = rw (add-one i, round-passed (bitsAlong u) r i h)
 
   laid-round : laidCount u (r + 1) 0 ≡ laidCount u r (u .axes)
   unfolding rounds round
@@ -81,11 +80,11 @@ laying-first u e z f = record {
 
 module _ {u : Universe} {axes : List ℕ} {left r i : ℕ} (s : Laying u axes left r i) where
   -- all rounds lay all levels, so while one is left there is a round to come
-  pub rounds-left : 0 < left → r < mostBits
+  pub rounds-left : 0 < left → r < mostFrameBits
   unfolding levels
-  rounds-left h = go (decLt r mostBits)
+  rounds-left h = go (decLt r mostFrameBits)
     where
-      go : Dec (r < mostBits) → r < mostBits
+      go : Dec (r < mostFrameBits) → r < mostFrameBits
       go (yes k) = k
       go (no k) =
           let all = order-long (bitsAlong u) (u .axes) r (λ j l. omega (arith, bits-few u (accepted u (s .good)) j)) in
@@ -113,6 +112,9 @@ module _ {u : Universe} {axes : List ℕ} {left r i : ℕ} (s : Laying u axes le
     stands = s .stands;
     beyond = s .beyond;
   }
+
+  pub axis-there : (i ≡ u .axes → ⊥) → i < u .axes
+  axis-there n = omega (arith, s .axis-in)
 
   module _ (n : i ≡ u .axes → ⊥) {bits : ℕ} (e : bits ≡ bitsAlong u i) where
     pub laying-passed : bits ≤ r → Laying u axes left r (i + 1)
@@ -200,4 +202,4 @@ laying-refused u e n =
     ∙ listed-cong mostLevels _ _ (λ k h. rw (← levels-refused u e n, le-ltb k 0 (omega arith)))
 
 pub ruleset laying =
-    (needs, laying-first, laying-round, laying-all, laying-refused, round-fits, round-falls, axis-fits, axis-falls, some-left, place-few, place-fits)
+    (needs, laying-first, laying-round, laying-all, laying-refused, round-fits, round-falls, axis-there, axis-fits, axis-falls, some-left, place-few, place-fits)

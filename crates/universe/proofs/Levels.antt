@@ -18,7 +18,7 @@ use mir.Val.{Fits}
 use Rattle.lemmas.specs.Sums.{sum, product}
 use Rattle.lemmas.proofs.Sums.{top, product-cong, product-mono, product-positive, product-power}
 use Rattle.universe.specs.declared.Universe.{Universe}
-use Rattle.universe.specs.Universe.{mostAxes, mostBits, mostLevels, longestSide, universeRefusal, levels, axisAt, halvings, blocksAlong}
+use Rattle.universe.specs.Universe.{mostAxes, mostFrameBits, mostLevels, longestSide, universeRefusal, levels, axisAt, halvings, blocksAlong}
 use Rattle.universe.specs.Questions.{levelsAnswer, axesLeft}
 use Rattle.universe.specs.Room.{blocksAt, innerBlocksAt, levelCount, room, roomAnswer, FewBlocks}
 use Rattle.universe.proofs.Universes.{accepted, levels-few, bits-few, axis-below, halvings-most}
@@ -123,7 +123,7 @@ module _ {u : Universe} {leaves : ℕ} {axes blocks : List ℕ} {found left : �
   along-most : (i : ℕ) → i < u .axes → blocksAlong u level i ≤ longestSide
   unfolding blocksAlong
   along-most i h =
-      let halved : halvings u level i ≤ mostBits = omega (arith, halvings-most u level i h (omega arith), bits-few u (accepted u (s .good)) i) in
+      let halved : halvings u level i ≤ mostFrameBits = omega (arith, halvings-most u level i h (omega arith), bits-few u (accepted u (s .good)) i) in
       pow-mono halved
 
   pub blocks-few : FewBlocks (u .axes) blocks

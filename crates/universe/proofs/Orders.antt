@@ -3,7 +3,7 @@
 -- many there are.
 use mathlib.Core.Path.{_≡_, refl, sym, ap, ap₂, _∙_}
 use mathlib.Core.Bool.{Bool, true, false}
-use mathlib.Core.List.{List, [], _++_, append-nil, append-assoc}
+use mathlib.Core.List.{List, [], _∷_, _++_, append-nil, append-assoc}
 use Prim.Native.Nat.{ℕ, zero, suc, _+_, _≤_, _<_, min}
 use native.Mathlib.Omega.{arith}
 use native.Mathlib.Nat.{not-suc-le-zero, zero-min}
@@ -17,6 +17,16 @@ use Rattle.lemmas.specs.Lists.{occurrences, Below, none, more}
 use Rattle.lemmas.proofs.Sums.{sum-cong, below, top}
 use Rattle.lemmas.proofs.Lists.{occurrences-append, below-append, below-more, below-take, below-not, sum-occurrences}
 use Rattle.universe.specs.Rounds.{onlyIf, round, rounds}
+
+-- ---- an axis that has bits left comes behind those before it, and one that has none is passed over
+
+pub round-behind : (bits : ℕ → ℕ) (r i : ℕ) → r < bits i → round bits r (suc i) ≡ round bits r i ++ (i ∷ [])
+unfolding round
+round-behind bits r i h = rw (lt-ltb r (bits i) h)
+
+pub round-passed : (bits : ℕ → ℕ) (r i : ℕ) → bits i ≤ r → round bits r (suc i) ≡ round bits r i
+unfolding round
+round-passed bits r i h = rw (le-ltb r (bits i) h) (append-nil (round bits r i))
 
 -- ---- only axes below d
 

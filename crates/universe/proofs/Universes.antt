@@ -1,61 +1,97 @@
--- The universe: what acceptance gives, the order of its axes, how often each axis is halved, and how long and how many blocks are along it. Only
--- `bits-few` looks at how many bits an axis has. The order is that of Orders at these bits; halvings, a recursion over levels, are the occurrences in
--- the order so far; every other law follows from these, one halving at a time.
-use mathlib.Core.Path.{_≡_, refl, sym, ap, _∙_}
-use mathlib.Core.Bool.{Bool, true, _&&_}
+-- The universe: what acceptance gives, how many bits an axis has, the order of its axes, how often each axis is halved, and how long and how many blocks
+-- are along it. Only the laws of bits tell the frame axis from the others. The order is that of Orders at these bits; halvings, a recursion over levels,
+-- are the occurrences in the order so far; every other law follows from these, one halving at a time.
+use mathlib.Core.Path.{_≡_, refl, sym, ap, ap₂, _∙_}
+use mathlib.Core.Bool.{Bool, true, cond, _&&_}
 use mathlib.Core.List.{reverse}
 use Prim.Native.Nat.{ℕ, zero, suc, _+_, _-_, _*_, _^_, _≤_, _<_}
 use native.Mathlib.Omega.{arith}
 use native.Mathlib.Nat.{pow-succ', sub-self, sub-zero, le-refl, mul-le-mul}
 use native.Mathlib.Decide.{ℕ-discrete, decLt}
-use lib.Dec.{leb}
+use lib.Dec.{leb, eqb}
 use lib.ListN.{length, getD, take, List·getD-eq-default}
 use lib.Seq.{take-all}
 use lib.Pow.{pow-pos, pow-mono, pow-add}
 use borrow.Author.Tests.{leb-true, le-leb, eq-eqb, ne-eqb}
 use Rattle.lemmas.specs.Sums.{sum, product}
 use Rattle.lemmas.specs.Lists.{occurrences, Below}
-use Rattle.lemmas.proofs.Sums.{and-left, and-right, and-both, sum-cong, sum-mono, sum-same, sum-part, product-scaled, product-one}
+use Rattle.lemmas.proofs.Sums.{and-left, and-right, and-both, sum-cong, sum-same, sum-part, product-scaled, product-one}
 use Rattle.lemmas.proofs.Lists.{occurrences-next, below-at, reverse-at}
 use Rattle.universe.proofs.Refusing.{unless-holds, holds-unless}
 use Rattle.universe.proofs.Orders.{rounds-below, order-often, order-long, order-sum}
 use Rattle.universe.specs.declared.Universe.{Universe}
-use Rattle.universe.specs.Universe.{leastAxes, mostAxes, mostBits, mostLevels, longestSide, universeRefusal}
-use Rattle.universe.specs.Universe.{bitsAlong, sideAlong, levels, order, axisAt, halvings, blocksAlong, blockSide}
+use Rattle.universe.specs.Universe.{leastAxes, mostAxes, mostBits, mostFrameBits, mostBitsOf, mostLevels, longestSide, universeRefusal}
+use Rattle.universe.specs.Universe.{frameAxis, bitsAlong, sideAlong, levels, order, axisAt, halvings, blocksAlong, blockSide}
 
 -- ---- acceptance
 
 pub record Accepted (u : Universe) : Type 0 where
   pub some-axes : 1 ≤ u .axes
   pub few-axes : u .axes ≤ mostAxes
-  pub few-bits : u .bits ≤ mostBits
+  pub few-bits : u .bits ≤ mostBitsOf (u .axes)
+  pub few-frame-bits : u .«frame_bits» ≤ mostFrameBits
 
 pub accepted : (u : Universe) → universeRefusal u ≡ 0 → Accepted u
 unfolding universeRefusal
 accepted u e =
-    let axes : Bool = leb leastAxes (u .axes) && leb (u .axes) mostAxes in
-    let both : axes && leb (u .bits) mostBits ≡ true = unless-holds _ 2 (omega arith) e in
-    let few : axes ≡ true = and-left axes (leb (u .bits) mostBits) both in
+    let some : Bool = leb leastAxes (u .axes) in
+    let few : Bool = leb (u .axes) mostAxes in
+    let bits : Bool = leb (u .bits) (mostBitsOf (u .axes)) in
+    let frame-bits : Bool = leb (u .«frame_bits») mostFrameBits in
+    let all : some && few && bits && frame-bits ≡ true = unless-holds _ 2 (omega arith) e in
+    let three : some && few && bits ≡ true = and-left (some && few && bits) frame-bits all in
+    let two : some && few ≡ true = and-left (some && few) bits three in
     record {
-      some-axes = leb-true _ _ (and-left (leb leastAxes (u .axes)) (leb (u .axes) mostAxes) few);
-      few-axes = leb-true _ _ (and-right (leb leastAxes (u .axes)) (leb (u .axes) mostAxes) few);
-      few-bits = leb-true _ _ (and-right axes (leb (u .bits) mostBits) both);
+      some-axes = leb-true _ _ (and-left some few two);
+      few-axes = leb-true _ _ (and-right some few two);
+      few-bits = leb-true _ _ (and-right (some && few) bits three);
+      few-frame-bits = leb-true _ _ (and-right (some && few && bits) frame-bits all);
     }
 
 pub is-accepted : (u : Universe) → Accepted u → universeRefusal u ≡ 0
 unfolding universeRefusal
-is-accepted u a = holds-unless _ 2 (and-both (and-both (le-leb _ _ (a .some-axes)) (le-leb _ _ (a .few-axes))) (le-leb _ _ (a .few-bits)))
+is-accepted u a =
+    let two = and-both (le-leb _ _ (a .some-axes)) (le-leb _ _ (a .few-axes)) in
+    holds-unless _ 2 (and-both (and-both two (le-leb _ _ (a .few-bits))) (le-leb _ _ (a .few-frame-bits)))
+
+-- ---- the bits of an axis
+
+pub most-bits : (axes : ℕ) → mostBitsOf axes ≤ mostBits
+most-bits axes = go (ℕ-discrete axes 1)
+  where
+    go : Dec (axes ≡ 1) → mostBitsOf axes ≤ mostBits
+    go (yes e) = rw (eq-eqb axes 1 e) (omega arith)
+    go (no n) = rw (ne-eqb axes 1 n) (le-refl mostBits)
+
+pub frame-bits : (u : Universe) → bitsAlong u (frameAxis u) ≡ u .«frame_bits»
+unfolding bitsAlong
+frame-bits u = rw (eq-eqb (frameAxis u) (frameAxis u) refl)
+
+pub space-bits : (u : Universe) (i : ℕ) → i < frameAxis u → bitsAlong u i ≡ u .bits
+unfolding bitsAlong
+space-bits u i h = rw (ne-eqb i (frameAxis u) (λ e. omega arith))
 
 -- so few that machine numbers hold them
-pub bits-few : (u : Universe) → Accepted u → (i : ℕ) → bitsAlong u i ≤ mostBits
+pub bits-few : (u : Universe) → Accepted u → (i : ℕ) → bitsAlong u i ≤ mostFrameBits
 unfolding bitsAlong
-bits-few u a i = a .few-bits
+bits-few u a i = go (ℕ-discrete i (frameAxis u))
+  where
+    go : Dec (i ≡ frameAxis u) → cond (eqb i (frameAxis u)) (u .«frame_bits») (u .bits) ≤ mostFrameBits
+    go (yes e) = rw (eq-eqb i (frameAxis u) e) (a .few-frame-bits)
+    go (no n) = rw (ne-eqb i (frameAxis u) n) (omega (arith, a .few-bits, most-bits (u .axes)))
+
+-- rule 1.2: the bits of the axes but the last, and those of the last
+pub levels-sum : (u : Universe) → 0 < u .axes → levels u ≡ frameAxis u * u .bits + u .«frame_bits»
+unfolding levels sum
+levels-sum u h =
+    ap (λ n. sum n (bitsAlong u)) (let more : u .axes ≡ suc (frameAxis u) = omega arith in more)
+    ∙ ap₂ _+_ (sum-cong (frameAxis u) (bitsAlong u) (λ i. u .bits) (space-bits u) ∙ sum-same (frameAxis u) (u .bits)) (frame-bits u)
 
 pub levels-few : (u : Universe) → Accepted u → levels u ≤ mostLevels
-unfolding levels
 levels-few u a =
-    let most = sum-mono (u .axes) (bitsAlong u) (λ i. mostBits) (λ i h. bits-few u a i) in
-    omega (arith, most, sum-same (u .axes) mostBits, mul-le-mul (a .few-axes) (le-refl mostBits))
+    let few : frameAxis u ≤ mostAxes - 1 = omega (arith, a .few-axes) in
+    let bits : u .bits ≤ mostBits = omega (arith, a .few-bits, most-bits (u .axes)) in
+    omega (arith, levels-sum u (a .some-axes), mul-le-mul few bits, a .few-frame-bits)
 
 pub side-few : (u : Universe) → Accepted u → (i : ℕ) → sideAlong u i ≤ longestSide
 side-few u a i = pow-mono (bits-few u a i)

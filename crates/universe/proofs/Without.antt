@@ -1,42 +1,65 @@
 -- A universe with axis j left out: its axes have the bits that they had, so its order is that of the whole with j left out. Level l of the whole is then
 -- its level l less the halvings of j before l.
-use mathlib.Core.Path.{_≡_, refl, sym, ap, _∙_}
+use mathlib.Core.Path.{_≡_, sym, ap, _∙_}
+use mathlib.Core.Bool.{cond}
 use Prim.Native.Nat.{ℕ, suc, _+_, _-_, _≤_, _<_}
 use native.Mathlib.Omega.{arith}
 use native.Mathlib.Nat.{le-refl}
-use native.Mathlib.Decide.{decLt}
+use native.Mathlib.Decide.{ℕ-discrete, decLt}
+use lib.Dec.{leb}
 use lib.ListN.{length, take}
 use lib.Seq.{take-all}
-use borrow.Author.Tests.{lt-ltb, le-ltb}
+use borrow.Author.Tests.{ne-eqb, lt-ltb, le-ltb, le-leb, lt-leb}
 use Rattle.lemmas.specs.Lists.{occurrences}
 use Rattle.universe.specs.declared.Universe.{Universe}
 use Rattle.universe.specs.Rounds.{rounds, without, axisBefore, axisAfter}
-use Rattle.universe.specs.Universe.{universeRefusal, bitsAlong, levels, order, axisAt, halvings, withoutAxis}
+use Rattle.universe.specs.Universe.{mostBits, mostBitsOf, universeRefusal, frameAxis, bitsAlong, levels, order, axisAt, halvings, withoutAxis}
 use Rattle.universe.proofs.Orders.{rounds-cong, rounds-alike}
 use Rattle.universe.proofs.Leaving.{rounds-without, without-often, without-length, placeAfter, place-within, without-take, without-at}
-use Rattle.universe.proofs.Universes.{accepted, is-accepted, bits-within, order-length, halvings-often, halvings-all}
+use Rattle.universe.proofs.Universes.{accepted, is-accepted, most-bits, frame-bits, space-bits, bits-few, bits-within, order-length, halvings-often, halvings-all}
 
 module _ (u : Universe) (j : ℕ) (some : 2 ≤ u .axes) (there : j < u .axes) where
   pub without-accepted : universeRefusal u ≡ 0 → universeRefusal (withoutAxis u j) ≡ 0
   unfolding withoutAxis
   without-accepted e =
       let a = accepted u e in
-      is-accepted (withoutAxis u j) (record { some-axes = omega arith; few-axes = omega (arith, a .few-axes); few-bits = a .few-bits })
-
-  -- the bits of the axes that are left
-  pub bits-without : (i : ℕ) → i < u .axes - 1 → bitsAlong (withoutAxis u j) i ≡ bitsAlong u (axisBefore j i)
-  unfolding bitsAlong withoutAxis
-  bits-without i h = refl
-
-  before-below : (i : ℕ) → i < u .axes - 1 → axisBefore j i < u .axes
-  before-below i h = go (decLt i j)
+      is-accepted (withoutAxis u j)
+      (record {
+        some-axes = omega arith;
+        few-axes = omega (arith, a .few-axes);
+        few-bits = few (decLt 2 (u .axes));
+        few-frame-bits = bits-few u a (axisBefore j (u .axes - 2));
+      })
     where
-      go : Dec (i < j) → axisBefore j i < u .axes
+      few : Dec (2 < u .axes) → cond (leb (u .axes) 2) 0 (u .bits) ≤ mostBitsOf (u .axes - 1)
+      few (yes h) =
+          let bits : u .bits ≤ mostBits = omega (arith, accepted u e .few-bits, most-bits (u .axes)) in
+          rw (lt-leb (u .axes) 2 h, ne-eqb (u .axes - 1) 1 (λ z. omega arith)) bits
+      few (no n) = rw (le-leb (u .axes) 2 (omega arith)) (omega arith)
+
+  -- the axis that is i then is one of the axes, and no frame axis where i is none
+  before-below : (i n : ℕ) → i < n → axisBefore j i < suc n
+  before-below i n h = go (decLt i j)
+    where
+      go : Dec (i < j) → axisBefore j i < suc n
       go (yes l) = rw (lt-ltb i j l) (omega arith)
       go (no l) = rw (le-ltb i j (omega arith)) (omega arith)
 
+  -- the bits of the axes that are left
+  pub bits-without : (i : ℕ) → i < u .axes - 1 → bitsAlong (withoutAxis u j) i ≡ bitsAlong u (axisBefore j i)
+  unfolding withoutAxis
+  bits-without i h = go (ℕ-discrete i (u .axes - 2))
+    where
+      go : Dec (i ≡ u .axes - 2) → bitsAlong (withoutAxis u j) i ≡ bitsAlong u (axisBefore j i)
+      go (yes e) =
+          let last : u .axes - 2 ≡ frameAxis (withoutAxis u j) = omega arith in
+          ap (bitsAlong (withoutAxis u j)) (e ∙ last) ∙ frame-bits (withoutAxis u j) ∙ ap (λ n. bitsAlong u (axisBefore j n)) (sym e)
+      go (no n) =
+          space-bits (withoutAxis u j) i (omega arith)
+          ∙ rw (lt-leb (u .axes) 2 (omega arith)) (sym (space-bits u (axisBefore j i) (omega (arith, before-below i (u .axes - 2) (omega arith)))))
+
   few-left : (i : ℕ) → i < u .axes - 1 → bitsAlong (withoutAxis u j) i ≤ levels u
-  few-left i h = rw (bits-without i h) (bits-within u (axisBefore j i) (before-below i h))
+  few-left i h = rw (bits-without i h) (bits-within u (axisBefore j i) (omega (arith, before-below i (u .axes - 1) h)))
 
   pub order-without : without j (order u) ≡ order (withoutAxis u j)
   unfolding order withoutAxis

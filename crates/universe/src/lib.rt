@@ -8,14 +8,16 @@ ghost use mathlib.Core.Path.{_≡_};
 ghost use mathlib.Core.Bool.{_&&_};
 ghost use Prim.Native.Nat.{_≤_, _<_};
 ghost use lib.Dec.{ltb};
-ghost use Rattle.universe.specs.Universe.{universeRefusal, mostAxes, levels, blockSide};
+ghost use Rattle.universe.specs.Universe.{universeRefusal, mostAxes, mostBitsOf, levels, blockSide, equalBits};
 ghost use Rattle.universe.specs.Voxel.{windowRefusal};
 ghost use Rattle.universe.specs.Block.{wholeBlock, axisOf, placedAlong, isGiven, lowHalf, highHalf, bothHalves};
 
-// Axes and bits, any numbers: `refusal` says whether they are a universe's.
+// Axes, the bits of each but the last, and those of the last, which counts frames: any numbers; `refusal` says whether
+// they are a universe's.
 pub struct Universe {
     pub axes: u64,
     pub bits: u64,
+    pub frame_bits: u64,
 }
 
 // A block: its universe, how many halvings gave it, and its least place along each axis.
@@ -37,20 +39,33 @@ impl Universe {
 
     pub const MOST_AXES: u64 = 4;
 
-    // None to ten bits (rule 1.1).
+    // None to ten bits, and none to twelve frame bits (rule 1.1).
     pub const MOST_BITS: u64 = 10;
 
-    // So no universe has more levels, and none a longer side.
-    pub const MOST_LEVELS: u64 = Universe::MOST_AXES * Universe::MOST_BITS;
+    pub const MOST_FRAME_BITS: u64 = 12;
 
-    pub const LONGEST_SIDE: u64 = 1 << Universe::MOST_BITS;
+    // So no universe has more levels, and none a longer side.
+    pub const MOST_LEVELS: u64 = (Universe::MOST_AXES - 1) * Universe::MOST_BITS
+        + Universe::MOST_FRAME_BITS;
+
+    pub const LONGEST_SIDE: u64 = 1 << Universe::MOST_FRAME_BITS;
 
     // The size of a0 at the most, and that of the other coefficients (rule 2.1).
     pub const OFFSET_LIMIT: i64 = 1_099_511_627_776;
 
     pub const COEFFICIENT_LIMIT: i64 = 16_777_216;
 
-    // 2 where axes or bits are outside their range, else 0.
+    // The bits that so many axes may have.
+    fn most_bits_of(axes: u64) -> u64
+        ensures { λ r. ⌜ r ≡ mostBitsOf axes ⌝ }
+    {
+        if axes == 1 {
+            return 0;
+        }
+        Universe::MOST_BITS
+    }
+
+    // 2 where axes, bits or frame bits are outside their range, else 0. One axis has frame bits alone.
     pub fn refusal(self) -> u64
         ensures { λ r. ⌜ r ≡ universeRefusal self ⌝ }
     {
@@ -60,17 +75,35 @@ impl Universe {
         if Universe::MOST_AXES < self.axes {
             return refusals::BAD_UNIVERSE;
         }
-        if Universe::MOST_BITS < self.bits {
+        if Universe::most_bits_of(self.axes) < self.bits {
+            return refusals::BAD_UNIVERSE;
+        }
+        if Universe::MOST_FRAME_BITS < self.frame_bits {
             return refusals::BAD_UNIVERSE;
         }
         0
+    }
+
+    // The universe of so many axes with so many bits each: one axis has them as frame bits.
+    pub fn with_equal_bits(axes: u64, bits: u64) -> Universe
+        ensures { λ r. ⌜ r ≡ equalBits axes bits ⌝ }
+    {
+        let mut space = bits;
+        if axes == 1 && bits <= Universe::MOST_BITS {
+            space = 0;
+        }
+        Universe {
+            axes: axes,
+            bits: space,
+            frame_bits: bits,
+        }
     }
 
     // 9 where a window of frames is outside the universe or first > last, else 0; both ends are in.
     pub fn window_refusal(self, first: u64, last: u64) -> u64
         ensures { λ r. ⌜ r ≡ windowRefusal self first last ⌝ }
     {
-        let bits = self.frame_bits();
+        let bits = self.frame_bits;
         if last < first {
             return refusals::OUTSIDE;
         }

@@ -1,25 +1,20 @@
 // The universe's shape, asked: how many levels, how long a side is, the axis of each level, the voxels of a block.
 use crate::Universe;
 ghost use mathlib.Core.Path.{_≡_};
-ghost use Rattle.universe.specs.Universe.{bitsAlong, frameAxis};
+ghost use Prim.Native.Nat.{_<_};
+ghost use Rattle.universe.specs.Universe.{bitsAlong};
 ghost use Rattle.universe.specs.Questions.{levelsAnswer, bitsAnswer, sideAnswer, axesLeft, voxelsLeft};
 
 impl Universe {
-    // The bits of an axis: no other code says how many an axis has.
-    pub(crate) fn axis_bits(self, _axis: u64) -> u64
-        ensures { λ r. ⌜ r ≡ bitsAlong self «_axis» ⌝ }
+    // The bits of an axis, below the universe's axes: no other code says how many an axis has.
+    pub(crate) fn axis_bits(self, axis: u64) -> u64
+        requires { ⌜ axis < self .axes ⌝ }
+        ensures { λ r. ⌜ r ≡ bitsAlong self axis ⌝ }
     {
-        self.bits
-    }
-
-    // The bits of the frame axis, the last one.
-    pub(crate) fn frame_bits(self) -> u64
-        ensures { λ r. ⌜ r ≡ bitsAlong self (frameAxis self) ⌝ }
-    {
-        if self.axes == 0 {
-            return self.axis_bits(0);
+        if axis == self.axes - 1 {
+            return self.frame_bits;
         }
-        self.axis_bits(self.axes - 1)
+        self.bits
     }
 
     // How many levels of halving there are; 0 where the universe is refused.

@@ -1,12 +1,16 @@
-// The universe asked through the entry points: a line for each answer to its questions, for each block with its halves,
-// and for room.
+// The universe asked through the entry points: a line for each answer to its questions, for each block with its halves, and
+// for room.
 use libc::STDOUT_FILENO;
 use universe::Block;
 use universe::Universe;
 
-// d 2, k 2.
+// d 2, k 2, f 2.
 fn square() -> Universe {
-    Universe { axes: 2, bits: 2 }
+    Universe {
+        axes: 2,
+        bits: 2,
+        frame_bits: 2,
+    }
 }
 
 fn say(text: &[u8]) {
@@ -18,10 +22,11 @@ fn number(n: u64) {
 }
 
 // Room for so many leaves.
-fn room_for(axes: u64, bits: u64, leaves: u64) {
+fn room_for(axes: u64, bits: u64, frame_bits: u64, leaves: u64) {
     let answer = Universe {
         axes: axes,
         bits: bits,
+        frame_bits: frame_bits,
     }.room(leaves);
     say(b"room ");
     number(answer.refusal);
@@ -38,14 +43,11 @@ fn next_number(n: u64) {
 
 // What a universe answers: its levels, the bits and the length of three axes, and the axes of the last five levels, the
 // last first.
-fn shape_of(axes: u64, bits: u64) {
-    let universe = Universe {
-        axes: axes,
-        bits: bits,
-    };
+fn shape_of(universe: Universe) {
     say(b"universe");
-    next_number(axes);
-    next_number(bits);
+    next_number(universe.axes);
+    next_number(universe.bits);
+    next_number(universe.frame_bits);
     say(b" levels");
     next_number(universe.levels());
     say(b" bits");
@@ -66,15 +68,37 @@ fn shape_of(axes: u64, bits: u64) {
     say(b"\n");
 }
 
-// Universes that are taken and that are refused, and the voxels of blocks.
+// Universes with frame bits of their own.
+fn of(axes: u64, bits: u64, frame_bits: u64) {
+    shape_of(Universe {
+        axes: axes,
+        bits: bits,
+        frame_bits: frame_bits,
+    });
+}
+
+// Universes that are taken and that are refused, with equal bits and with frame bits of their own; and the voxels of
+// blocks.
 fn shapes() {
-    shape_of(2, 2);
-    shape_of(3, 1);
-    shape_of(4, 10);
-    shape_of(1, 0);
-    shape_of(5, 2);
-    shape_of(2, 11);
-    shape_of(0, 2);
+    of(2, 2, 2);
+    of(3, 1, 1);
+    of(4, 10, 10);
+    of(1, 0, 0);
+    of(5, 2, 2);
+    of(2, 11, 11);
+    of(0, 2, 2);
+    of(4, 10, 12);
+    of(2, 0, 3);
+    of(3, 2, 0);
+    of(3, 1, 2);
+    of(2, 2, 3);
+    of(1, 0, 12);
+    of(1, 1, 1);
+    of(2, 2, 13);
+    shape_of(Universe::with_equal_bits(2, 2));
+    shape_of(Universe::with_equal_bits(1, 10));
+    shape_of(Universe::with_equal_bits(1, 11));
+    shape_of(Universe::with_equal_bits(2, 11));
     say(b"voxels left");
     next_number(Universe::voxels_left(0));
     next_number(Universe::voxels_left(4));
@@ -135,10 +159,17 @@ fn blocks() {
     halves_of(fourth);
     halves_of(fourth.high_half());
     halves_of(whole.low_half());
-    let cube = Universe::whole(Universe { axes: 3, bits: 1 });
+    let cube = Universe::whole(Universe::with_equal_bits(3, 1));
     halves_of(cube.high_half().high_half());
-    halves_of(Universe::whole(Universe { axes: 4, bits: 10 }));
-    halves_of(Universe::whole(Universe { axes: 5, bits: 2 }));
+    halves_of(Universe::whole(Universe::with_equal_bits(4, 10)));
+    halves_of(Universe::whole(Universe::with_equal_bits(5, 2)));
+    let long = Universe::whole(Universe {
+        axes: 2,
+        bits: 0,
+        frame_bits: 2,
+    });
+    halves_of(long);
+    halves_of(long.high_half());
     ungiven(1, [1, 0, 0, 0]);
     ungiven(1, [0, 2, 0, 0]);
     ungiven(2, [4, 0, 0, 0]);
@@ -148,15 +179,22 @@ fn blocks() {
 
 // Room at both sides of what is refused, and for the most leaves.
 fn rooms() {
-    room_for(2, 2, 1);
-    room_for(2, 2, 2);
-    room_for(2, 1, 1);
-    room_for(4, 10, 0);
-    room_for(4, 0, 9);
-    room_for(4, 10, 18_446_744_073_709_551_615);
-    room_for(5, 10, 1);
-    room_for(4, 11, 1);
-    room_for(0, 0, 1);
+    room_for(2, 2, 2, 1);
+    room_for(2, 2, 2, 2);
+    room_for(2, 1, 1, 1);
+    room_for(4, 10, 10, 0);
+    room_for(4, 0, 0, 9);
+    room_for(4, 10, 10, 18_446_744_073_709_551_615);
+    room_for(5, 10, 10, 1);
+    room_for(4, 11, 11, 1);
+    room_for(0, 0, 0, 1);
+    room_for(4, 10, 12, 18_446_744_073_709_551_615);
+    room_for(4, 10, 13, 1);
+    room_for(2, 0, 2, 1);
+    room_for(3, 1, 2, 1);
+    room_for(3, 2, 1, 1);
+    room_for(1, 0, 12, 1);
+    room_for(1, 1, 1, 1);
 }
 
 fn main() {

@@ -4,61 +4,65 @@
 
 mod c {
     extern "C" {
-        pub fn durbizhan_room(axes: u64, bits: u64, leaves: u64, answer: *mut [u64; 1]) -> u64;
+        pub fn durbizhan_room(axes: u64, bits: u64, frame_bits: u64, leaves: u64, answer: *mut [u64; 1]) -> u64;
         pub fn durbizhan_leaves(words: *const u16, words_count: usize) -> u64;
         pub fn durbizhan_raw_one(
-            axes: u64, bits: u64, rows: *const i64, rows_count: usize, words: *const u16, words_count: usize,
-            out: *mut u8, out_count: usize, answer: *mut [u64; 1],
+            axes: u64, bits: u64, frame_bits: u64, rows: *const i64, rows_count: usize, words: *const u16,
+            words_count: usize, out: *mut u8, out_count: usize, answer: *mut [u64; 1],
         ) -> u64;
         pub fn durbizhan_raw_two(
-            axes: u64, bits: u64, rows: *const i64, rows_count: usize, first: *const u16, first_count: usize,
-            second: *const u16, second_count: usize, out: *mut u8, out_count: usize, answer: *mut [u64; 1],
-        ) -> u64;
-        pub fn durbizhan_merged_one(
-            axes: u64, bits: u64, rows: *const i64, rows_count: usize, words: *const u16, words_count: usize,
-            out: *mut u8, out_count: usize, answer: *mut [u64; 1],
-        ) -> u64;
-        pub fn durbizhan_merged_two(
-            axes: u64, bits: u64, rows: *const i64, rows_count: usize, first: *const u16, first_count: usize,
-            second: *const u16, second_count: usize, out: *mut u8, out_count: usize, answer: *mut [u64; 1],
-        ) -> u64;
-        pub fn durbizhan_verdict(
-            axes: u64, bits: u64, rows: *const i64, rows_count: usize, first: *const u16, first_count: usize,
-            second: *const u16, second_count: usize, first_frame: u64, last_frame: u64, out: *mut u8,
-            out_count: usize, answer: *mut [u64; 5],
-        ) -> u64;
-        pub fn durbizhan_well_formed(axes: u64, bits: u64, expression: *const u8, expression_count: usize) -> u64;
-        pub fn durbizhan_numbers(
-            axes: u64, bits: u64, expression: *const u8, expression_count: usize, first_frame: u64, last_frame: u64,
-            answer: *mut [u64; 5],
-        ) -> u64;
-        pub fn durbizhan_report(
-            axes: u64, bits: u64, expressions: *const u8, expressions_count: usize, first_frame: u64, last_frame: u64,
-            counts: *mut u64, counts_count: usize, answer: *mut [u64; 2],
-        ) -> u64;
-        pub fn durbizhan_colour(
-            axes: u64, bits: u64, expression: *const u8, expression_count: usize, x: u64, y: u64, z: u64, t: u64,
+            axes: u64, bits: u64, frame_bits: u64, rows: *const i64, rows_count: usize, first: *const u16,
+            first_count: usize, second: *const u16, second_count: usize, out: *mut u8, out_count: usize,
             answer: *mut [u64; 1],
         ) -> u64;
+        pub fn durbizhan_merged_one(
+            axes: u64, bits: u64, frame_bits: u64, rows: *const i64, rows_count: usize, words: *const u16,
+            words_count: usize, out: *mut u8, out_count: usize, answer: *mut [u64; 1],
+        ) -> u64;
+        pub fn durbizhan_merged_two(
+            axes: u64, bits: u64, frame_bits: u64, rows: *const i64, rows_count: usize, first: *const u16,
+            first_count: usize, second: *const u16, second_count: usize, out: *mut u8, out_count: usize,
+            answer: *mut [u64; 1],
+        ) -> u64;
+        pub fn durbizhan_verdict(
+            axes: u64, bits: u64, frame_bits: u64, rows: *const i64, rows_count: usize, first: *const u16,
+            first_count: usize, second: *const u16, second_count: usize, first_frame: u64, last_frame: u64,
+            out: *mut u8, out_count: usize, answer: *mut [u64; 5],
+        ) -> u64;
+        pub fn durbizhan_well_formed(
+            axes: u64, bits: u64, frame_bits: u64, expression: *const u8, expression_count: usize,
+        ) -> u64;
+        pub fn durbizhan_numbers(
+            axes: u64, bits: u64, frame_bits: u64, expression: *const u8, expression_count: usize, first_frame: u64,
+            last_frame: u64, answer: *mut [u64; 5],
+        ) -> u64;
+        pub fn durbizhan_report(
+            axes: u64, bits: u64, frame_bits: u64, expressions: *const u8, expressions_count: usize, first_frame: u64,
+            last_frame: u64, counts: *mut u64, counts_count: usize, answer: *mut [u64; 2],
+        ) -> u64;
+        pub fn durbizhan_colour(
+            axes: u64, bits: u64, frame_bits: u64, expression: *const u8, expression_count: usize, x: u64, y: u64,
+            z: u64, t: u64, answer: *mut [u64; 1],
+        ) -> u64;
         pub fn durbizhan_part(
-            axes: u64, bits: u64, expression: *const u8, expression_count: usize, path: *const u8,
+            axes: u64, bits: u64, frame_bits: u64, expression: *const u8, expression_count: usize, path: *const u8,
             path_count: usize, answer: *mut [u64; 2],
         ) -> u64;
         pub fn durbizhan_merge(
-            axes: u64, bits: u64, expression: *const u8, expression_count: usize, out: *mut u8, out_count: usize,
-            answer: *mut [u64; 2],
+            axes: u64, bits: u64, frame_bits: u64, expression: *const u8, expression_count: usize, out: *mut u8,
+            out_count: usize, answer: *mut [u64; 2],
         ) -> u64;
         pub fn durbizhan_scene(
             bytes: *const u8, bytes_count: usize, rows: *mut [i64; 1280], first: *mut [u16; 255],
-            second: *mut [u16; 255], answer: *mut [u64; 7],
+            second: *mut [u16; 255], answer: *mut [u64; 9],
         ) -> u64;
         pub fn durbizhan_lines(scene: *const u8, scene_count: usize, out: *mut [u8; 256]) -> u64;
         pub fn durbizhan_shape_read(
-            bytes: *const u8, bytes_count: usize, out: *mut u8, out_count: usize, answer: *mut [u64; 3],
+            bytes: *const u8, bytes_count: usize, out: *mut u8, out_count: usize, answer: *mut [u64; 4],
         ) -> u64;
         pub fn durbizhan_shape_write(
-            axes: u64, bits: u64, expression: *const u8, expression_count: usize, out: *mut u8, out_count: usize,
-            answer: *mut [u64; 1],
+            axes: u64, bits: u64, frame_bits: u64, expression: *const u8, expression_count: usize, out: *mut u8,
+            out_count: usize, answer: *mut [u64; 1],
         ) -> u64;
         pub fn durbizhan_box(
             near_x: f64, near_y: f64, near_z: f64, far_x: f64, far_y: f64, far_z: f64, displacement_x: f64,
@@ -74,116 +78,127 @@ mod c {
 // SAFETY, for every wrapper below: each pointer comes from a Rust reference together with its own length, lent
 // buffers are unique for the call, and the library keeps none of them.
 
-pub fn room(axes: u64, bits: u64, leaves: u64, answer: &mut [u64; 1]) -> u64 {
-    unsafe { c::durbizhan_room(axes, bits, leaves, answer) }
+pub fn room(axes: u64, bits: u64, frame_bits: u64, leaves: u64, answer: &mut [u64; 1]) -> u64 {
+    unsafe { c::durbizhan_room(axes, bits, frame_bits, leaves, answer) }
 }
 
 pub fn leaves(words: &[u16]) -> u64 {
     unsafe { c::durbizhan_leaves(words.as_ptr(), words.len()) }
 }
 
-pub fn raw_one(axes: u64, bits: u64, rows: &[i64], words: &[u16], out: &mut [u8], answer: &mut [u64; 1]) -> u64 {
+pub fn raw_one(
+    axes: u64, bits: u64, frame_bits: u64, rows: &[i64], words: &[u16], out: &mut [u8], answer: &mut [u64; 1],
+) -> u64 {
     unsafe {
         c::durbizhan_raw_one(
-            axes, bits, rows.as_ptr(), rows.len(), words.as_ptr(), words.len(), out.as_mut_ptr(), out.len(),
+            axes, bits, frame_bits, rows.as_ptr(), rows.len(), words.as_ptr(), words.len(), out.as_mut_ptr(), out.len(),
             answer,
         )
     }
 }
 
+#[allow(clippy::too_many_arguments)]
 pub fn raw_two(
-    axes: u64, bits: u64, rows: &[i64], first: &[u16], second: &[u16], out: &mut [u8], answer: &mut [u64; 1],
+    axes: u64, bits: u64, frame_bits: u64, rows: &[i64], first: &[u16], second: &[u16], out: &mut [u8],
+    answer: &mut [u64; 1],
 ) -> u64 {
     unsafe {
         c::durbizhan_raw_two(
-            axes, bits, rows.as_ptr(), rows.len(), first.as_ptr(), first.len(), second.as_ptr(), second.len(),
-            out.as_mut_ptr(), out.len(), answer,
+            axes, bits, frame_bits, rows.as_ptr(), rows.len(), first.as_ptr(), first.len(), second.as_ptr(),
+            second.len(), out.as_mut_ptr(), out.len(), answer,
         )
     }
 }
 
-pub fn merged_one(axes: u64, bits: u64, rows: &[i64], words: &[u16], out: &mut [u8], answer: &mut [u64; 1]) -> u64 {
+pub fn merged_one(
+    axes: u64, bits: u64, frame_bits: u64, rows: &[i64], words: &[u16], out: &mut [u8], answer: &mut [u64; 1],
+) -> u64 {
     unsafe {
         c::durbizhan_merged_one(
-            axes, bits, rows.as_ptr(), rows.len(), words.as_ptr(), words.len(), out.as_mut_ptr(), out.len(),
+            axes, bits, frame_bits, rows.as_ptr(), rows.len(), words.as_ptr(), words.len(), out.as_mut_ptr(), out.len(),
             answer,
         )
     }
 }
 
+#[allow(clippy::too_many_arguments)]
 pub fn merged_two(
-    axes: u64, bits: u64, rows: &[i64], first: &[u16], second: &[u16], out: &mut [u8], answer: &mut [u64; 1],
+    axes: u64, bits: u64, frame_bits: u64, rows: &[i64], first: &[u16], second: &[u16], out: &mut [u8],
+    answer: &mut [u64; 1],
 ) -> u64 {
     unsafe {
         c::durbizhan_merged_two(
-            axes, bits, rows.as_ptr(), rows.len(), first.as_ptr(), first.len(), second.as_ptr(), second.len(),
-            out.as_mut_ptr(), out.len(), answer,
+            axes, bits, frame_bits, rows.as_ptr(), rows.len(), first.as_ptr(), first.len(), second.as_ptr(),
+            second.len(), out.as_mut_ptr(), out.len(), answer,
         )
     }
 }
 
 #[allow(clippy::too_many_arguments)]
 pub fn verdict(
-    axes: u64, bits: u64, rows: &[i64], first: &[u16], second: &[u16], first_frame: u64, last_frame: u64,
-    out: &mut [u8], answer: &mut [u64; 5],
+    axes: u64, bits: u64, frame_bits: u64, rows: &[i64], first: &[u16], second: &[u16], first_frame: u64,
+    last_frame: u64, out: &mut [u8], answer: &mut [u64; 5],
 ) -> u64 {
     unsafe {
         c::durbizhan_verdict(
-            axes, bits, rows.as_ptr(), rows.len(), first.as_ptr(), first.len(), second.as_ptr(), second.len(),
-            first_frame, last_frame, out.as_mut_ptr(), out.len(), answer,
+            axes, bits, frame_bits, rows.as_ptr(), rows.len(), first.as_ptr(), first.len(), second.as_ptr(),
+            second.len(), first_frame, last_frame, out.as_mut_ptr(), out.len(), answer,
         )
     }
 }
 
-pub fn well_formed(axes: u64, bits: u64, expression: &[u8]) -> u64 {
-    unsafe { c::durbizhan_well_formed(axes, bits, expression.as_ptr(), expression.len()) }
+pub fn well_formed(axes: u64, bits: u64, frame_bits: u64, expression: &[u8]) -> u64 {
+    unsafe { c::durbizhan_well_formed(axes, bits, frame_bits, expression.as_ptr(), expression.len()) }
 }
 
 pub fn numbers(
-    axes: u64, bits: u64, expression: &[u8], first_frame: u64, last_frame: u64, answer: &mut [u64; 5],
+    axes: u64, bits: u64, frame_bits: u64, expression: &[u8], first_frame: u64, last_frame: u64, answer: &mut [u64; 5],
 ) -> u64 {
     unsafe {
         c::durbizhan_numbers(
-            axes, bits, expression.as_ptr(), expression.len(), first_frame, last_frame, answer,
+            axes, bits, frame_bits, expression.as_ptr(), expression.len(), first_frame, last_frame, answer,
         )
     }
 }
 
+#[allow(clippy::too_many_arguments)]
 pub fn report(
-    axes: u64, bits: u64, expressions: &[u8], first_frame: u64, last_frame: u64, counts: &mut [u64],
+    axes: u64, bits: u64, frame_bits: u64, expressions: &[u8], first_frame: u64, last_frame: u64, counts: &mut [u64],
     answer: &mut [u64; 2],
 ) -> u64 {
     unsafe {
         c::durbizhan_report(
-            axes, bits, expressions.as_ptr(), expressions.len(), first_frame, last_frame, counts.as_mut_ptr(),
-            counts.len(), answer,
+            axes, bits, frame_bits, expressions.as_ptr(), expressions.len(), first_frame, last_frame,
+            counts.as_mut_ptr(), counts.len(), answer,
         )
     }
 }
 
 #[allow(clippy::too_many_arguments)]
 pub fn colour(
-    axes: u64, bits: u64, expression: &[u8], x: u64, y: u64, z: u64, t: u64, answer: &mut [u64; 1],
+    axes: u64, bits: u64, frame_bits: u64, expression: &[u8], x: u64, y: u64, z: u64, t: u64, answer: &mut [u64; 1],
 ) -> u64 {
-    unsafe { c::durbizhan_colour(axes, bits, expression.as_ptr(), expression.len(), x, y, z, t, answer) }
+    unsafe { c::durbizhan_colour(axes, bits, frame_bits, expression.as_ptr(), expression.len(), x, y, z, t, answer) }
 }
 
-pub fn part(axes: u64, bits: u64, expression: &[u8], path: &[u8], answer: &mut [u64; 2]) -> u64 {
+pub fn part(axes: u64, bits: u64, frame_bits: u64, expression: &[u8], path: &[u8], answer: &mut [u64; 2]) -> u64 {
     unsafe {
-        c::durbizhan_part(axes, bits, expression.as_ptr(), expression.len(), path.as_ptr(), path.len(), answer)
+        c::durbizhan_part(
+            axes, bits, frame_bits, expression.as_ptr(), expression.len(), path.as_ptr(), path.len(), answer,
+        )
     }
 }
 
-pub fn merge(axes: u64, bits: u64, expression: &[u8], out: &mut [u8], answer: &mut [u64; 2]) -> u64 {
+pub fn merge(axes: u64, bits: u64, frame_bits: u64, expression: &[u8], out: &mut [u8], answer: &mut [u64; 2]) -> u64 {
     unsafe {
         c::durbizhan_merge(
-            axes, bits, expression.as_ptr(), expression.len(), out.as_mut_ptr(), out.len(), answer,
+            axes, bits, frame_bits, expression.as_ptr(), expression.len(), out.as_mut_ptr(), out.len(), answer,
         )
     }
 }
 
 pub fn scene(
-    bytes: &[u8], rows: &mut [i64; 1280], first: &mut [u16; 255], second: &mut [u16; 255], answer: &mut [u64; 7],
+    bytes: &[u8], rows: &mut [i64; 1280], first: &mut [u16; 255], second: &mut [u16; 255], answer: &mut [u64; 9],
 ) -> u64 {
     unsafe { c::durbizhan_scene(bytes.as_ptr(), bytes.len(), rows, first, second, answer) }
 }
@@ -192,14 +207,16 @@ pub fn lines(scene: &[u8], out: &mut [u8; 256]) -> u64 {
     unsafe { c::durbizhan_lines(scene.as_ptr(), scene.len(), out) }
 }
 
-pub fn shape_read(bytes: &[u8], out: &mut [u8], answer: &mut [u64; 3]) -> u64 {
+pub fn shape_read(bytes: &[u8], out: &mut [u8], answer: &mut [u64; 4]) -> u64 {
     unsafe { c::durbizhan_shape_read(bytes.as_ptr(), bytes.len(), out.as_mut_ptr(), out.len(), answer) }
 }
 
-pub fn shape_write(axes: u64, bits: u64, expression: &[u8], out: &mut [u8], answer: &mut [u64; 1]) -> u64 {
+pub fn shape_write(
+    axes: u64, bits: u64, frame_bits: u64, expression: &[u8], out: &mut [u8], answer: &mut [u64; 1],
+) -> u64 {
     unsafe {
         c::durbizhan_shape_write(
-            axes, bits, expression.as_ptr(), expression.len(), out.as_mut_ptr(), out.len(), answer,
+            axes, bits, frame_bits, expression.as_ptr(), expression.len(), out.as_mut_ptr(), out.len(), answer,
         )
     }
 }

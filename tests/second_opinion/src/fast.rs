@@ -128,11 +128,12 @@ trait Sink<const D: usize> {
     fn length(&self) -> usize;
 }
 
+/// Examines a block, whose levels to come halve the axes in this order.
 fn examine<const D: usize, S: Sink<D>>(
-    words: &[Word], low: [i64; D], size: [i64; D], left: u32, axis: usize, sink: &mut S,
+    words: &[Word], low: [i64; D], size: [i64; D], order: &[usize], sink: &mut S,
 ) -> bool {
     let mut mark = mark_over(words, &low, &size);
-    if mark == 0 && left == 0 {
+    if mark == 0 && order.is_empty() {
         mark = mark_at_centre(words, &low);
     }
     if mark != 0 {
@@ -143,11 +144,11 @@ fn examine<const D: usize, S: Sink<D>>(
     if !sink.halved() {
         return false;
     }
-    let next = if axis + 1 == D { 0 } else { axis + 1 };
+    let (axis, later) = (order[0], &order[1..]);
     let (mut half, mut high) = (size, low);
     half[axis] /= 2;
     high[axis] += half[axis];
-    if !examine(words, low, half, left - 1, next, sink) || !examine(words, high, half, left - 1, next, sink) {
+    if !examine(words, low, half, later, sink) || !examine(words, high, half, later, sink) {
         return false;
     }
     sink.closed(begun);
@@ -265,8 +266,8 @@ impl<const D: usize> Sink<D> for Judging {
 
 impl Run {
     /// Checks and makes ready. The refusals are those of the conversions.
-    pub fn checked(axes: u64, bits: u64, rows: &[i64], trees: &[&[u16]]) -> Answer<Run> {
-        let (universe, read) = run_checked(axes, bits, rows, trees)?;
+    pub fn checked(axes: u64, bits: u64, frame_bits: u64, rows: &[i64], trees: &[&[u16]]) -> Answer<Run> {
+        let (universe, read) = run_checked(axes, bits, frame_bits, rows, trees)?;
         let mut words = Vec::new();
         for tree in &read {
             flatten(tree, &mut words);
@@ -288,13 +289,17 @@ impl Run {
     }
 
     fn go<S: Sink<1> + Sink<2> + Sink<3> + Sink<4>>(&self, sink: &mut S) -> bool {
-        let (words, side, left) = (&self.words[..], self.universe.side(), self.universe.levels() as u32);
         match self.universe.axes {
-            1 => examine(words, [0; 1], [side; 1], left, 0, sink),
-            2 => examine(words, [0; 2], [side; 2], left, 0, sink),
-            3 => examine(words, [0; 3], [side; 3], left, 0, sink),
-            _ => examine(words, [0; 4], [side; 4], left, 0, sink),
+            1 => self.go_along::<1, S>(sink),
+            2 => self.go_along::<2, S>(sink),
+            3 => self.go_along::<3, S>(sink),
+            _ => self.go_along::<4, S>(sink),
         }
+    }
+
+    fn go_along<const D: usize, S: Sink<D>>(&self, sink: &mut S) -> bool {
+        let sides = std::array::from_fn(|axis| self.universe.side(axis));
+        examine::<D, S>(&self.words, [0; D], sides, self.universe.order(), sink)
     }
 
     /// The number of blocks examined, if it is at most `most`.
@@ -350,13 +355,17 @@ pub fn plain_verdict_fast(run: &Run, first: u64, last: u64, out: &mut [u8]) -> R
 }
 
 /// The volume of an expression with its verdict: volume, hit, first frame, last frame, voxels; or nothing where it is
-/// not well-formed. The window must be one that is taken.
-pub fn plain_numbers_fast(axes: u64, bits: u64, expression: &[u8], first: u64, last: u64) -> Option<[u64; 5]> {
-    let levels = (axes * bits) as usize;
+/// not well-formed or the universe is refused. The window must be one that is taken.
+pub fn plain_numbers_fast(
+    axes: u64, bits: u64, frame_bits: u64, expression: &[u8], first: u64, last: u64,
+) -> Option<[u64; 5]> {
+    let universe = Universe::checked(axes, bits, frame_bits).ok()?;
+    let levels = universe.levels();
     // the bits of the frames of a block, by its level
     let mut wide = [0u64; 64];
-    for (level, wide) in wide[..=levels].iter_mut().enumerate() {
-        *wide = bits - level as u64 / axes;
+    wide[0] = frame_bits;
+    for (level, &axis) in universe.order().iter().enumerate() {
+        wide[level + 1] = wide[level] - (axis + 1 == universe.axes) as u64;
     }
     // the levels of the high halves still to come, and their first frames
     let mut coming = [(0usize, 0u64); 64];

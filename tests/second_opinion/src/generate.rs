@@ -3,6 +3,7 @@
 //! order of the refusals shows. Whether a damaged thing is refused is for `plain` to say, not for this file.
 
 use crate::plain::{self, scene_bytes, shape_bytes, Scene, AXIS_LIMIT, FREE_LIMIT};
+use crate::plain::{MOST_AXES, MOST_BITS, MOST_FRAME_BITS, MOST_LEVELS};
 
 /// xorshift64*.
 #[derive(Clone)]
@@ -51,35 +52,65 @@ impl Random {
 
 // ------------------------------------------------------------------------------------------------- universes
 
-/// A universe in range with at most so many levels.
-pub fn small_universe(random: &mut Random, most: u64) -> (u64, u64) {
-    let axes = random.pick(&[1, 2, 2, 2, 3, 3, 4, 4]);
-    let greatest = (most / axes).min(10);
+// A universe is three numbers here: axes, bits, frame bits.
+
+const SOME_AXES: &[u64] = &[1, 2, 2, 2, 3, 3, 4, 4];
+
+/// A universe in range with at most so many levels and the same bits along all axes.
+pub fn equal_universe(random: &mut Random, most: u64) -> [u64; 3] {
+    let axes = random.pick(SOME_AXES);
+    let greatest = (most / axes).min(MOST_BITS);
     let bits = if greatest == 0 || random.chance(6) { 0 } else { 1 + random.below(greatest) };
-    (axes, bits)
+    plain::equal_bits(axes, bits)
 }
 
-/// Mostly small, at times of any size in range.
-pub fn good_universe(random: &mut Random) -> (u64, u64) {
+/// A universe in range with at most so many levels. Its frame bits are drawn apart from its bits: more, fewer or as
+/// many, none of either at times.
+pub fn small_universe(random: &mut Random, most: u64) -> [u64; 3] {
+    if random.chance(35) {
+        return equal_universe(random, most);
+    }
+    let axes = random.pick(SOME_AXES);
+    let bits = match axes {
+        1 => 0,
+        _ if random.chance(15) => 0,
+        _ => random.below((most / (axes - 1)).min(MOST_BITS) + 1),
+    };
+    let left = (most - (axes - 1) * bits).min(MOST_FRAME_BITS);
+    let frame_bits = if random.chance(15) { 0 } else { random.below(left + 1) };
+    [axes, bits, frame_bits]
+}
+
+/// A number of levels: mostly small, at times as many as there can be.
+fn some_levels(random: &mut Random) -> u64 {
     match random.below(100) {
-        0..=54 => small_universe(random, 6),
-        55..=84 => small_universe(random, 8),
-        85..=91 => small_universe(random, 12),
-        _ => (1 + random.below(4), random.below(11)),
+        0..=54 => 6,
+        55..=84 => 8,
+        85..=91 => 12,
+        _ => MOST_LEVELS as u64,
     }
 }
 
-pub fn bad_universe(random: &mut Random, universe: (u64, u64)) -> (u64, u64) {
-    let axes = random.pick(&[0, 5, 6, 7, 255, 256, 257, 258, (1 << 32) + 2, (1 << 63) + 2, u64::MAX]);
-    let bits = random.pick(&[11, 12, 13, 63, 64, 255, 256, 258, (1 << 32) + 2, (1 << 63) + 1, u64::MAX]);
-    match random.below(3) {
-        0 => (axes, universe.1),
-        1 => (universe.0, bits),
-        _ => (axes, bits),
+pub fn good_universe(random: &mut Random) -> [u64; 3] {
+    let most = some_levels(random);
+    small_universe(random, most)
+}
+
+pub fn bad_universe(random: &mut Random, [axes, bits, frame_bits]: [u64; 3]) -> [u64; 3] {
+    let bad_axes = random.pick(&[0, 5, 6, 7, 255, 256, 257, 258, (1 << 32) + 2, (1 << 63) + 2, u64::MAX]);
+    let bad_bits = random.pick(&[11, 12, 13, 63, 64, 255, 256, 258, (1 << 32) + 2, (1 << 63) + 1, u64::MAX]);
+    let bad_frame_bits = random.pick(&[13, 13, 14, 63, 64, 255, 256, 268, (1 << 32) + 2, (1 << 63) + 1, u64::MAX]);
+    match random.below(7) {
+        0 | 1 => [bad_axes, bits, frame_bits],
+        2 => [axes, bad_bits, frame_bits],
+        3 => [axes, bits, bad_frame_bits],
+        // one axis has no bits but the frames'
+        4 | 5 => [1, random.pick(&[1, 1, 2, 10, bad_bits, frame_bits]), frame_bits],
+        _ => [bad_axes, bad_bits, bad_frame_bits],
     }
 }
 
-pub fn universe(random: &mut Random, bad: u64) -> (u64, u64) {
+pub fn universe(random: &mut Random, bad: u64) -> [u64; 3] {
     let good = good_universe(random);
     if random.chance(bad) {
         bad_universe(random, good)
@@ -89,17 +120,26 @@ pub fn universe(random: &mut Random, bad: u64) -> (u64, u64) {
 }
 
 /// Numbers in range, near those that are not: for making rows and words that fit.
-fn in_range(universe: (u64, u64)) -> (u64, u64) {
-    (universe.0.clamp(1, 4), universe.1.min(10))
+pub fn in_range([axes, bits, frame_bits]: [u64; 3]) -> [u64; 3] {
+    let axes = axes.clamp(1, MOST_AXES);
+    [axes, if axes == 1 { 0 } else { bits.min(MOST_BITS) }, frame_bits.min(MOST_FRAME_BITS)]
+}
+
+/// The length of a universe in range along an axis, and its levels.
+fn side([axes, bits, frame_bits]: [u64; 3], axis: usize) -> i64 {
+    1 << if axis as u64 + 1 == axes { frame_bits } else { bits }
+}
+
+pub fn levels([axes, bits, frame_bits]: [u64; 3]) -> usize {
+    ((axes - 1) * bits + frame_bits) as usize
 }
 
 // ------------------------------------------------------------------------------------------------------ rows
 
-fn row(random: &mut Random, axes: u64, bits: u64) -> [i64; 5] {
-    let axes = axes as usize;
-    let side = 1i64 << bits;
+fn row(random: &mut Random, universe: [u64; 3]) -> [i64; 5] {
+    let axes = universe[0] as usize;
     let mut row = [0; 5];
-    let large = axes as u64 * bits > 12;
+    let large = levels(universe) > 12;
     match random.below(100) {
         // the whole and the empty halfspace, and those at the limits
         0 | 1 => {}
@@ -120,7 +160,7 @@ fn row(random: &mut Random, axes: u64, bits: u64) -> [i64; 5] {
                     row[axis] = -weight;
                 } else {
                     row[axis] = weight;
-                    row[0] -= weight * side;
+                    row[0] -= weight * side(universe, axis - 1);
                 }
             }
             let sign = random.pick(&[scale, -scale]);
@@ -130,6 +170,7 @@ fn row(random: &mut Random, axes: u64, bits: u64) -> [i64; 5] {
         22..=37 => {
             let axis = random.below(axes as u64) as usize;
             let scale = random.pick(&[1, 1, -1, -1, 3, -2, 7, AXIS_LIMIT, -AXIS_LIMIT]);
+            let side = side(universe, axis);
             let at = if large { side / 4 * random.between(0, 4) } else { random.between(-1, side + 1) };
             row[axis + 1] = scale;
             row[0] = -scale * at;
@@ -146,7 +187,8 @@ fn row(random: &mut Random, axes: u64, bits: u64) -> [i64; 5] {
                 _ => AXIS_LIMIT,
             };
             let mut at = 0;
-            for number in &mut row[1..=axes] {
+            for (axis, number) in row[1..=axes].iter_mut().enumerate() {
+                let side = side(universe, axis);
                 *number = random.between(-reach, reach);
                 at += *number * random.between(side / 2, 2 * side - side / 2);
             }
@@ -157,14 +199,14 @@ fn row(random: &mut Random, axes: u64, bits: u64) -> [i64; 5] {
 }
 
 /// Rows that are in order for the universe.
-pub fn rows(random: &mut Random, axes: u64, bits: u64) -> Vec<i64> {
+pub fn rows(random: &mut Random, universe: [u64; 3]) -> Vec<i64> {
     let count = match random.below(100) {
         0..=3 => 0,
         4..=84 => 1 + random.below(6),
         85..=96 => 7 + random.below(30),
         _ => random.pick(&[128, 255, 256, 256]),
     };
-    (0..count).flat_map(|_| row(random, axes, bits)).collect()
+    (0..count).flat_map(|_| row(random, universe)).collect()
 }
 
 /// Damages rows in one place.
@@ -332,17 +374,17 @@ pub use crate::plain::Scene as RunCase;
 
 /// A run, damaged in no place, in one, or in several.
 pub fn run(random: &mut Random) -> RunCase {
-    let (axes, bits) = universe(random, 5);
-    run_in(random, axes, bits)
+    let universe = universe(random, 5);
+    run_in(random, 2, universe)
 }
 
-fn run_in(random: &mut Random, axes: u64, bits: u64) -> RunCase {
-    let (near_axes, near_bits) = in_range((axes, bits));
-    let mut rows = rows(random, near_axes, near_bits);
+fn run_in(random: &mut Random, version: u64, universe: [u64; 3]) -> RunCase {
+    let near = in_range(universe);
+    let mut rows = rows(random, near);
     let count = rows.len() / 5;
     let (mut first, mut second) = (tree(random, count), tree(random, count));
     if random.chance(9) {
-        damage_rows(random, near_axes, &mut rows);
+        damage_rows(random, near[0], &mut rows);
     }
     if random.chance(13) {
         damage_tree(random, count, &mut first);
@@ -350,12 +392,13 @@ fn run_in(random: &mut Random, axes: u64, bits: u64) -> RunCase {
     if random.chance(11) {
         damage_tree(random, count, &mut second);
     }
-    let (first_frame, last_frame) = window(random, near_bits);
-    RunCase { axes, bits, rows, first, second, first_frame, last_frame }
+    let (first_frame, last_frame) = window(random, near[2]);
+    let [axes, bits, frame_bits] = universe;
+    RunCase { version, axes, bits, frame_bits, rows, first, second, first_frame, last_frame }
 }
 
-pub fn window(random: &mut Random, bits: u64) -> (u64, u64) {
-    let side = 1u64 << bits;
+pub fn window(random: &mut Random, frame_bits: u64) -> (u64, u64) {
+    let side = 1u64 << frame_bits;
     match random.below(24) {
         0..=6 => (0, side - 1),
         7..=10 => {
@@ -421,6 +464,19 @@ pub fn expression(random: &mut Random, levels: usize) -> Vec<u8> {
     symbols
 }
 
+/// An expression that goes down so many levels: at each of them one half is a leaf, mostly of one colour.
+fn chain(random: &mut Random, levels: usize) -> Vec<u8> {
+    let (high, black) = (random.pick(&[0, 50, 100, 100]), random.pick(&[0, 5, 95, 100]));
+    let (mut symbols, mut behind) = (Vec::new(), vec![random.pick(b"BW")]);
+    for _ in 0..levels {
+        symbols.push(b'(');
+        let leaf = if random.chance(black) { b'B' } else { b'W' };
+        if random.chance(high) { &mut symbols } else { &mut behind }.push(leaf);
+    }
+    symbols.extend(behind);
+    symbols
+}
+
 pub fn damage_expression(random: &mut Random, levels: usize, symbols: &mut Vec<u8>) {
     match random.below(8) {
         0 => {
@@ -453,25 +509,34 @@ pub fn damage_expression(random: &mut Random, levels: usize, symbols: &mut Vec<u
 pub struct ReadingCase {
     pub axes: u64,
     pub bits: u64,
+    pub frame_bits: u64,
     pub expression: Vec<u8>,
 }
 
+/// A question; at times to an expression that goes as deep as there are levels, or one deeper.
 pub fn reading(random: &mut Random) -> ReadingCase {
-    let (axes, bits) = universe(random, 8);
-    let levels = {
-        let (axes, bits) = in_range((axes, bits));
-        (axes * bits) as usize
-    };
+    if random.chance(1) {
+        let levels = MOST_LEVELS + random.pick(&[0, 0, 0, 1]);
+        let expression = chain(random, levels);
+        return ReadingCase { axes: MOST_AXES, bits: MOST_BITS, frame_bits: MOST_FRAME_BITS, expression };
+    }
+    let universe = universe(random, 8);
+    reading_in(random, universe)
+}
+
+fn reading_in(random: &mut Random, universe: [u64; 3]) -> ReadingCase {
+    let levels = levels(in_range(universe));
     let mut symbols = expression(random, levels);
     if random.chance(25) {
         damage_expression(random, levels, &mut symbols);
     }
-    ReadingCase { axes, bits, expression: symbols }
+    let [axes, bits, frame_bits] = universe;
+    ReadingCase { axes, bits, frame_bits, expression: symbols }
 }
 
 /// A list of expressions: of a few, of none, of one symbol each around the most there may be; damaged as a reading is.
-pub fn list(random: &mut Random) -> ReadingCase {
-    let mut case = reading(random);
+fn list(random: &mut Random, universe: [u64; 3]) -> ReadingCase {
+    let mut case = reading_in(random, universe);
     match random.below(40) {
         0 => {
             let count = random.pick(&[255, 256, 256, 257, 258]);
@@ -479,13 +544,36 @@ pub fn list(random: &mut Random) -> ReadingCase {
         }
         1 | 2 => case.expression.clear(),
         more => {
-            let (axes, bits) = in_range((case.axes, case.bits));
+            let levels = levels(in_range(universe));
             for _ in 0..more % 6 {
-                case.expression.extend(expression(random, (axes * bits) as usize));
+                case.expression.extend(expression(random, levels));
             }
         }
     }
     case
+}
+
+/// What a report is called with: a list, a window, and how many counts are lent.
+#[derive(Clone, Debug)]
+pub struct ReportCase {
+    pub list: ReadingCase,
+    pub window: (u64, u64),
+    pub lent: usize,
+}
+
+/// A report; at times of a shot that has as many frames as there can be.
+pub fn report(random: &mut Random) -> ReportCase {
+    let universe = if random.chance(2) {
+        let axes = random.pick(SOME_AXES);
+        [axes, if axes == 1 { 0 } else { random.below(MOST_BITS + 1) }, MOST_FRAME_BITS]
+    } else {
+        universe(random, 8)
+    };
+    let list = list(random, universe);
+    let (first, last) = window(random, in_range(universe)[2]);
+    // around the window's frames, where it can be one
+    let frames = if first <= last && last - first <= 1 << MOST_FRAME_BITS { last - first + 1 } else { 4 };
+    ReportCase { list, window: (first, last), lent: room(random, frames) }
 }
 
 /// A path in the universe.
@@ -511,17 +599,19 @@ pub fn any_path(random: &mut Random, levels: usize) -> Vec<u8> {
     path
 }
 
-pub fn voxel(random: &mut Random, axes: u64, bits: u64) -> [u64; 4] {
-    let (axes, bits) = in_range((axes, bits));
-    let side = 1u64 << bits;
+pub fn voxel(random: &mut Random, universe: [u64; 3]) -> [u64; 4] {
+    let near = in_range(universe);
+    let sides: Vec<u64> = (0..near[0] as usize).map(|axis| side(near, axis) as u64).collect();
     let mut voxel = [0; 4];
-    for place in &mut voxel[..axes as usize] {
+    for (place, &side) in voxel.iter_mut().zip(&sides) {
         *place = random.below(side);
     }
     if random.chance(25) {
         let axis = random.place(4);
+        // of this axis, or of another one
+        let side = random.pick(&[sides.get(axis).copied().unwrap_or(1), sides[0], sides[sides.len() - 1]]);
         voxel[axis] = random.pick(&[
-            0, 1, side - 1, side - 1, side, side, side + 1, 1 << 10, (1 << 32) + 1, 1 << 32, 1 << 63, u64::MAX,
+            0, 1, side - 1, side - 1, side, side, side + 1, 1 << 10, 1 << 12, (1 << 32) + 1, 1 << 32, 1 << 63, u64::MAX,
         ]);
     }
     voxel
@@ -547,7 +637,7 @@ pub fn leaf_count(random: &mut Random) -> u64 {
 fn damage_file(random: &mut Random, header: usize, bytes: &mut Vec<u8>) {
     match random.below(8) {
         0..=2 => {
-            // the mark, the version, d and k, the zero byte, the counts
+            // the mark, the version, d, k and f or the zero byte, the counts
             let place = random.place(header.min(bytes.len()));
             bytes[place] = match random.below(4) {
                 0 => bytes[place].wrapping_add(1),
@@ -572,28 +662,53 @@ fn damage_file(random: &mut Random, header: usize, bytes: &mut Vec<u8>) {
     }
 }
 
+/// A version of a file: one that is read, at times another.
+fn version(random: &mut Random) -> u64 {
+    if random.chance(4) {
+        random.pick(&[0, 3, 4, 255, 256, 257, 258, 512, 513, 65_535])
+    } else {
+        random.pick(&[1, 1, 2, 2, 2])
+    }
+}
+
+/// A universe that a file of a version can say, at times out of range.
+fn universe_in_file(random: &mut Random, version: u64, bad: u64) -> [u64; 3] {
+    let most = some_levels(random);
+    let good = if version == 1 { equal_universe(random, most) } else { small_universe(random, most) };
+    if !random.chance(bad) {
+        return good;
+    }
+    let [axes, bits, frame_bits] = good;
+    let bad_axes = random.pick(&[0, 5, 255]);
+    let bad_bits = random.pick(&[11, 11, 12, 16, 255]);
+    let bad_frame_bits = random.pick(&[13, 13, 14, 16, 255]);
+    if version == 1 {
+        // k at both sides of ten, of one axis too
+        let (axes, bits) = random.pick(&[(bad_axes, frame_bits), (axes, bad_bits), (1, bad_bits), (1, 10), (0, 11)]);
+        return plain::equal_bits(axes, bits);
+    }
+    random.pick(&[
+        [bad_axes, bits, frame_bits],
+        [axes, bad_bits, frame_bits],
+        [axes, bits, bad_frame_bits],
+        [1, 1, frame_bits],
+        [1, 10, 10],
+        [bad_axes, bad_bits, bad_frame_bits],
+    ])
+}
+
 pub fn scene_file(random: &mut Random) -> Vec<u8> {
-    let (mut axes, mut bits) = good_universe(random);
-    if random.chance(5) {
-        (axes, bits) = random.pick(&[(0, bits), (5, bits), (255, bits), (axes, 11), (axes, 255), (axes, 16), (0, 11)]);
-    }
-    let case = run_in(random, axes, bits);
-    let mut rows = case.rows;
+    let version = version(random);
+    let universe = universe_in_file(random, version, 6);
+    let mut scene = run_in(random, version, universe);
     // a file counts its rows in fives
-    rows.truncate(rows.len() / 5 * 5);
+    scene.rows.truncate(scene.rows.len() / 5 * 5);
     if random.below(400) == 0 {
-        rows.resize(5 * random.pick(&[1000, 2000, 65_535]), 0);
+        scene.rows.resize(5 * random.pick(&[1000, 2000, 65_535]), 0);
     }
-    let clip = |frame: u64| frame.min(65_535);
-    let scene = Scene {
-        axes,
-        bits,
-        rows,
-        first: case.first,
-        second: case.second,
-        first_frame: clip(case.first_frame),
-        last_frame: clip(case.last_frame),
-    };
+    for frame in [&mut scene.first_frame, &mut scene.last_frame] {
+        *frame = (*frame).min(65_535);
+    }
     let mut bytes = scene_bytes(&scene);
     if random.chance(25) {
         damage_file(random, 18, &mut bytes);
@@ -606,8 +721,10 @@ pub fn program_file(random: &mut Random) -> Vec<u8> {
     match random.below(12) {
         0 => {
             let mut scene = Scene {
+                version: random.pick(&[1, 2]),
                 axes: 2,
                 bits: 2,
+                frame_bits: 2,
                 rows: vec![0; 5 * 1637],
                 first: vec![1; 10],
                 second: vec![1; 9],
@@ -624,17 +741,21 @@ pub fn program_file(random: &mut Random) -> Vec<u8> {
         1 | 2 => {
             let axes = 2 + random.below(3);
             let bits = random.pick(&[[9, 10, 10], [5, 6, 7], [3, 4, 5]][axes as usize - 2]);
-            let rows: Vec<i64> = (0..4).flat_map(|_| row(random, axes, bits)).collect();
+            let frame_bits = random.pick(&[bits, bits, bits - 1, bits + 1, bits + 2]);
+            let version = if frame_bits == bits { random.pick(&[1, 2]) } else { 2 };
+            let rows: Vec<i64> = (0..4).flat_map(|_| row(random, [axes, bits, frame_bits])).collect();
             let (first, second) = (tree(random, 4), tree(random, 4));
-            scene_bytes(&Scene { axes, bits, rows, first, second, first_frame: 0, last_frame: (1 << bits) - 1 })
+            let last_frame = (1 << frame_bits) - 1;
+            scene_bytes(&Scene { version, axes, bits, frame_bits, rows, first, second, first_frame: 0, last_frame })
         }
         _ => scene_file(random),
     }
 }
 
 pub fn shape_file(random: &mut Random) -> Vec<u8> {
-    let (mut axes, mut bits) = good_universe(random);
-    let levels = (axes * bits) as usize;
+    let version = version(random);
+    let universe = universe_in_file(random, version, 8);
+    let levels = levels(in_range(universe));
     let mut symbols = expression(random, levels);
     if random.chance(60) {
         symbols = plain::merged_by_replacement(&symbols);
@@ -642,17 +763,15 @@ pub fn shape_file(random: &mut Random) -> Vec<u8> {
     if random.chance(20) {
         damage_expression(random, levels, &mut symbols);
     }
-    if random.chance(8) {
-        (axes, bits) = random.pick(&[(0, bits), (5, bits), (255, bits), (axes, 11), (axes, 255), (axes, 16), (0, 11)]);
-    }
-    let mut bytes = shape_bytes(axes, bits, &symbols);
+    let mut bytes = shape_bytes(version, universe, &symbols);
+    let header = bytes.len() - symbols.len();
     if random.chance(25) {
         if random.chance(30) {
             // the count alone, in any of its four bytes
-            let place = 7 + random.place(4);
+            let place = header - 4 + random.place(4);
             bytes[place] = bytes[place].wrapping_add(random.pick(&[1, 255, 128]));
         } else {
-            damage_file(random, 11, &mut bytes);
+            damage_file(random, header, &mut bytes);
         }
     }
     bytes

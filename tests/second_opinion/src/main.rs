@@ -10,7 +10,7 @@ mod face;
 
 use second_opinion::fast::Run;
 use second_opinion::generate::{self, Random};
-use second_opinion::plain::{self, Universe, ACCEPTED};
+use second_opinion::plain::{self, ACCEPTED};
 use second_opinion::plain::{
     BAD_EXPRESSION, BAD_FILE, BAD_PROXY, BAD_ROWS, BAD_TREE, BAD_UNIVERSE, NOT_MERGED, NO_ROOM, OUTSIDE, OVERFULL_TREE,
 };
@@ -21,7 +21,7 @@ use std::fmt::Write;
 const MOST_BLOCKS: u64 = 8_400;
 
 /// The long ones have more blocks than the first, and at most the last; every other has more than the middle one. The
-/// library's scratch room is as large as the first two. d 4, k 10 can have 2^41 − 1 blocks: those are not compared.
+/// library's scratch room is as large as the first two. d 4, k 10, f 12 can have 2^43 − 1 blocks: those are left out.
 const LONG_BLOCKS: [u64; 3] = [4_096, 65_536, 140_000];
 
 const GUARD: usize = 24;
@@ -206,7 +206,7 @@ fn text_of(expression: &[u8]) -> String {
 
 /// How many symbols a conversion needs, and the formula's room; nothing where it is too long to be compared.
 fn needed(case: &generate::RunCase, trees: &[&[u16]]) -> Option<(u64, u64)> {
-    match Run::checked(case.axes, case.bits, &case.rows, trees) {
+    match Run::checked(case.axes, case.bits, case.frame_bits, &case.rows, trees) {
         Ok(run) => run.blocks_within(MOST_BLOCKS).map(|blocks| (blocks, run.room())),
         Err(_) => Some((5, 5)),
     }
@@ -221,8 +221,13 @@ fn lent_for(random: &mut Random, needed: u64, formula: u64) -> usize {
     }
 }
 
+fn universe_text([axes, bits, frame_bits]: [u64; 3]) -> String {
+    format!("axes = {axes}\nbits = {bits}\nframe_bits = {frame_bits}")
+}
+
 fn run_text(case: &generate::RunCase, trees: usize, lent: usize) -> String {
-    let mut text = format!("axes = {}\nbits = {}\nrows = {:?}", case.axes, case.bits, case.rows);
+    let mut text = universe_text([case.axes, case.bits, case.frame_bits]);
+    let _ = write!(text, "\nrows = {:?}", case.rows);
     let _ = write!(text, "\nfirst = {:?}", case.first);
     if trees == 2 {
         let _ = write!(text, "\nsecond = {:?}", case.second);
@@ -231,32 +236,33 @@ fn run_text(case: &generate::RunCase, trees: usize, lent: usize) -> String {
     text
 }
 
-type RawOne = fn(u64, u64, &[i64], &[u16], &mut [u8], &mut [u64; 1]) -> u64;
-type RawTwo = fn(u64, u64, &[i64], &[u16], &[u16], &mut [u8], &mut [u64; 1]) -> u64;
-type Verdict = fn(u64, u64, &[i64], &[u16], &[u16], u64, u64, &mut [u8], &mut [u64; 5]) -> u64;
-type Numbers = fn(u64, u64, &[u8], u64, u64, &mut [u64; 5]) -> u64;
-type Report = fn(u64, u64, &[u8], u64, u64, &mut [u64], &mut [u64; 2]) -> u64;
-type Colour = fn(u64, u64, &[u8], u64, u64, u64, u64, &mut [u64; 1]) -> u64;
-type Part = fn(u64, u64, &[u8], &[u8], &mut [u64; 2]) -> u64;
-type Rewrite<const N: usize> = fn(u64, u64, &[u8], &mut [u8], &mut [u64; N]) -> u64;
-type SceneRead = fn(&[u8], &mut [i64; 1280], &mut [u16; 255], &mut [u16; 255], &mut [u64; 7]) -> u64;
-type ShapeRead = fn(&[u8], &mut [u8], &mut [u64; 3]) -> u64;
+type RawOne = fn(u64, u64, u64, &[i64], &[u16], &mut [u8], &mut [u64; 1]) -> u64;
+type RawTwo = fn(u64, u64, u64, &[i64], &[u16], &[u16], &mut [u8], &mut [u64; 1]) -> u64;
+type Verdict = fn(u64, u64, u64, &[i64], &[u16], &[u16], u64, u64, &mut [u8], &mut [u64; 5]) -> u64;
+type Numbers = fn(u64, u64, u64, &[u8], u64, u64, &mut [u64; 5]) -> u64;
+type Report = fn(u64, u64, u64, &[u8], u64, u64, &mut [u64], &mut [u64; 2]) -> u64;
+type Colour = fn(u64, u64, u64, &[u8], u64, u64, u64, u64, &mut [u64; 1]) -> u64;
+type Part = fn(u64, u64, u64, &[u8], &[u8], &mut [u64; 2]) -> u64;
+type Rewrite<const N: usize> = fn(u64, u64, u64, &[u8], &mut [u8], &mut [u64; N]) -> u64;
+type SceneRead = fn(&[u8], &mut [i64; 1280], &mut [u16; 255], &mut [u16; 255], &mut [u64; 9]) -> u64;
+type ShapeRead = fn(&[u8], &mut [u8], &mut [u64; 4]) -> u64;
 type BoxRows = fn([f64; 3], [f64; 3], [f64; 3], &mut [i64; 30]) -> u64;
 type CutRow = fn([f64; 3], f64, [f64; 3], &mut [i64; 5]) -> u64;
 
 fn rooms(line: &mut Line, random: &mut Random) {
-    let (axes, bits) = if random.chance(60) {
-        (1 + random.below(plain::MOST_AXES), random.below(plain::MOST_BITS + 1))
+    let [axes, bits, frame_bits] = if random.chance(60) {
+        let any = [plain::MOST_AXES + 1, plain::MOST_BITS + 1, plain::MOST_FRAME_BITS + 1].map(|end| random.below(end));
+        generate::in_range(any)
     } else {
         generate::universe(random, 50)
     };
     let leaves = generate::leaf_count(random);
-    let [plain, library] = [plain::room as fn(u64, u64, u64, &mut [u64; 1]) -> u64, face::room].map(|room| {
+    let [plain, library] = [plain::room as fn(u64, u64, u64, u64, &mut [u64; 1]) -> u64, face::room].map(|room| {
         let mut answer = longs(1);
-        let number = room(axes, bits, leaves, answer.array());
+        let number = room(axes, bits, frame_bits, leaves, answer.array());
         Outcome { number, contents: vec![("answer", answer.into())] }
     });
-    line.compare(plain, library, || format!("axes = {axes}\nbits = {bits}\nleaves = {leaves}"));
+    line.compare(plain, library, || format!("{}\nleaves = {leaves}", universe_text([axes, bits, frame_bits])));
 }
 
 fn leaves(line: &mut Line, random: &mut Random) {
@@ -272,12 +278,13 @@ fn one_tree(line: &mut Line, random: &mut Random, plain: RawOne, library: RawOne
     let mut need = [blocks];
     if merged && blocks > 1 {
         // the room is chosen around the merged length
-        plain(case.axes, case.bits, &case.rows, &case.first, &mut [], &mut need);
+        plain(case.axes, case.bits, case.frame_bits, &case.rows, &case.first, &mut [], &mut need);
     }
     let lent = lent_for(random, need[0], formula);
     let [plain, library] = [plain, library].map(|convert| {
         let (mut out, mut answer) = (bytes(lent), longs(1));
-        let number = convert(case.axes, case.bits, &case.rows, &case.first, out.lent(), answer.array());
+        let number =
+            convert(case.axes, case.bits, case.frame_bits, &case.rows, &case.first, out.lent(), answer.array());
         Outcome { number, contents: vec![("answer", answer.into()), ("out", out.into())] }
     });
     line.compare(plain, library, || run_text(&case, 1, lent));
@@ -288,7 +295,7 @@ fn two_trees(line: &mut Line, random: &mut Random, plain: RawTwo, library: RawTw
     let Some((blocks, formula)) = needed(&case, &[&case.first, &case.second]) else { return };
     let mut need = [blocks];
     if merged && blocks > 1 {
-        plain(case.axes, case.bits, &case.rows, &case.first, &case.second, &mut [], &mut need);
+        plain(case.axes, case.bits, case.frame_bits, &case.rows, &case.first, &case.second, &mut [], &mut need);
     }
     let lent = lent_for(random, need[0], formula);
     compare_two_trees(line, &case, lent, plain, library);
@@ -297,7 +304,9 @@ fn two_trees(line: &mut Line, random: &mut Random, plain: RawTwo, library: RawTw
 fn compare_two_trees(line: &mut Line, case: &generate::RunCase, lent: usize, plain: RawTwo, library: RawTwo) {
     let [plain, library] = [plain, library].map(|convert| {
         let (mut out, mut answer) = (bytes(lent), longs(1));
-        let number = convert(case.axes, case.bits, &case.rows, &case.first, &case.second, out.lent(), answer.array());
+        let number = convert(
+            case.axes, case.bits, case.frame_bits, &case.rows, &case.first, &case.second, out.lent(), answer.array(),
+        );
         Outcome { number, contents: vec![("answer", answer.into()), ("out", out.into())] }
     });
     line.compare(plain, library, || run_text(case, 2, lent));
@@ -314,8 +323,8 @@ fn compare_verdicts(line: &mut Line, case: &generate::RunCase, lent: usize) {
     let [plain, library] = [plain::verdict as Verdict, face::verdict].map(|judge| {
         let (mut out, mut answer) = (bytes(lent), longs(5));
         let number = judge(
-            case.axes, case.bits, &case.rows, &case.first, &case.second, case.first_frame, case.last_frame,
-            out.lent(), answer.array(),
+            case.axes, case.bits, case.frame_bits, &case.rows, &case.first, &case.second, case.first_frame,
+            case.last_frame, out.lent(), answer.array(),
         );
         Outcome { number, contents: vec![("answer", answer.into()), ("out", out.into())] }
     });
@@ -332,7 +341,8 @@ fn long_run(
     let least = LONG_BLOCKS[line.cases as usize % 2];
     loop {
         let case = generate::run(random);
-        let Ok(run) = Run::checked(case.axes, case.bits, &case.rows, &[&case.first, &case.second]) else { continue };
+        let trees: [&[u16]; 2] = [&case.first, &case.second];
+        let Ok(run) = Run::checked(case.axes, case.bits, case.frame_bits, &case.rows, &trees) else { continue };
         match run.blocks_within(LONG_BLOCKS[2]) {
             Some(blocks) if least < blocks => {
                 let around = match random.below(4) {
@@ -350,7 +360,7 @@ fn long_run(
 fn long_two_trees(line: &mut Line, random: &mut Random, plain: RawTwo, library: RawTwo) {
     let (case, lent) = long_run(line, random, |case, _| {
         let mut need = [0];
-        plain(case.axes, case.bits, &case.rows, &case.first, &case.second, &mut [], &mut need);
+        plain(case.axes, case.bits, case.frame_bits, &case.rows, &case.first, &case.second, &mut [], &mut need);
         need[0]
     });
     compare_two_trees(line, &case, lent, plain, library);
@@ -362,36 +372,36 @@ fn long_verdicts(line: &mut Line, random: &mut Random) {
 }
 
 fn reading_text(case: &generate::ReadingCase) -> String {
-    format!("axes = {}\nbits = {}\nexpression = {}", case.axes, case.bits, text_of(&case.expression))
+    let universe = universe_text([case.axes, case.bits, case.frame_bits]);
+    format!("{universe}\nexpression = {}", text_of(&case.expression))
 }
 
 fn well_formed(line: &mut Line, random: &mut Random) {
     let case = generate::reading(random);
-    let [plain, library] = [plain::well_formed as fn(u64, u64, &[u8]) -> u64, face::well_formed].map(|ask| {
-        Outcome { number: ask(case.axes, case.bits, &case.expression), contents: vec![] }
+    let [plain, library] = [plain::well_formed as fn(u64, u64, u64, &[u8]) -> u64, face::well_formed].map(|ask| {
+        Outcome { number: ask(case.axes, case.bits, case.frame_bits, &case.expression), contents: vec![] }
     });
     line.compare(plain, library, || reading_text(&case));
 }
 
 fn numbers(line: &mut Line, random: &mut Random) {
     let case = generate::reading(random);
-    let (first, last) = generate::window(random, Universe::checked(case.axes, case.bits).map_or(3, |_| case.bits));
+    let [.., frame_bits] = generate::in_range([case.axes, case.bits, case.frame_bits]);
+    let (first, last) = generate::window(random, frame_bits);
     let [plain, library] = [plain::numbers as Numbers, face::numbers].map(|ask| {
         let mut answer = longs(5);
-        let number = ask(case.axes, case.bits, &case.expression, first, last, answer.array());
+        let number = ask(case.axes, case.bits, case.frame_bits, &case.expression, first, last, answer.array());
         Outcome { number, contents: vec![("answer", answer.into())] }
     });
     line.compare(plain, library, || format!("{}\nwindow = {first} {last}", reading_text(&case)));
 }
 
 fn reports(line: &mut Line, random: &mut Random) {
-    let case = generate::list(random);
-    let (first, last) = generate::window(random, Universe::checked(case.axes, case.bits).map_or(3, |_| case.bits));
-    let frames = if first <= last && last - first < 2_000 { last - first + 1 } else { 4 };
-    let lent = generate::room(random, frames);
+    let generate::ReportCase { list: case, window: (first, last), lent } = generate::report(random);
     let [plain, library] = [plain::report as Report, face::report].map(|ask| {
         let (mut counts, mut answer) = (longs(lent), longs(2));
-        let number = ask(case.axes, case.bits, &case.expression, first, last, counts.lent(), answer.array());
+        let (expressions, counted) = (&case.expression, counts.lent());
+        let number = ask(case.axes, case.bits, case.frame_bits, expressions, first, last, counted, answer.array());
         Outcome { number, contents: vec![("answer", answer.into()), ("counts", counts.into())] }
     });
     line.compare(plain, library, || {
@@ -401,10 +411,10 @@ fn reports(line: &mut Line, random: &mut Random) {
 
 fn colours(line: &mut Line, random: &mut Random) {
     let case = generate::reading(random);
-    let [x, y, z, t] = generate::voxel(random, case.axes, case.bits);
+    let [x, y, z, t] = generate::voxel(random, [case.axes, case.bits, case.frame_bits]);
     let [plain, library] = [plain::colour as Colour, face::colour].map(|ask| {
         let mut answer = longs(1);
-        let number = ask(case.axes, case.bits, &case.expression, x, y, z, t, answer.array());
+        let number = ask(case.axes, case.bits, case.frame_bits, &case.expression, x, y, z, t, answer.array());
         Outcome { number, contents: vec![("answer", answer.into())] }
     });
     line.compare(plain, library, || format!("{}\nvoxel = {x} {y} {z} {t}", reading_text(&case)));
@@ -412,11 +422,11 @@ fn colours(line: &mut Line, random: &mut Random) {
 
 fn parts(line: &mut Line, random: &mut Random) {
     let case = generate::reading(random);
-    let levels = Universe::checked(case.axes, case.bits).map_or(6, |universe| universe.levels());
+    let levels = generate::levels(generate::in_range([case.axes, case.bits, case.frame_bits]));
     let path = generate::any_path(random, levels);
     let [plain, library] = [plain::part as Part, face::part].map(|ask| {
         let mut answer = longs(2);
-        let number = ask(case.axes, case.bits, &case.expression, &path, answer.array());
+        let number = ask(case.axes, case.bits, case.frame_bits, &case.expression, &path, answer.array());
         Outcome { number, contents: vec![("answer", answer.into())] }
     });
     line.compare(plain, library, || format!("{}\npath = {path:?}", reading_text(&case)));
@@ -426,11 +436,11 @@ fn parts(line: &mut Line, random: &mut Random) {
 fn rewriting<const N: usize>(line: &mut Line, random: &mut Random, plain: Rewrite<N>, library: Rewrite<N>) {
     let case = generate::reading(random);
     let mut need = [0; N];
-    plain(case.axes, case.bits, &case.expression, &mut [], &mut need);
+    plain(case.axes, case.bits, case.frame_bits, &case.expression, &mut [], &mut need);
     let lent = generate::room(random, need[0]);
     let [plain, library] = [plain, library].map(|rewrite| {
         let (mut out, mut answer) = (bytes(lent), longs(N));
-        let number = rewrite(case.axes, case.bits, &case.expression, out.lent(), answer.array());
+        let number = rewrite(case.axes, case.bits, case.frame_bits, &case.expression, out.lent(), answer.array());
         Outcome { number, contents: vec![("answer", answer.into()), ("out", out.into())] }
     });
     line.compare(plain, library, || format!("{}\nout: {lent} bytes lent", reading_text(&case)));
@@ -440,7 +450,7 @@ fn scenes(line: &mut Line, random: &mut Random) {
     let file = generate::scene_file(random);
     let [plain, library] = [plain::scene as SceneRead, face::scene].map(|read| {
         let (mut rows, mut first, mut second) = (rows_lent(1280), words_lent(255), words_lent(255));
-        let mut answer = longs(7);
+        let mut answer = longs(9);
         let number = read(&file, rows.array(), first.array(), second.array(), answer.array());
         let trees = [("first", first.into()), ("second", second.into())];
         let contents = [("answer", answer.into()), ("rows", rows.into())].into_iter().chain(trees).collect();
@@ -453,7 +463,7 @@ fn scenes(line: &mut Line, random: &mut Random) {
 fn program_case(random: &mut Random) -> Option<(Vec<u8>, String, u64)> {
     let file = generate::program_file(random);
     if let Ok(scene) = plain::scene_checked(&file) {
-        let run = Run::checked(scene.axes, scene.bits, &scene.rows, &[&scene.first, &scene.second]);
+        let run = Run::checked(scene.axes, scene.bits, scene.frame_bits, &scene.rows, &[&scene.first, &scene.second]);
         if run.is_ok_and(|run| run.blocks_within(LONG_BLOCKS[2]).is_none()) {
             return None;
         }
@@ -478,9 +488,10 @@ fn lines(line: &mut Line, random: &mut Random) {
 
 fn shape_reads(line: &mut Line, random: &mut Random) {
     let file = generate::shape_file(random);
-    let lent = generate::room(random, file.len().saturating_sub(11) as u64);
+    let header = if file.get(3) == Some(&1) { 11 } else { 12 };
+    let lent = generate::room(random, file.len().saturating_sub(header) as u64);
     let [plain, library] = [plain::shape_read as ShapeRead, face::shape_read].map(|read| {
-        let (mut out, mut answer) = (bytes(lent), longs(3));
+        let (mut out, mut answer) = (bytes(lent), longs(4));
         let number = read(&file, out.lent(), answer.array());
         Outcome { number, contents: vec![("answer", answer.into()), ("out", out.into())] }
     });

@@ -40,30 +40,72 @@ fn too_little_room<T>(needed: u64) -> Answer<T> {
 
 pub const MOST_AXES: u64 = 4;
 pub const MOST_BITS: u64 = 10;
+pub const MOST_FRAME_BITS: u64 = 12;
+pub const MOST_LEVELS: usize = ((MOST_AXES - 1) * MOST_BITS + MOST_FRAME_BITS) as usize;
 
 /// A universe whose numbers are in range.
 #[derive(Clone, Copy, Debug, PartialEq, Eq)]
 pub struct Universe {
     pub axes: usize,
     pub bits: u32,
+    pub frame_bits: u32,
+    /// the axis that each level halves, as far as there are levels
+    order: [usize; MOST_LEVELS],
 }
 
 impl Universe {
-    pub fn checked(axes: u64, bits: u64) -> Answer<Universe> {
-        if axes < 1 || axes > MOST_AXES || bits > MOST_BITS {
+    pub fn checked(axes: u64, bits: u64, frame_bits: u64) -> Answer<Universe> {
+        let most_bits = if axes == 1 { 0 } else { MOST_BITS };
+        if axes < 1 || axes > MOST_AXES || bits > most_bits || frame_bits > MOST_FRAME_BITS {
             return refused(BAD_UNIVERSE);
         }
-        Ok(Universe { axes: axes as usize, bits: bits as u32 })
+        let (axes, bits, frame_bits) = (axes as usize, bits as u32, frame_bits as u32);
+        let mut universe = Universe { axes, bits, frame_bits, order: [0; MOST_LEVELS] };
+        universe.take_turns();
+        Ok(universe)
     }
 
-    /// M, the length of a side.
-    pub fn side(&self) -> i64 {
-        1 << self.bits
+    /// The order of the axes by rule 1.3: in a round each axis that has bits left is halved, in its turn.
+    fn take_turns(&mut self) {
+        let mut left: Vec<u32> = (0..self.axes).map(|axis| self.bits_along(axis)).collect();
+        let mut level = 0;
+        while left.iter().any(|&bits| bits > 0) {
+            for axis in 0..self.axes {
+                if left[axis] > 0 {
+                    left[axis] -= 1;
+                    self.order[level] = axis;
+                    level += 1;
+                }
+            }
+        }
+        assert_eq!(level, self.levels());
+    }
+
+    pub fn bits_along(&self, axis: usize) -> u32 {
+        if axis == self.axes - 1 {
+            self.frame_bits
+        } else {
+            self.bits
+        }
+    }
+
+    /// The length of the universe along an axis.
+    pub fn side(&self, axis: usize) -> i64 {
+        1 << self.bits_along(axis)
+    }
+
+    pub fn frames(&self) -> u64 {
+        1 << self.frame_bits
     }
 
     /// L, the number of halvings.
     pub fn levels(&self) -> usize {
-        self.axes * self.bits as usize
+        (self.axes - 1) * self.bits as usize + self.frame_bits as usize
+    }
+
+    /// The axis that each level halves, the whole universe's first.
+    pub fn order(&self) -> &[usize] {
+        &self.order[..self.levels()]
     }
 
     pub fn voxels(&self) -> u64 {
@@ -77,14 +119,25 @@ impl Universe {
 
     /// All voxels, the first axis fastest.
     pub fn all_voxels(&self) -> impl Iterator<Item = [i64; 4]> {
-        let (axes, bits, side) = (self.axes, self.bits, self.side());
+        let universe = *self;
         (0..self.voxels()).map(move |number| {
-            let mut voxel = [0; 4];
-            for axis in 0..axes {
-                voxel[axis] = (number >> (axis as u32 * bits)) as i64 & (side - 1);
+            let (mut voxel, mut rest) = ([0; 4], number as i64);
+            for axis in 0..universe.axes {
+                voxel[axis] = rest % universe.side(axis);
+                rest /= universe.side(axis);
             }
             voxel
         })
+    }
+}
+
+/// The universe of so many axes with so many bits each (rule 1.10): axes, bits and frame bits. More than ten bits are
+/// refused, of one axis too.
+pub fn equal_bits(axes: u64, bits: u64) -> [u64; 3] {
+    if axes == 1 && bits <= MOST_BITS {
+        [1, 0, bits]
+    } else {
+        [axes, bits, bits]
     }
 }
 
@@ -100,7 +153,7 @@ impl Block {
     pub fn whole(universe: &Universe) -> Block {
         let mut size = [0; 4];
         for axis in 0..universe.axes {
-            size[axis] = universe.side();
+            size[axis] = universe.side(axis);
         }
         Block { level: 0, low: [0; 4], size }
     }
@@ -108,7 +161,7 @@ impl Block {
     /// The low or the high half. The block must be above level L.
     pub fn half(&self, universe: &Universe, high: bool) -> Block {
         assert!(self.level < universe.levels());
-        let axis = self.level % universe.axes;
+        let axis = universe.order()[self.level];
         let mut half = *self;
         half.level += 1;
         half.size[axis] /= 2;
@@ -519,7 +572,8 @@ fn merged_within(levels: usize) -> &'static [(Vec<u8>, Vec<u8>)] {
 }
 
 /// Rule 4.13 as it stands, in a universe of few levels: after each symbol the merged text so far is held against the
-/// merged expression of every legal continuation, and what is behind the longest beginning that all of them have is held.
+/// merged expression of every legal continuation, and what is behind the longest beginning that all of them have is
+/// held.
 pub fn held_by_definition(levels: usize, expression: &[u8]) -> u64 {
     let held_after = |read: usize| {
         let so_far = merged_by_replacement(&expression[..read]);
@@ -569,21 +623,21 @@ pub fn room_of(universe: &Universe, leaves: u64) -> u64 {
         // the blocks along each axis at this level
         let mut along = [1u128; 4];
         for earlier in 0..level {
-            along[earlier % universe.axes] *= 2;
+            along[universe.order()[earlier]] *= 2;
         }
         let along = &along[..universe.axes];
         let all: u128 = along.iter().product();
         let inner: u128 = along.iter().map(|n| n - 1).product();
         sum += all.min(leaves as u128 * (all - inner));
     }
-    u64::try_from(1 + 2 * sum).expect("at most 2^41 - 1")
+    u64::try_from(1 + 2 * sum).expect("at most 2^43 - 1")
 }
 
 // --------------------------------------------------------------------------------------------------- verdicts
 
 /// The window of rule 5.1.
 pub fn window_checked(universe: &Universe, first: u64, last: u64) -> Answer<()> {
-    if first > last || last >= universe.side() as u64 {
+    if first > last || last >= universe.frames() {
         return refused(OUTSIDE);
     }
     Ok(())
@@ -760,8 +814,10 @@ fn u16_at(bytes: &[u8], place: usize) -> u16 {
 
 #[derive(Clone, Debug)]
 pub struct Scene {
+    pub version: u64,
     pub axes: u64,
     pub bits: u64,
+    pub frame_bits: u64,
     pub rows: Vec<i64>,
     pub first: Vec<u16>,
     pub second: Vec<u16>,
@@ -769,8 +825,22 @@ pub struct Scene {
     pub last_frame: u64,
 }
 
+/// What a file says of its universe by the bytes for d, k and f; version 1 has no f (rule 7.5).
+fn universe_in(version: u64, d: u8, k: u8, f: u8) -> [u64; 3] {
+    let [axes, bits, frame_bits] = [d, k, f].map(u64::from);
+    if version == 1 {
+        equal_bits(axes, bits)
+    } else {
+        [axes, bits, frame_bits]
+    }
+}
+
 pub fn scene_checked(bytes: &[u8]) -> Answer<Scene> {
-    if bytes.len() < 18 || &bytes[..3] != b"HSC" || u16_at(bytes, 3) != 1 || bytes[7] != 0 {
+    if bytes.len() < 18 || &bytes[..3] != b"HSC" {
+        return refused(BAD_FILE);
+    }
+    let version = u16_at(bytes, 3) as u64;
+    if version != 2 && (version != 1 || bytes[7] != 0) {
         return refused(BAD_FILE);
     }
     let count = u16_at(bytes, 8) as usize;
@@ -783,16 +853,19 @@ pub fn scene_checked(bytes: &[u8]) -> Answer<Scene> {
         .map(|eight| i64::from_le_bytes(eight.try_into().unwrap()))
         .collect();
     let words: Vec<u16> = bytes[18 + 40 * count..].chunks(2).map(|pair| u16_at(pair, 0)).collect();
+    let [axes, bits, frame_bits] = universe_in(version, bytes[5], bytes[6], bytes[7]);
     let scene = Scene {
-        axes: bytes[5] as u64,
-        bits: bytes[6] as u64,
+        version,
+        axes,
+        bits,
+        frame_bits,
         rows: numbers,
         first: words[..one].to_vec(),
         second: words[one..].to_vec(),
         first_frame: u16_at(bytes, 14) as u64,
         last_frame: u16_at(bytes, 16) as u64,
     };
-    let universe = Universe::checked(scene.axes, scene.bits)?;
+    let universe = Universe::checked(axes, bits, frame_bits)?;
     let rows = rows_checked(&universe, &scene.rows)?;
     tree_checked(&rows, &scene.first)?;
     tree_checked(&rows, &scene.second)?;
@@ -800,10 +873,18 @@ pub fn scene_checked(bytes: &[u8]) -> Answer<Scene> {
     Ok(scene)
 }
 
+/// The mark, the version, d and k with which a file begins. In version 1 k is said for all axes: it is the frame bits.
+fn begun(mark: &[u8; 3], version: u64, [axes, bits, frame_bits]: [u64; 3]) -> Vec<u8> {
+    let mut bytes = mark.to_vec();
+    bytes.extend((version as u16).to_le_bytes());
+    bytes.extend([axes as u8, if version == 1 { frame_bits } else { bits } as u8]);
+    bytes
+}
+
 /// The bytes of a scene, as they are: nothing is checked.
 pub fn scene_bytes(scene: &Scene) -> Vec<u8> {
-    let mut bytes = b"HSC\x01\x00".to_vec();
-    bytes.extend([scene.axes as u8, scene.bits as u8, 0]);
+    let mut bytes = begun(b"HSC", scene.version, [scene.axes, scene.bits, scene.frame_bits]);
+    bytes.push(if scene.version == 1 { 0 } else { scene.frame_bits as u8 });
     for number in [scene.rows.len() / 5, scene.first.len(), scene.second.len()] {
         bytes.extend((number as u16).to_le_bytes());
     }
@@ -820,9 +901,11 @@ pub fn scene_bytes(scene: &Scene) -> Vec<u8> {
 }
 
 /// The bytes of a shape file, as they are: nothing is checked.
-pub fn shape_bytes(axes: u64, bits: u64, symbols: &[u8]) -> Vec<u8> {
-    let mut bytes = b"BNT\x01\x00".to_vec();
-    bytes.extend([axes as u8, bits as u8]);
+pub fn shape_bytes(version: u64, universe: [u64; 3], symbols: &[u8]) -> Vec<u8> {
+    let mut bytes = begun(b"BNT", version, universe);
+    if version != 1 {
+        bytes.push(universe[2] as u8);
+    }
     bytes.extend((symbols.len() as u32).to_le_bytes());
     bytes.extend(symbols);
     bytes
@@ -831,8 +914,10 @@ pub fn shape_bytes(axes: u64, bits: u64, symbols: &[u8]) -> Vec<u8> {
 // ----------------------------------------------------------------------------------------- the entry points
 
 /// The universe and the trees of a run, with no MINUS left: 2, 3, then tree after tree.
-pub fn run_checked(axes: u64, bits: u64, rows: &[i64], trees: &[&[u16]]) -> Answer<(Universe, Vec<Tree>)> {
-    let universe = Universe::checked(axes, bits)?;
+pub fn run_checked(
+    axes: u64, bits: u64, frame_bits: u64, rows: &[i64], trees: &[&[u16]],
+) -> Answer<(Universe, Vec<Tree>)> {
+    let universe = Universe::checked(axes, bits, frame_bits)?;
     let rows = rows_checked(&universe, rows)?;
     let mut read = Vec::new();
     for words in trees {
@@ -887,48 +972,58 @@ fn plain_answer<const N: usize>(result: Answer<[u64; N]>, answer: &mut [u64; N])
     }
 }
 
-pub fn room(axes: u64, bits: u64, leaves: u64, answer: &mut [u64; 1]) -> u64 {
-    plain_answer(Universe::checked(axes, bits).map(|universe| [room_of(&universe, leaves)]), answer)
+pub fn room(axes: u64, bits: u64, frame_bits: u64, leaves: u64, answer: &mut [u64; 1]) -> u64 {
+    plain_answer(Universe::checked(axes, bits, frame_bits).map(|universe| [room_of(&universe, leaves)]), answer)
 }
 
 pub fn leaves(words: &[u16]) -> u64 {
     halfspace_words(words)
 }
 
-fn raw(axes: u64, bits: u64, rows: &[i64], trees: &[&[u16]]) -> Answer<Vec<u8>> {
-    let (universe, trees) = run_checked(axes, bits, rows, trees)?;
+fn raw(axes: u64, bits: u64, frame_bits: u64, rows: &[i64], trees: &[&[u16]]) -> Answer<Vec<u8>> {
+    let (universe, trees) = run_checked(axes, bits, frame_bits, rows, trees)?;
     Ok(raw_of(&universe, &joined(&trees)))
 }
 
-pub fn raw_one(axes: u64, bits: u64, rows: &[i64], words: &[u16], out: &mut [u8], answer: &mut [u64; 1]) -> u64 {
-    length_answer(raw(axes, bits, rows, &[words]).and_then(|symbols| delivered(&symbols, out)), answer)
-}
-
-pub fn raw_two(
-    axes: u64, bits: u64, rows: &[i64], first: &[u16], second: &[u16], out: &mut [u8], answer: &mut [u64; 1],
+pub fn raw_one(
+    axes: u64, bits: u64, frame_bits: u64, rows: &[i64], words: &[u16], out: &mut [u8], answer: &mut [u64; 1],
 ) -> u64 {
-    length_answer(raw(axes, bits, rows, &[first, second]).and_then(|symbols| delivered(&symbols, out)), answer)
+    let raw = raw(axes, bits, frame_bits, rows, &[words]);
+    length_answer(raw.and_then(|symbols| delivered(&symbols, out)), answer)
 }
 
-pub fn merged_one(axes: u64, bits: u64, rows: &[i64], words: &[u16], out: &mut [u8], answer: &mut [u64; 1]) -> u64 {
-    let merged = raw(axes, bits, rows, &[words]).map(|symbols| merged_by_replacement(&symbols));
+#[allow(clippy::too_many_arguments)]
+pub fn raw_two(
+    axes: u64, bits: u64, frame_bits: u64, rows: &[i64], first: &[u16], second: &[u16], out: &mut [u8],
+    answer: &mut [u64; 1],
+) -> u64 {
+    let raw = raw(axes, bits, frame_bits, rows, &[first, second]);
+    length_answer(raw.and_then(|symbols| delivered(&symbols, out)), answer)
+}
+
+pub fn merged_one(
+    axes: u64, bits: u64, frame_bits: u64, rows: &[i64], words: &[u16], out: &mut [u8], answer: &mut [u64; 1],
+) -> u64 {
+    let merged = raw(axes, bits, frame_bits, rows, &[words]).map(|symbols| merged_by_replacement(&symbols));
     length_answer(merged.and_then(|symbols| delivered(&symbols, out)), answer)
 }
 
+#[allow(clippy::too_many_arguments)]
 pub fn merged_two(
-    axes: u64, bits: u64, rows: &[i64], first: &[u16], second: &[u16], out: &mut [u8], answer: &mut [u64; 1],
+    axes: u64, bits: u64, frame_bits: u64, rows: &[i64], first: &[u16], second: &[u16], out: &mut [u8],
+    answer: &mut [u64; 1],
 ) -> u64 {
-    let merged = raw(axes, bits, rows, &[first, second]).map(|symbols| merged_by_replacement(&symbols));
+    let merged = raw(axes, bits, frame_bits, rows, &[first, second]).map(|symbols| merged_by_replacement(&symbols));
     length_answer(merged.and_then(|symbols| delivered(&symbols, out)), answer)
 }
 
 #[allow(clippy::too_many_arguments)]
 pub fn verdict(
-    axes: u64, bits: u64, rows: &[i64], first: &[u16], second: &[u16], first_frame: u64, last_frame: u64,
-    out: &mut [u8], answer: &mut [u64; 5],
+    axes: u64, bits: u64, frame_bits: u64, rows: &[i64], first: &[u16], second: &[u16], first_frame: u64,
+    last_frame: u64, out: &mut [u8], answer: &mut [u64; 5],
 ) -> u64 {
     let mut judge = || -> Answer<(Hit, u64)> {
-        let (universe, trees) = run_checked(axes, bits, rows, &[first, second])?;
+        let (universe, trees) = run_checked(axes, bits, frame_bits, rows, &[first, second])?;
         window_checked(&universe, first_frame, last_frame)?;
         let symbols = raw_of(&universe, &joined(&trees));
         let length = delivered(&symbols, out)?;
@@ -956,24 +1051,24 @@ pub fn verdict(
 }
 
 /// The universe and the expression taken apart: 2, then 7.
-fn expression_checked(axes: u64, bits: u64, expression: &[u8]) -> Answer<(Universe, Shape)> {
-    let universe = Universe::checked(axes, bits)?;
+fn expression_checked(axes: u64, bits: u64, frame_bits: u64, expression: &[u8]) -> Answer<(Universe, Shape)> {
+    let universe = Universe::checked(axes, bits, frame_bits)?;
     let shape = shape_checked(&universe, expression)?;
     Ok((universe, shape))
 }
 
-pub fn well_formed(axes: u64, bits: u64, expression: &[u8]) -> u64 {
-    match expression_checked(axes, bits, expression) {
+pub fn well_formed(axes: u64, bits: u64, frame_bits: u64, expression: &[u8]) -> u64 {
+    match expression_checked(axes, bits, frame_bits, expression) {
         Ok(_) => ACCEPTED,
         Err(refusal) => refusal.number,
     }
 }
 
 pub fn numbers(
-    axes: u64, bits: u64, expression: &[u8], first_frame: u64, last_frame: u64, answer: &mut [u64; 5],
+    axes: u64, bits: u64, frame_bits: u64, expression: &[u8], first_frame: u64, last_frame: u64, answer: &mut [u64; 5],
 ) -> u64 {
     let judge = || -> Answer<[u64; 5]> {
-        let (universe, shape) = expression_checked(axes, bits, expression)?;
+        let (universe, shape) = expression_checked(axes, bits, frame_bits, expression)?;
         window_checked(&universe, first_frame, last_frame)?;
         let volume = volume_of(&universe, &shape);
         Ok(match verdict_of(&universe, &shape, first_frame, last_frame) {
@@ -984,12 +1079,13 @@ pub fn numbers(
     plain_answer(judge(), answer)
 }
 
+#[allow(clippy::too_many_arguments)]
 pub fn report(
-    axes: u64, bits: u64, expressions: &[u8], first_frame: u64, last_frame: u64, counts: &mut [u64],
+    axes: u64, bits: u64, frame_bits: u64, expressions: &[u8], first_frame: u64, last_frame: u64, counts: &mut [u64],
     answer: &mut [u64; 2],
 ) -> u64 {
     let judge = || -> Answer<Vec<u64>> {
-        let universe = Universe::checked(axes, bits)?;
+        let universe = Universe::checked(axes, bits, frame_bits)?;
         let shapes = list_checked(&universe, expressions)?;
         window_checked(&universe, first_frame, last_frame)?;
         let mut told = vec![0; (last_frame - first_frame + 1) as usize];
@@ -1016,13 +1112,13 @@ pub fn report(
 
 #[allow(clippy::too_many_arguments)]
 pub fn colour(
-    axes: u64, bits: u64, expression: &[u8], x: u64, y: u64, z: u64, t: u64, answer: &mut [u64; 1],
+    axes: u64, bits: u64, frame_bits: u64, expression: &[u8], x: u64, y: u64, z: u64, t: u64, answer: &mut [u64; 1],
 ) -> u64 {
     let judge = || -> Answer<[u64; 1]> {
-        let (universe, shape) = expression_checked(axes, bits, expression)?;
+        let (universe, shape) = expression_checked(axes, bits, frame_bits, expression)?;
         let mut voxel = [0; 4];
         for (axis, place) in [x, y, z, t].into_iter().enumerate() {
-            let places = if axis < universe.axes { universe.side() as u64 } else { 1 };
+            let places = if axis < universe.axes { universe.side(axis) as u64 } else { 1 };
             if place >= places {
                 return refused(OUTSIDE);
             }
@@ -1033,9 +1129,9 @@ pub fn colour(
     plain_answer(judge(), answer)
 }
 
-pub fn part(axes: u64, bits: u64, expression: &[u8], path: &[u8], answer: &mut [u64; 2]) -> u64 {
+pub fn part(axes: u64, bits: u64, frame_bits: u64, expression: &[u8], path: &[u8], answer: &mut [u64; 2]) -> u64 {
     let judge = || -> Answer<[u64; 2]> {
-        let (universe, shape) = expression_checked(axes, bits, expression)?;
+        let (universe, shape) = expression_checked(axes, bits, frame_bits, expression)?;
         if path.len() > universe.levels() || path.iter().any(|&turn| turn > 1) {
             return refused(OUTSIDE);
         }
@@ -1045,9 +1141,9 @@ pub fn part(axes: u64, bits: u64, expression: &[u8], path: &[u8], answer: &mut [
     plain_answer(judge(), answer)
 }
 
-pub fn merge(axes: u64, bits: u64, expression: &[u8], out: &mut [u8], answer: &mut [u64; 2]) -> u64 {
+pub fn merge(axes: u64, bits: u64, frame_bits: u64, expression: &[u8], out: &mut [u8], answer: &mut [u64; 2]) -> u64 {
     let mut judge = || -> Answer<[u64; 2]> {
-        let (universe, shape) = expression_checked(axes, bits, expression)?;
+        let (universe, shape) = expression_checked(axes, bits, frame_bits, expression)?;
         let length = delivered(&merged_by_replacement(expression), out)?;
         Ok([length, largest_held(&universe, expression, &shape)])
     };
@@ -1064,15 +1160,17 @@ pub fn merge(axes: u64, bits: u64, expression: &[u8], out: &mut [u8], answer: &m
 }
 
 pub fn scene(
-    bytes: &[u8], rows: &mut [i64; 1280], first: &mut [u16; 255], second: &mut [u16; 255], answer: &mut [u64; 7],
+    bytes: &[u8], rows: &mut [i64; 1280], first: &mut [u16; 255], second: &mut [u16; 255], answer: &mut [u64; 9],
 ) -> u64 {
     let result = scene_checked(bytes).map(|scene| {
         rows[..scene.rows.len()].copy_from_slice(&scene.rows);
         first[..scene.first.len()].copy_from_slice(&scene.first);
         second[..scene.second.len()].copy_from_slice(&scene.second);
         [
+            scene.version,
             scene.axes,
             scene.bits,
+            scene.frame_bits,
             scene.rows.len() as u64 / 5,
             scene.first.len() as u64,
             scene.second.len() as u64,
@@ -1083,21 +1181,31 @@ pub fn scene(
     plain_answer(result, answer)
 }
 
-pub fn shape_read(bytes: &[u8], out: &mut [u8], answer: &mut [u64; 3]) -> u64 {
-    let mut judge = || -> Answer<[u64; 3]> {
-        if bytes.len() < 11 || &bytes[..3] != b"BNT" || u16_at(bytes, 3) != 1 {
+pub fn shape_read(bytes: &[u8], out: &mut [u8], answer: &mut [u64; 4]) -> u64 {
+    let mut judge = || -> Answer<[u64; 4]> {
+        if bytes.len() < 11 || &bytes[..3] != b"BNT" {
             return refused(BAD_FILE);
         }
-        let count = u32::from_le_bytes(bytes[7..11].try_into().unwrap()) as u64;
-        if bytes.len() as u64 != 11 + count {
+        let version = u16_at(bytes, 3) as u64;
+        let header = match version {
+            1 => 11,
+            2 => 12,
+            _ => return refused(BAD_FILE),
+        };
+        if bytes.len() < header {
             return refused(BAD_FILE);
         }
-        let (axes, bits, symbols) = (bytes[5] as u64, bytes[6] as u64, &bytes[11..]);
-        expression_checked(axes, bits, symbols)?;
+        let count = u32::from_le_bytes(bytes[header - 4..header].try_into().unwrap()) as usize;
+        if bytes.len() != header + count {
+            return refused(BAD_FILE);
+        }
+        let [axes, bits, frame_bits] = universe_in(version, bytes[5], bytes[6], bytes[7]);
+        let symbols = &bytes[header..];
+        expression_checked(axes, bits, frame_bits, symbols)?;
         if !is_merged(symbols) {
             return refused(NOT_MERGED);
         }
-        Ok([axes, bits, delivered(symbols, out)?])
+        Ok([axes, bits, frame_bits, delivered(symbols, out)?])
     };
     match judge() {
         Ok(fields) => {
@@ -1105,22 +1213,24 @@ pub fn shape_read(bytes: &[u8], out: &mut [u8], answer: &mut [u64; 3]) -> u64 {
             ACCEPTED
         }
         Err(refusal) => {
-            *answer = [0, 0, refusal.needed];
+            *answer = [0, 0, 0, refusal.needed];
             refusal.number
         }
     }
 }
 
-pub fn shape_write(axes: u64, bits: u64, expression: &[u8], out: &mut [u8], answer: &mut [u64; 1]) -> u64 {
+pub fn shape_write(
+    axes: u64, bits: u64, frame_bits: u64, expression: &[u8], out: &mut [u8], answer: &mut [u64; 1],
+) -> u64 {
     let mut judge = || -> Answer<u64> {
-        expression_checked(axes, bits, expression)?;
+        expression_checked(axes, bits, frame_bits, expression)?;
         if !is_merged(expression) {
             return refused(NOT_MERGED);
         }
         if expression.len() as u64 > u32::MAX as u64 {
-            return too_little_room(11 + expression.len() as u64);
+            return too_little_room(12 + expression.len() as u64);
         }
-        delivered(&shape_bytes(axes, bits, expression), out)
+        delivered(&shape_bytes(2, [axes, bits, frame_bits], expression), out)
     };
     length_answer(judge(), answer)
 }
@@ -1164,16 +1274,21 @@ pub fn clearance(bytes: &[u8]) -> String {
     let mut out = vec![0; PROGRAM_SYMBOLS];
     let mut answer = [0; 5];
     let number = verdict(
-        scene.axes, scene.bits, &scene.rows, &scene.first, &scene.second, scene.first_frame, scene.last_frame,
-        &mut out, &mut answer,
+        scene.axes, scene.bits, scene.frame_bits, &scene.rows, &scene.first, &scene.second, scene.first_frame,
+        scene.last_frame, &mut out, &mut answer,
     );
     if number == NO_ROOM {
         return format!("refused {NO_ROOM} needed {}\n", answer[4]);
     }
     assert_eq!(number, ACCEPTED, "the scene was checked");
     let leaves = halfspace_words(&scene.first) + halfspace_words(&scene.second);
-    let room = room_of(&Universe::checked(scene.axes, scene.bits).unwrap(), leaves);
-    let mut lines = format!("axes {} bits {}\nleaves {leaves} raw {} room {room}\n", scene.axes, scene.bits, answer[4]);
+    let room = room_of(&Universe::checked(scene.axes, scene.bits, scene.frame_bits).unwrap(), leaves);
+    // of version 1 the file's own k, which stands in its byte
+    let mut lines = match scene.version {
+        1 => format!("axes {} bits {}\n", scene.axes, bytes[6]),
+        _ => format!("axes {} bits {} frame {}\n", scene.axes, scene.bits, scene.frame_bits),
+    };
+    lines += &format!("leaves {leaves} raw {} room {room}\n", answer[4]);
     if answer[0] == 1 {
         lines += &format!("hit first {} last {} voxels {}\n", answer[1], answer[2], answer[3]);
     } else {

@@ -13,24 +13,29 @@ fn rows_of(rows: &[[i64; 3]]) -> Vec<i64> {
 fn raw_text(bits: u64, rows: &[i64], words: &[u16]) -> (String, String, u64) {
     let mut out = [0; 1000];
     let mut length = [0];
-    assert_eq!(raw_one(2, bits, rows, words, &mut out, &mut length), ACCEPTED);
+    assert_eq!(raw_one(2, bits, bits, rows, words, &mut out, &mut length), ACCEPTED);
     let raw = String::from_utf8(out[..length[0] as usize].to_vec()).unwrap();
-    assert_eq!(merged_one(2, bits, rows, words, &mut out, &mut length), ACCEPTED);
+    assert_eq!(merged_one(2, bits, bits, rows, words, &mut out, &mut length), ACCEPTED);
     let merged = String::from_utf8(out[..length[0] as usize].to_vec()).unwrap();
-    let black = numbers_over(2, bits, raw.as_bytes(), 0, 0);
-    assert_eq!(numbers_over(2, bits, merged.as_bytes(), 0, 0), black);
+    let black = numbers_over([2, bits, bits], raw.as_bytes(), 0, 0);
+    assert_eq!(numbers_over([2, bits, bits], merged.as_bytes(), 0, 0), black);
     (raw, merged, black.1[0])
 }
 
-fn numbers_over(axes: u64, bits: u64, expression: &[u8], first: u64, last: u64) -> (u64, [u64; 5]) {
+fn numbers_over([axes, bits, frame_bits]: [u64; 3], expression: &[u8], first: u64, last: u64) -> (u64, [u64; 5]) {
     let mut answer = [9; 5];
-    (numbers(axes, bits, expression, first, last, &mut answer), answer)
+    (numbers(axes, bits, frame_bits, expression, first, last, &mut answer), answer)
 }
 
-fn room_at(axes: u64, bits: u64, leaves: u64) -> u64 {
+fn room_at(axes: u64, bits: u64, frame_bits: u64, leaves: u64) -> u64 {
     let mut answer = [0];
-    assert_eq!(room(axes, bits, leaves, &mut answer), ACCEPTED);
+    assert_eq!(room(axes, bits, frame_bits, leaves, &mut answer), ACCEPTED);
     answer[0]
+}
+
+fn drawn(universe: [u64; 3]) -> Universe {
+    let [axes, bits, frame_bits] = universe;
+    Universe::checked(axes, bits, frame_bits).unwrap()
 }
 
 const SCENE_ROWS: [[i64; 3]; 4] = [[0, 1, -1], [1, -1, 1], [-2, 1, 0], [3, -1, 0]];
@@ -41,7 +46,7 @@ const SCENE_RAW: &[u8] = b"(W(((WBW((BWW";
 fn scene_verdict(first: u64, last: u64, lent: usize) -> (u64, [u64; 5], Vec<u8>) {
     let mut out = vec![7; lent];
     let mut answer = [9; 5];
-    let number = verdict(2, 2, &rows_of(&SCENE_ROWS), &ONE, &TWO, first, last, &mut out, &mut answer);
+    let number = verdict(2, 2, 2, &rows_of(&SCENE_ROWS), &ONE, &TWO, first, last, &mut out, &mut answer);
     (number, answer, out)
 }
 
@@ -49,7 +54,7 @@ fn scene_verdict(first: u64, last: u64, lent: usize) -> (u64, [u64; 5], Vec<u8>)
 fn case_1() {
     let (raw, merged, black) = raw_text(2, &rows_of(&[[-2, 2, -1]]), &[256]);
     assert_eq!((raw.as_str(), merged.as_str(), black), ("(((W(BWW(B((BWB", "(((W(BWW(B((BWB", 8));
-    assert_eq!(room_at(2, 2, 1), 23);
+    assert_eq!(room_at(2, 2, 2, 1), 23);
 }
 
 #[test]
@@ -57,7 +62,7 @@ fn cases_2_and_3() {
     let rows = rows_of(&[[-2, 1, 0], [-2, 0, 1], [6, -1, -1]]);
     let (raw, merged, black) = raw_text(2, &rows, &[256, 257, 3, 258, 3]);
     assert_eq!((raw.as_str(), merged.as_str(), black), ("(W(W((BB(BW", "(W(W(B(BW", 3));
-    let universe = Universe::checked(2, 2).unwrap();
+    let universe = Universe::checked(2, 2, 2).unwrap();
     // the third halfspace's value at (3,2)'s centre is 0
     assert_eq!(2 * 6 - (2 * 3 + 1) - (2 * 2 + 1), 0);
     let shape = shape_checked(&universe, raw.as_bytes()).unwrap();
@@ -65,10 +70,10 @@ fn cases_2_and_3() {
     assert!(!black_at(&universe, &shape, &[3, 3, 0, 0]));
     for symbols in [raw.as_bytes(), merged.as_bytes()] {
         let mut answer = [9];
-        assert_eq!((colour(2, 2, symbols, 3, 2, 0, 0, &mut answer), answer), (ACCEPTED, [1]));
-        assert_eq!((colour(2, 2, symbols, 3, 3, 0, 0, &mut answer), answer), (ACCEPTED, [0]));
-        assert_eq!((colour(2, 2, symbols, 3, 4, 0, 0, &mut answer), answer), (OUTSIDE, [0]));
-        assert_eq!((colour(2, 2, symbols, 3, 2, 1, 0, &mut answer), answer), (OUTSIDE, [0]));
+        assert_eq!((colour(2, 2, 2, symbols, 3, 2, 0, 0, &mut answer), answer), (ACCEPTED, [1]));
+        assert_eq!((colour(2, 2, 2, symbols, 3, 3, 0, 0, &mut answer), answer), (ACCEPTED, [0]));
+        assert_eq!((colour(2, 2, 2, symbols, 3, 4, 0, 0, &mut answer), answer), (OUTSIDE, [0]));
+        assert_eq!((colour(2, 2, 2, symbols, 3, 2, 1, 0, &mut answer), answer), (OUTSIDE, [0]));
     }
 }
 
@@ -85,50 +90,53 @@ fn cases_4_and_5_and_10_and_11() {
     assert_eq!(scene_verdict(0, 4, 12).0, OUTSIDE);
     let mut out = [7; 12];
     let mut answer = [9];
-    assert_eq!(raw_two(2, 2, &rows_of(&SCENE_ROWS), &ONE, &TWO, &mut out, &mut answer), NO_ROOM);
+    assert_eq!(raw_two(2, 2, 2, &rows_of(&SCENE_ROWS), &ONE, &TWO, &mut out, &mut answer), NO_ROOM);
     assert_eq!((answer, out), ([13], [7; 12]));
 }
 
 #[test]
 fn cases_6_and_7_and_8() {
     for axes in 1..=4 {
-        for bits in 0..=10 {
-            assert_eq!(room_at(axes, bits, 0), 1);
-            let mut out = [0; 1];
-            let mut answer = [0];
-            assert_eq!(raw_one(axes, bits, &[0; 5], &[256], &mut out, &mut answer), ACCEPTED);
-            assert_eq!(out, *b"B");
+        for bits in 0..=(if axes == 1 { 0 } else { 10 }) {
+            for frame_bits in 0..=12 {
+                assert_eq!(room_at(axes, bits, frame_bits, 0), 1);
+                let mut out = [0; 1];
+                let mut answer = [0];
+                assert_eq!(raw_one(axes, bits, frame_bits, &[0; 5], &[256], &mut out, &mut answer), ACCEPTED);
+                assert_eq!(out, *b"B");
+            }
         }
-        assert_eq!(room_at(axes, 0, 1_000_000), 1);
+        assert_eq!(room_at(axes, 0, 0, 1_000_000), 1);
     }
-    assert_eq!(room_at(2, 2, 2), 31);
-    assert_eq!(room_at(2, 2, 4), 31);
-    assert_eq!(room_at(2, 1, 1), 7);
-    assert_eq!(room_at(4, 10, u64::MAX), (1 << 41) - 1);
+    assert_eq!(room_at(2, 2, 2, 2), 31);
+    assert_eq!(room_at(2, 2, 2, 4), 31);
+    assert_eq!(room_at(2, 1, 1, 1), 7);
+    assert_eq!(room_at(4, 10, 10, u64::MAX), (1 << 41) - 1);
+    assert_eq!(room_at(4, 10, 12, u64::MAX), (1 << 43) - 1);
     let mut random = Random::new(8);
     for _ in 0..2000 {
         let axes = 1 + random.below(4);
-        let rows = generate::rows(&mut random, axes, 0);
+        let rows = generate::rows(&mut random, [axes, 0, 0]);
         let words = generate::tree(&mut random, rows.len() / 5);
         let mut out = [0; 1];
         let mut answer = [0];
-        assert_eq!(raw_one(axes, 0, &rows, &words, &mut out, &mut answer), ACCEPTED);
+        assert_eq!(raw_one(axes, 0, 0, &rows, &words, &mut out, &mut answer), ACCEPTED);
         assert_eq!(answer, [1]);
     }
 }
 
 #[test]
 fn case_9() {
-    assert_eq!(well_formed(2, 2, b"(BB"), ACCEPTED);
+    assert_eq!(well_formed(2, 2, 2, b"(BB"), ACCEPTED);
     let mut out = [7; 3];
-    let (mut answer, mut merging) = ([9], [9; 2]);
-    assert_eq!((merge(2, 2, b"(BB", &mut out, &mut merging), out, merging), (ACCEPTED, [b'B', 7, 7], [1, 2]));
+    let mut answer = [9; 2];
+    assert_eq!((merge(2, 2, 2, b"(BB", &mut out, &mut answer), out, answer), (ACCEPTED, [b'B', 7, 7], [1, 2]));
     for bad in [&b""[..], b"(B", b"BB"] {
-        assert_eq!(well_formed(2, 2, bad), BAD_EXPRESSION);
-        assert_eq!(numbers_over(2, 2, bad, 0, 3), (BAD_EXPRESSION, [0; 5]));
-        assert_eq!((merge(2, 2, bad, &mut out, &mut merging), merging), (BAD_EXPRESSION, [0, 0]));
+        assert_eq!(well_formed(2, 2, 2, bad), BAD_EXPRESSION);
+        assert_eq!(numbers_over([2, 2, 2], bad, 0, 3), (BAD_EXPRESSION, [0; 5]));
+        assert_eq!((merge(2, 2, 2, bad, &mut out, &mut answer), answer), (BAD_EXPRESSION, [0, 0]));
     }
-    assert_eq!(well_formed(2, 0, b"(BB"), BAD_EXPRESSION);
+    assert_eq!(well_formed(2, 0, 0, b"(BB"), BAD_EXPRESSION);
     assert_eq!(merged_by_replacement(b"((BB(BB"), b"B");
 }
 
@@ -136,34 +144,35 @@ fn case_9() {
 fn numbers_of_windows() {
     // cases 1 and 2, and both ends of the window
     let one = b"(((W(BWW(B((BWB";
-    assert_eq!(numbers_over(2, 2, one, 0, 3), (ACCEPTED, [8, 1, 0, 3, 8]));
-    assert_eq!(numbers_over(2, 2, one, 0, 0), (ACCEPTED, [8, 1, 0, 0, 3]));
-    assert_eq!(numbers_over(2, 2, one, 3, 3), (ACCEPTED, [8, 1, 3, 3, 1]));
+    assert_eq!(numbers_over([2, 2, 2], one, 0, 3), (ACCEPTED, [8, 1, 0, 3, 8]));
+    assert_eq!(numbers_over([2, 2, 2], one, 0, 0), (ACCEPTED, [8, 1, 0, 0, 3]));
+    assert_eq!(numbers_over([2, 2, 2], one, 3, 3), (ACCEPTED, [8, 1, 3, 3, 1]));
     for two in [&b"(W(W((BB(BW"[..], b"(W(W(B(BW"] {
-        assert_eq!(numbers_over(2, 2, two, 0, 3), (ACCEPTED, [3, 1, 2, 3, 3]));
-        assert_eq!(numbers_over(2, 2, two, 3, 3), (ACCEPTED, [3, 1, 3, 3, 1]));
+        assert_eq!(numbers_over([2, 2, 2], two, 0, 3), (ACCEPTED, [3, 1, 2, 3, 3]));
+        assert_eq!(numbers_over([2, 2, 2], two, 3, 3), (ACCEPTED, [3, 1, 3, 3, 1]));
         // no black voxel in the window
-        assert_eq!(numbers_over(2, 2, two, 0, 1), (ACCEPTED, [3, 0, 0, 0, 0]));
+        assert_eq!(numbers_over([2, 2, 2], two, 0, 1), (ACCEPTED, [3, 0, 0, 0, 0]));
     }
     // no bits, and one axis
-    assert_eq!(numbers_over(4, 0, b"B", 0, 0), (ACCEPTED, [1, 1, 0, 0, 1]));
-    assert_eq!(numbers_over(4, 0, b"W", 0, 0), (ACCEPTED, [0; 5]));
-    assert_eq!(numbers_over(1, 2, b"((WBB", 0, 3), (ACCEPTED, [3, 1, 1, 3, 3]));
-    assert_eq!(numbers_over(1, 2, b"((WBB", 0, 0), (ACCEPTED, [3, 0, 0, 0, 0]));
+    assert_eq!(numbers_over([4, 0, 0], b"B", 0, 0), (ACCEPTED, [1, 1, 0, 0, 1]));
+    assert_eq!(numbers_over([4, 0, 0], b"W", 0, 0), (ACCEPTED, [0; 5]));
+    assert_eq!(numbers_over([1, 0, 2], b"((WBB", 0, 3), (ACCEPTED, [3, 1, 1, 3, 3]));
+    assert_eq!(numbers_over([1, 0, 2], b"((WBB", 0, 0), (ACCEPTED, [3, 0, 0, 0, 0]));
     // a refusal before another one
-    assert_eq!(numbers_over(5, 2, b"(B", 0, 3), (BAD_UNIVERSE, [0; 5]));
-    assert_eq!(numbers_over(2, 11, b"B", 2, 1), (BAD_UNIVERSE, [0; 5]));
-    assert_eq!(numbers_over(2, 2, b"(B", 2, 1), (BAD_EXPRESSION, [0; 5]));
-    assert_eq!(numbers_over(2, 2, b"B", 2, 1), (OUTSIDE, [0; 5]));
-    assert_eq!(numbers_over(2, 2, b"B", 0, 4), (OUTSIDE, [0; 5]));
+    assert_eq!(numbers_over([5, 2, 2], b"(B", 0, 3), (BAD_UNIVERSE, [0; 5]));
+    assert_eq!(numbers_over([2, 11, 11], b"B", 2, 1), (BAD_UNIVERSE, [0; 5]));
+    assert_eq!(numbers_over([2, 2, 2], b"(B", 2, 1), (BAD_EXPRESSION, [0; 5]));
+    assert_eq!(numbers_over([2, 2, 2], b"B", 2, 1), (OUTSIDE, [0; 5]));
+    assert_eq!(numbers_over([2, 2, 2], b"B", 0, 4), (OUTSIDE, [0; 5]));
 }
 
 #[test]
 fn reports_of_lists() {
-    let told = |bits: u64, list: &[u8], first: u64, last: u64, lent: usize| {
+    let told_in = |[axes, bits, frame_bits]: [u64; 3], list: &[u8], first: u64, last: u64, lent: usize| {
         let (mut counts, mut answer) = (vec![9; lent], [9; 2]);
-        (report(2, bits, list, first, last, &mut counts, &mut answer), answer, counts)
+        (report(axes, bits, frame_bits, list, first, last, &mut counts, &mut answer), answer, counts)
     };
+    let told = |bits, list: &[u8], first, last, lent| told_in([2, bits, bits], list, first, last, lent);
     let slope = b"(((W(BWW(B((BWB";
     assert_eq!(told(2, b"", 0, 3, 4), (ACCEPTED, [4, 0], vec![0; 4]));
     assert_eq!(told(2, &[SCENE_RAW, SCENE_RAW].concat(), 0, 3, 4), (ACCEPTED, [4, 4], vec![0, 2, 2, 0]));
@@ -175,18 +184,34 @@ fn reports_of_lists() {
     assert_eq!(told(0, &[b'B'; 257], 0, 0, 1), (BAD_EXPRESSION, [0, 0], vec![9]));
     assert_eq!(told(2, &[SCENE_RAW, b")"].concat(), 0, 4, 0), (BAD_EXPRESSION, [0, 0], vec![]));
     assert_eq!(told(2, SCENE_RAW, 0, 4, 0), (OUTSIDE, [0, 0], vec![]));
+    // frame bits of their own: more than the bits, fewer, and 4,096 frames with a row one short, whole and one too long
+    assert_eq!(told_in([2, 1, 2], b"((WBB(WB", 0, 3, 4), (ACCEPTED, [4, 10], vec![2, 2, 3, 3]));
+    assert_eq!(told_in([2, 2, 1], b"((WB(WB", 0, 1, 3), (ACCEPTED, [2, 4], vec![0, 4, 9]));
+    assert_eq!(told_in([2, 2, 1], b"B", 0, 2, 3), (OUTSIDE, [0, 0], vec![9; 3]));
+    for (universe, voxels) in [([1, 0, 12], 1), ([2, 0, 12], 1), ([4, 10, 12], 1 << 30)] {
+        let total = voxels * (4096 + 2048);
+        assert_eq!(told_in(universe, b"B", 0, 4095, 4095), (NO_ROOM, [4096, 0], vec![9; 4095]));
+        assert_eq!(told_in(universe, b"B", 0, 4096, 4097), (OUTSIDE, [0, 0], vec![9; 4097]));
+        // all of it, and the half of the first axis that is halved
+        let (number, answer, counts) = told_in(universe, b"B(WB", 0, 4095, 4097);
+        assert_eq!((number, answer, counts[4096]), (ACCEPTED, [4096, total], 9));
+        assert_eq!(counts[..4096].iter().sum::<u64>(), total);
+        assert_eq!(told_in(universe, b"B", 4095, 4095, 1), (ACCEPTED, [1, voxels], vec![voxels]));
+    }
+    assert_eq!(told_in([1, 1, 12], b"B", 0, 0, 1), (BAD_UNIVERSE, [0, 0], vec![9]));
+    assert_eq!(told_in([2, 2, 13], b"(", 1, 0, 0), (BAD_UNIVERSE, [0, 0], vec![]));
     // the total of a list is what the verdicts of its expressions count
     let mut random = Random::new(11);
     for _ in 0..2000 {
-        let (axes, bits) = generate::small_universe(&mut random, 8);
-        let universe = Universe::checked(axes, bits).unwrap();
+        let given = generate::small_universe(&mut random, 8);
+        let ([axes, bits, frame_bits], universe) = (given, drawn(given));
         let list: Vec<Vec<u8>> =
             (0..random.below(5)).map(|_| generate::expression(&mut random, universe.levels())).collect();
-        let last = random.below(universe.side() as u64);
+        let last = random.below(universe.frames());
         let first = random.below(last + 1);
-        let voxels: u64 = list.iter().map(|one| numbers_over(axes, bits, one, first, last).1[4]).sum();
-        let (mut counts, mut answer) = (vec![9; universe.side() as usize], [9; 2]);
-        assert_eq!(report(axes, bits, &list.concat(), first, last, &mut counts, &mut answer), ACCEPTED);
+        let voxels: u64 = list.iter().map(|one| numbers_over(given, one, first, last).1[4]).sum();
+        let (mut counts, mut answer) = (vec![9; universe.frames() as usize], [9; 2]);
+        assert_eq!(report(axes, bits, frame_bits, &list.concat(), first, last, &mut counts, &mut answer), ACCEPTED);
         assert_eq!(answer, [last - first + 1, voxels]);
     }
 }
@@ -194,11 +219,21 @@ fn reports_of_lists() {
 #[test]
 fn held_back() {
     let mut answer = [9; 2];
-    assert_eq!((merge(2, 2, b"(B(B(B(BW", &mut [0; 9], &mut answer), answer), (ACCEPTED, [9, 8]));
-    assert_eq!((merge(2, 2, b"(B(B(B(BW", &mut [0; 8], &mut answer), answer), (NO_ROOM, [9, 0]));
+    assert_eq!((merge(2, 2, 2, b"(B(B(B(BW", &mut [0; 9], &mut answer), answer), (ACCEPTED, [9, 8]));
+    assert_eq!((merge(2, 2, 2, b"(B(B(B(BW", &mut [0; 8], &mut answer), answer), (NO_ROOM, [9, 0]));
+    // the levels are the bits of all axes together: twice as many are held, and halved once more it is no expression
+    for universe in [[1, 0, 12], [2, 1, 2], [2, 2, 1], [3, 0, 2], [4, 10, 12]] {
+        let ([axes, bits, frame_bits], levels) = (universe, generate::levels(universe));
+        let deepest = [&b"(B".repeat(levels)[..], b"W"].concat();
+        let mut out = vec![0; deepest.len()];
+        let held = [deepest.len() as u64, 2 * levels as u64];
+        assert_eq!((merge(axes, bits, frame_bits, &deepest, &mut out, &mut answer), answer), (ACCEPTED, held));
+        let deeper = [b"(B", &deepest[..]].concat();
+        assert_eq!((merge(axes, bits, frame_bits, &deeper, &mut out, &mut answer), answer), (BAD_EXPRESSION, [0, 0]));
+    }
     // the two ways of counting, over every expression of the universes that are looked at whole
     for levels in 0..=FEW_LEVELS {
-        let universe = Universe::checked(1, levels as u64).unwrap();
+        let universe = drawn([1, 0, levels as u64]);
         let all = expressions_within(levels);
         let mut largest = 0;
         for expression in &all {
@@ -255,8 +290,10 @@ fn sixteenths_agree_with_multiplication() {
 #[test]
 fn the_program() {
     let scene = Scene {
+        version: 1,
         axes: 2,
         bits: 2,
+        frame_bits: 2,
         rows: rows_of(&SCENE_ROWS),
         first: ONE.to_vec(),
         second: TWO.to_vec(),
@@ -275,9 +312,10 @@ fn the_program() {
     assert_eq!(clearance(&vec![0; 65_537]), "refused 1\n");
     // the length needed is the number of blocks, and 32,768 are lent
     let (rows, first, second) = (vec![0, 1024, -1023, 0, 0], vec![256], vec![1]);
-    let steep = Scene { axes: 2, bits: 10, rows, first, second, first_frame: 0, last_frame: 1023 };
+    let (axes, bits, frame_bits) = (2, 10, 10);
+    let steep = Scene { version: 1, axes, bits, frame_bits, rows, first, second, first_frame: 0, last_frame: 1023 };
     let text = clearance(&scene_bytes(&steep));
-    let run = Run::checked(2, 10, &steep.rows, &[&steep.first, &steep.second]).unwrap();
+    let run = Run::checked(2, 10, 10, &steep.rows, &[&steep.first, &steep.second]).unwrap();
     let blocks = run.blocks_within(1 << 30).unwrap();
     if blocks > 32_768 {
         assert_eq!(text, format!("refused 6 needed {blocks}\n"));
@@ -317,7 +355,7 @@ fn trees_are_refused_in_order() {
 #[test]
 fn reversal_and_minus() {
     let all_zero = Halfspace([0; 5]);
-    let universe = Universe::checked(2, 2).unwrap();
+    let universe = Universe::checked(2, 2, 2).unwrap();
     assert_eq!(raw_of(&universe, &all_zero), b"B");
     assert_eq!(raw_of(&universe, &reversed(all_zero)), b"W");
     // a centre on the plane: of voxel (1, 0) the value of (-3, 2, 0) is 0
@@ -328,9 +366,9 @@ fn reversal_and_minus() {
     // tree less itself is WHITE
     let mut random = Random::new(17);
     for _ in 0..2000 {
-        let (axes, bits) = generate::small_universe(&mut random, 6);
-        let universe = Universe::checked(axes, bits).unwrap();
-        let rows = generate::rows(&mut random, axes, bits);
+        let given = generate::small_universe(&mut random, 6);
+        let universe = drawn(given);
+        let rows = generate::rows(&mut random, given);
         let words = generate::tree(&mut random, rows.len() / 5);
         let read = tree_checked(&rows_checked(&universe, &rows).unwrap(), &words).unwrap();
         let opposite = raw_of(&universe, &without_minus(reversed(read.clone())));
@@ -353,16 +391,16 @@ fn slow_and_fast_agree() {
     let mut random = Random::new(1);
     for round in 0..20_000 {
         let most = if round % 50 == 0 { 12 } else { 8 };
-        let (axes, bits) = generate::small_universe(&mut random, most);
-        let universe = Universe::checked(axes, bits).unwrap();
-        let rows = generate::rows(&mut random, axes, bits);
+        let given = generate::small_universe(&mut random, most);
+        let ([axes, bits, frame_bits], universe) = (given, drawn(given));
+        let rows = generate::rows(&mut random, given);
         let one = generate::tree(&mut random, rows.len() / 5);
         let two = generate::tree(&mut random, rows.len() / 5);
         let trees: &[&[u16]] = if random.chance(50) { &[&one] } else { &[&one, &two] };
-        let (_, read) = run_checked(axes, bits, &rows, trees).unwrap();
+        let (_, read) = run_checked(axes, bits, frame_bits, &rows, trees).unwrap();
         let tree = joined(&read);
         let raw = raw_of(&universe, &tree);
-        let run = Run::checked(axes, bits, &rows, trees).unwrap();
+        let run = Run::checked(axes, bits, frame_bits, &rows, trees).unwrap();
         assert_eq!(blocks_examined(&universe, &tree, &Block::whole(&universe)), raw.len() as u64);
         assert_eq!(run.blocks_within(1 << 20), Some(raw.len() as u64));
         assert_eq!(run.blocks_within(raw.len() as u64 / 2), None);
@@ -395,16 +433,16 @@ fn slow_and_fast_agree() {
         }
         let volume = volume_of(&universe, &shape);
         assert_eq!(volume_by_blocks(&universe, &shape), volume);
-        let first = random.below(1 << bits);
-        let last = first + random.below((1 << bits) - first);
+        let first = random.below(universe.frames());
+        let last = first + random.below(universe.frames() - first);
         let hit = verdict_by_blocks(&universe, &shape, first, last);
         assert_eq!(verdict_of(&universe, &shape, first, last), hit);
         let fields = match hit {
             None => [volume, 0, 0, 0, 0],
             Some((from, to, count)) => [volume, 1, from, to, count],
         };
-        assert_eq!(plain_numbers_fast(axes, bits, &raw, first, last), Some(fields));
-        assert_eq!(plain_numbers_fast(axes, bits, &merged, first, last), Some(fields));
+        assert_eq!(plain_numbers_fast(axes, bits, frame_bits, &raw, first, last), Some(fields));
+        assert_eq!(plain_numbers_fast(axes, bits, frame_bits, &merged, first, last), Some(fields));
         if trees.len() == 2 {
             let hit = verdict_by_voxels(&universe, &read[0], &read[1], first, last);
             assert_eq!(verdict_by_blocks(&universe, &shape, first, last), hit);
@@ -421,13 +459,13 @@ fn slow_and_fast_agree() {
 fn parts_have_the_blocks_voxels() {
     let mut random = Random::new(3);
     for _ in 0..5000 {
-        let (axes, bits) = generate::small_universe(&mut random, 8);
-        let universe = Universe::checked(axes, bits).unwrap();
+        let given = generate::small_universe(&mut random, 8);
+        let ([axes, bits, frame_bits], universe) = (given, drawn(given));
         let symbols = generate::expression(&mut random, universe.levels());
         let shape = shape_checked(&universe, &symbols).unwrap();
         let path = generate::path(&mut random, universe.levels());
         let mut answer = [0; 2];
-        assert_eq!(part(axes, bits, &symbols, &path, &mut answer), 0);
+        assert_eq!(part(axes, bits, frame_bits, &symbols, &path, &mut answer), 0);
         let symbols = &symbols[answer[0] as usize..(answer[0] + answer[1]) as usize];
         // the block of the path, and in it each voxel by the part alone
         let mut block = Block::whole(&universe);
@@ -476,22 +514,261 @@ fn black_below(universe: &Universe, shape: &Shape, block: Block, voxel: &[i64; 4
 fn files_go_round() {
     let mut random = Random::new(4);
     for _ in 0..5000 {
-        let (axes, bits) = generate::small_universe(&mut random, 8);
-        let symbols = merged_by_replacement(&generate::expression(&mut random, (axes * bits) as usize));
-        let mut out = vec![7; symbols.len() + 12];
+        let given = generate::small_universe(&mut random, 8);
+        let [axes, bits, frame_bits] = given;
+        let symbols = merged_by_replacement(&generate::expression(&mut random, generate::levels(given)));
+        let mut out = vec![7; symbols.len() + 13];
         let mut answer = [0];
-        assert_eq!(shape_write(axes, bits, &symbols, &mut out, &mut answer), ACCEPTED);
-        assert_eq!(answer[0] as usize, symbols.len() + 11);
+        assert_eq!(shape_write(axes, bits, frame_bits, &symbols, &mut out, &mut answer), ACCEPTED);
+        assert_eq!(answer[0] as usize, symbols.len() + 12);
         assert_eq!(out.pop(), Some(7));
-        let mut back = vec![7; symbols.len()];
-        let mut fields = [0; 3];
-        assert_eq!(shape_read(&out, &mut back, &mut fields), ACCEPTED);
-        assert_eq!((fields, back), ([axes, bits, symbols.len() as u64], symbols));
+        let read = |file: &[u8]| {
+            let (mut back, mut fields) = (vec![7; symbols.len()], [0; 4]);
+            assert_eq!(shape_read(file, &mut back, &mut fields), ACCEPTED);
+            (fields, back)
+        };
+        let whole = ([axes, bits, frame_bits, symbols.len() as u64], symbols.clone());
+        assert_eq!(read(&out), whole);
+        // version 1 of the same shape is a byte shorter, and read it is the same
+        if has_equal_bits(given) {
+            let old = shape_bytes(1, given, &symbols);
+            assert_eq!((old.len(), read(&old)), (symbols.len() + 11, whole));
+        }
     }
-    let mut fields = [9; 3];
-    assert_eq!(shape_read(b"BNT\x01\x00\x02\x02\x00\x00\x00\x00", &mut [], &mut fields), BAD_EXPRESSION);
-    assert_eq!(shape_read(b"BNT\x01\x00\x02\x02\x01\x00\x00\x00", &mut [], &mut fields), BAD_FILE);
-    assert_eq!(shape_read(b"BNT\x01\x00\x02\x02\x03\x00\x00\x00(BB", &mut [], &mut fields), NOT_MERGED);
-    assert_eq!(shape_read(b"BNT\x01\x00\x02\x02\x03\x00\x00\x00(BW", &mut [], &mut fields), NO_ROOM);
-    assert_eq!(fields, [0, 0, 3]);
+}
+
+/// Whether a universe has the same bits along all axes, so that version 1 of a file can say it.
+fn has_equal_bits([axes, bits, frame_bits]: [u64; 3]) -> bool {
+    frame_bits <= MOST_BITS && (axes == 1 || bits == frame_bits)
+}
+
+#[test]
+fn shapes_of_both_versions() {
+    let number = |bytes: &[u8]| {
+        let mut fields = [9; 4];
+        (shape_read(bytes, &mut [], &mut fields), fields)
+    };
+    assert_eq!(number(b"BNT\x01\x00\x02\x02\x00\x00\x00\x00"), (BAD_EXPRESSION, [0; 4]));
+    assert_eq!(number(b"BNT\x01\x00\x02\x02\x01\x00\x00\x00"), (BAD_FILE, [0; 4]));
+    assert_eq!(number(b"BNT\x01\x00\x02\x02\x03\x00\x00\x00(BB"), (NOT_MERGED, [0; 4]));
+    assert_eq!(number(b"BNT\x01\x00\x02\x02\x03\x00\x00\x00(BW"), (NO_ROOM, [0, 0, 0, 3]));
+    assert_eq!(number(b"BNT\x02\x00\x02\x02\x02\x00\x00\x00\x00"), (BAD_EXPRESSION, [0; 4]));
+    assert_eq!(number(b"BNT\x02\x00\x02\x02\x02\x00\x00\x00"), (BAD_FILE, [0; 4]));
+    assert_eq!(number(b"BNT\x02\x00\x02\x02\x02\x03\x00\x00\x00(BB"), (NOT_MERGED, [0; 4]));
+    assert_eq!(number(b"BNT\x02\x00\x02\x02\x00\x03\x00\x00\x00(BW"), (NO_ROOM, [0, 0, 0, 3]));
+    // versions, and each number of the universe at both sides
+    for version in [0, 1, 2, 3, 257, 258] {
+        let wanted = if version == 1 || version == 2 { NO_ROOM } else { BAD_FILE };
+        assert_eq!(number(&shape_bytes(version, [2, 2, 2], b"B")).0, wanted, "version {version}");
+    }
+    let two = [[2, 10, 12], [1, 0, 12], [4, 0, 0], [2, 10, 13], [2, 11, 12], [1, 1, 12], [0, 0, 0], [5, 0, 0]];
+    for (place, universe) in two.into_iter().enumerate() {
+        let wanted = if place < 3 { NO_ROOM } else { BAD_UNIVERSE };
+        assert_eq!(number(&shape_bytes(2, universe, b"B")).0, wanted, "{universe:?}");
+    }
+    for (axes, bits) in [(1, 10), (2, 10), (1, 11), (1, 12), (2, 11)] {
+        let wanted = if bits == 10 { NO_ROOM } else { BAD_UNIVERSE };
+        assert_eq!(number(&shape_bytes(1, equal_bits(axes, bits), b"B")).0, wanted, "axes {axes} bits {bits}");
+    }
+    let (mut out, mut fields) = ([7; 1], [0; 4]);
+    assert_eq!(shape_read(&shape_bytes(1, equal_bits(1, 10), b"B"), &mut out, &mut fields), ACCEPTED);
+    assert_eq!((out, fields), (*b"B", [1, 0, 10, 1]));
+}
+
+/// The universe's axes by level, as digits.
+fn order_of(universe: [u64; 3]) -> String {
+    drawn(universe).order().iter().map(|axis| axis.to_string()).collect()
+}
+
+#[test]
+fn axes_take_turns() {
+    // as many frame bits as bits: axis l mod d
+    assert_eq!(order_of([2, 2, 2]), "0101");
+    assert_eq!(order_of([3, 2, 2]), "012012");
+    assert_eq!(order_of([4, 1, 1]), "0123");
+    // one more, and one fewer
+    assert_eq!(order_of([2, 1, 2]), "011");
+    assert_eq!(order_of([2, 2, 1]), "010");
+    assert_eq!(order_of([3, 1, 2]), "0122");
+    assert_eq!(order_of([3, 2, 1]), "01201");
+    assert_eq!(order_of([4, 1, 2]), "01233");
+    assert_eq!(order_of([4, 2, 1]), "0123012");
+    // none of either, and one axis
+    assert_eq!(order_of([3, 0, 2]), "22");
+    assert_eq!(order_of([3, 2, 0]), "0101");
+    assert_eq!(order_of([1, 0, 12]), "000000000000");
+    assert_eq!(order_of([4, 0, 0]), "");
+    // a shot far longer than the room is wide: six rounds of all, then frames alone
+    assert_eq!(order_of([4, 6, 11]), "0123".repeat(6) + "33333");
+    // each axis has its bits, and no more, in all of them
+    for axes in 1..=4 {
+        for bits in 0..=(if axes == 1 { 0 } else { 10 }) {
+            for frame_bits in 0..=12 {
+                let universe = drawn([axes, bits, frame_bits]);
+                assert_eq!(universe.levels() as u64, (axes - 1) * bits + frame_bits);
+                for axis in 0..universe.axes {
+                    let halvings = universe.order().iter().filter(|&&halved| halved == axis).count();
+                    assert_eq!(universe.side(axis), 1 << halvings);
+                }
+            }
+        }
+    }
+}
+
+#[test]
+fn universes_at_their_limits() {
+    let number = |axes, bits, frame_bits| {
+        Universe::checked(axes, bits, frame_bits).err().map_or(ACCEPTED, |refusal| refusal.number)
+    };
+    for (axes, bits, frame_bits) in [(1, 0, 0), (1, 0, 12), (2, 10, 0), (2, 0, 12), (4, 10, 12)] {
+        assert_eq!(number(axes, bits, frame_bits), ACCEPTED);
+    }
+    for (axes, bits, frame_bits) in [
+        (0, 0, 0), (5, 0, 0), (1, 1, 0), (1, 1, 12), (1, 10, 10), (1, 0, 13), (2, 11, 0), (2, 0, 13), (4, 10, 13),
+        (257, 2, 2), (2, 256, 2), (2, 2, 256), (2, 2, u64::MAX),
+    ] {
+        assert_eq!(number(axes, bits, frame_bits), BAD_UNIVERSE, "{axes} {bits} {frame_bits}");
+    }
+}
+
+#[test]
+fn bits_of_their_own() {
+    let raw_of_row = |universe: [u64; 3], row: [i64; 5]| {
+        let [axes, bits, frame_bits] = universe;
+        let (mut out, mut length) = ([0; 200], [0]);
+        assert_eq!(raw_one(axes, bits, frame_bits, &row, &[256], &mut out, &mut length), ACCEPTED);
+        String::from_utf8(out[..length[0] as usize].to_vec()).unwrap()
+    };
+    // a place of 1 or more
+    assert_eq!(raw_of_row([2, 1, 2], [-1, 1, 0, 0, 0]), "(WB");
+    // frame 1 or later: with a bit more the frame axis is halved alone in the last round, with one less it is passed over
+    assert_eq!(raw_of_row([2, 1, 2], [-1, 0, 1, 0, 0]), "(((WBB((WBB");
+    assert_eq!(raw_of_row([2, 2, 1], [-1, 0, 1, 0, 0]), "((WB(WB");
+    // frame 2 and later is decided by the first halving of frames
+    assert_eq!(raw_of_row([2, 1, 2], [-2, 0, 1, 0, 0]), "((WB(WB");
+    assert_eq!(raw_of_row([3, 1, 2], [-1, 0, 0, 1, 0]), "((((WBB((WBB(((WBB((WBB");
+    assert_eq!(raw_of_row([3, 2, 1], [-1, 0, 0, 1, 0]), "(((WB(WB((WB(WB");
+    let eight = |half: &str| format!("({0}{0}", format!("({0}{0}", format!("({half}{half}")));
+    assert_eq!(raw_of_row([4, 1, 2], [-1, 0, 0, 0, 1]), eight("((WBB"));
+    assert_eq!(raw_of_row([4, 2, 1], [-1, 0, 0, 0, 1]), eight("(WB"));
+    // no bits but the frames', and none of theirs: there is frame 0 alone, in whose middle a time from 1 on is WHITE
+    assert_eq!(raw_of_row([3, 0, 2], [-1, 0, 0, 1, 0]), "((WBB");
+    assert_eq!(raw_of_row([3, 2, 0], [-1, 0, 0, 1, 0]), "W");
+    assert_eq!(raw_of_row([1, 0, 2], [-1, 1, 0, 0, 0]), "((WBB");
+    // room of one leaf by hand: 1 + 2 (1 + 2 + 3), 1 + 2 (1 + 2 + 3), and no level above L
+    assert_eq!(room_at(2, 1, 2, 1), 13);
+    assert_eq!(room_at(2, 2, 1, 1), 13);
+    assert_eq!(room_at(3, 0, 2, 1), 7);
+    assert_eq!(room_at(3, 0, 0, 1), 1);
+    // one axis: of each level one block touches the low face
+    assert_eq!(room_at(1, 0, 12, 1), 25);
+    assert_eq!(room_at(1, 0, 12, u64::MAX), 8191);
+    // a window to the last of 4,096 frames, and past it
+    for universe in [[1, 0, 12], [2, 0, 12], [4, 0, 12]] {
+        assert_eq!(numbers_over(universe, b"B", 0, 4095), (ACCEPTED, [4096, 1, 0, 4095, 4096]));
+        assert_eq!(numbers_over(universe, b"B", 0, 4096), (OUTSIDE, [0; 5]));
+    }
+    assert_eq!(numbers_over([4, 10, 12], b"B", 4095, 4095), (ACCEPTED, [1 << 42, 1, 4095, 4095, 1 << 30]));
+    assert_eq!(numbers_over([2, 1, 2], b"((WBB", 0, 3), (ACCEPTED, [6, 1, 0, 3, 6]));
+    assert_eq!(numbers_over([2, 1, 2], b"((WBB", 0, 1), (ACCEPTED, [6, 1, 0, 1, 2]));
+    // places past a side are of no voxel, along each axis by its own bits
+    let mut answer = [9];
+    assert_eq!((colour(2, 1, 2, b"((WBW", 0, 3, 0, 0, &mut answer), answer), (ACCEPTED, [1]));
+    assert_eq!((colour(2, 1, 2, b"((WBW", 2, 0, 0, 0, &mut answer), answer), (OUTSIDE, [0]));
+    assert_eq!((colour(2, 1, 2, b"((WBW", 0, 4, 0, 0, &mut answer), answer), (OUTSIDE, [0]));
+    // halved as often as there are levels, and once more
+    assert_eq!(well_formed(2, 0, 2, b"((BWB"), ACCEPTED);
+    assert_eq!(well_formed(2, 0, 2, b"(((BWWB"), BAD_EXPRESSION);
+}
+
+/// A scene of both trees BLACK, of a version.
+fn black_scene(version: u64, [axes, bits, frame_bits]: [u64; 3], last_frame: u64) -> Vec<u8> {
+    let (rows, first, second) = (vec![], vec![1], vec![1]);
+    scene_bytes(&Scene { version, axes, bits, frame_bits, rows, first, second, first_frame: 0, last_frame })
+}
+
+#[test]
+fn scenes_of_both_versions() {
+    let lines = |bytes: &[u8]| clearance(bytes);
+    let hit = |first: &str, last, voxels: u64| {
+        format!("{first}\nleaves 0 raw 1 room 1\nhit first 0 last {last} voxels {voxels}\n")
+    };
+    assert_eq!(lines(&black_scene(1, [2, 2, 2], 3)), hit("axes 2 bits 2", 3, 16));
+    assert_eq!(lines(&black_scene(2, [2, 2, 2], 3)), hit("axes 2 bits 2 frame 2", 3, 16));
+    assert_eq!(lines(&black_scene(2, [2, 2, 0], 0)), hit("axes 2 bits 2 frame 0", 0, 4));
+    assert_eq!(lines(&black_scene(2, [4, 6, 11], 1099)), hit("axes 4 bits 6 frame 11", 1099, 1100 << 18));
+    // one axis: version 1 prints the file's own k, up to ten
+    assert_eq!(lines(&black_scene(1, equal_bits(1, 10), 1023)), hit("axes 1 bits 10", 1023, 1024));
+    assert_eq!(lines(&black_scene(1, equal_bits(1, 10), 1024)), "refused 9\n");
+    assert_eq!(lines(&black_scene(1, equal_bits(1, 11), 0)), "refused 2\n");
+    assert_eq!(lines(&black_scene(1, equal_bits(1, 12), 0)), "refused 2\n");
+    assert_eq!(lines(&black_scene(2, [1, 0, 12], 4095)), hit("axes 1 bits 0 frame 12", 4095, 4096));
+    assert_eq!(lines(&black_scene(2, [1, 0, 12], 4096)), "refused 9\n");
+    assert_eq!(lines(&black_scene(2, [1, 1, 12], 0)), "refused 2\n");
+    assert_eq!(lines(&black_scene(2, [1, 0, 13], 0)), "refused 2\n");
+    for version in [0, 3, 257, 258] {
+        assert_eq!(lines(&black_scene(version, [2, 2, 2], 3)), "refused 1\n");
+    }
+    // the zero byte of version 1
+    let mut file = black_scene(1, [2, 2, 2], 3);
+    file[7] = 2;
+    assert_eq!(lines(&file), "refused 1\n");
+    // what reading tells: version, axes, bits, frame bits, and the counts behind them
+    let tell = |file: &[u8]| {
+        let mut fields = [9; 9];
+        assert_eq!(scene(file, &mut [0; 1280], &mut [0; 255], &mut [0; 255], &mut fields), ACCEPTED);
+        fields
+    };
+    assert_eq!(tell(&black_scene(1, equal_bits(1, 10), 7)), [1, 1, 0, 10, 0, 1, 1, 0, 7]);
+    assert_eq!(tell(&black_scene(1, [2, 3, 3], 7)), [1, 2, 3, 3, 0, 1, 1, 0, 7]);
+    assert_eq!(tell(&black_scene(2, [2, 3, 12], 7)), [2, 2, 3, 12, 0, 1, 1, 0, 7]);
+}
+
+#[test]
+fn every_kind_is_drawn() {
+    let mut random = Random::new(16);
+    let mut met = std::collections::BTreeSet::new();
+    for _ in 0..20_000 {
+        let [axes, bits, frame_bits] = generate::universe(&mut random, 8);
+        let refused = Universe::checked(axes, bits, frame_bits).is_err();
+        met.insert(match (axes, bits, frame_bits) {
+            (1, 0, 12) => "one axis, all frame bits",
+            (1, 0, 13) => "one axis, a frame bit too many",
+            (1, 1.., 0..=12) if refused => "one axis with bits",
+            (2..=4, 0..=10, 13) => "a frame bit too many",
+            (2..=4, 11, 0..=12) => "a bit too many",
+            (1, ..) => "one axis",
+            _ if refused => "refused",
+            (_, 0, 1..) => "no bits",
+            (_, 1.., 0) => "no frame bits",
+            (_, k, f) if f > k => "longer than wide",
+            (_, k, f) if f < k => "wider than long",
+            _ => "as long as wide",
+        });
+        let (scene, shape) = (generate::scene_file(&mut random), generate::shape_file(&mut random));
+        if let Ok(scene) = scene_checked(&scene) {
+            met.insert(["no scene", "scene 1", "scene 2"][scene.version as usize]);
+        }
+        if shape_read(&shape, &mut [0; 2000], &mut [0; 4]) == ACCEPTED {
+            met.insert(["no shape", "shape 1", "shape 2"][shape[3] as usize]);
+        }
+    }
+    assert_eq!(met.len(), 16, "{met:?}");
+}
+
+#[test]
+fn every_report_is_drawn() {
+    let mut random = Random::new(11);
+    let mut met = std::collections::BTreeSet::new();
+    for _ in 0..20_000 {
+        let generate::ReportCase { list, window: (first, last), lent } = generate::report(&mut random);
+        let (mut counts, mut answer) = (vec![0; lent], [0; 2]);
+        let [axes, bits, frame_bits] = [list.axes, list.bits, list.frame_bits];
+        let number = report(axes, bits, frame_bits, &list.expression, first, last, &mut counts, &mut answer);
+        // of some frames, and of as many as there can be: the row too short, one short, whole, one too long, longer
+        if number == ACCEPTED || number == NO_ROOM {
+            met.insert((answer[0] == 4096, (lent as i64 - answer[0] as i64).clamp(-2, 2)));
+        }
+    }
+    assert_eq!(met.len(), 10, "{met:?}");
 }

@@ -16,18 +16,36 @@ struct Case {
     name: String,
     axes: u64,
     bits: u64,
+    frame_bits: u64,
     rows: Vec<i64>,
     first: Vec<u16>,
     second: Vec<u16>,
 }
 
-/// The halfspace of a plane that touches a ball, the ball inside; the centre is in halves.
-fn touching(normal: [f64; 4], twice_centre: [f64; 4], radius: f64, axes: usize) -> [i64; 5] {
+impl Case {
+    /// Its universe and its name; f is left out where it is k.
+    fn text(&self) -> String {
+        let frame_bits = if self.frame_bits == self.bits { String::new() } else { format!(" f {}", self.frame_bits) };
+        format!("d {} k {}{frame_bits} {}", self.axes, self.bits, self.name)
+    }
+}
+
+/// Axes, bits and frame bits; the length along an axis.
+type Bits = (u64, u64, u64);
+
+fn side((axes, bits, frame_bits): Bits, axis: usize) -> f64 {
+    (1u64 << if axis as u64 + 1 == axes { frame_bits } else { bits }) as f64
+}
+
+/// The halfspace of a plane that touches a ball, the ball inside; the centre is in halves. Where the frame axis is longer
+/// than the others, so is the ball along it.
+fn touching(normal: [f64; 4], twice_centre: [f64; 4], radius: f64, case: Bits) -> [i64; 5] {
+    let axes = case.0 as usize;
     let length = normal[..axes].iter().map(|n| n * n).sum::<f64>().sqrt();
     let mut row = [0; 5];
     let mut free = radius * 1000.0;
     for axis in 0..axes {
-        let scaled = (normal[axis] / length * 1000.0).round();
+        let scaled = (normal[axis] / length * 1000.0 * side(case, 0) / side(case, axis)).round();
         row[axis + 1] = -(scaled as i64);
         free += scaled * twice_centre[axis] / 2.0;
     }
@@ -46,13 +64,13 @@ fn direction(random: &mut Random) -> [f64; 4] {
 }
 
 /// The intersection of so many halfspaces that touch a ball.
-fn convex(random: &mut Random, rows: &mut Vec<i64>, leaves: usize, centre: f64, case: (u64, u64)) -> Vec<u16> {
-    let side = (1u64 << case.1) as f64;
+fn convex(random: &mut Random, rows: &mut Vec<i64>, leaves: usize, centre: f64, case: Bits) -> Vec<u16> {
+    let twice_centre = [0, 1, 2, 3].map(|axis| 2.0 * centre * side(case, axis));
     let mut words = Vec::new();
     for leaf in 0..leaves {
         let normal = direction(random);
         words.push(256 + (rows.len() / 5) as u16);
-        rows.extend(touching(normal, [2.0 * centre * side; 4], 0.4 * side, case.0 as usize));
+        rows.extend(touching(normal, twice_centre, 0.4 * side(case, 0), case));
         if leaf > 0 {
             words.push(3);
         }
@@ -61,17 +79,16 @@ fn convex(random: &mut Random, rows: &mut Vec<i64>, leaves: usize, centre: f64, 
 }
 
 /// A union of intersections of four halfspaces each, about different centres.
-fn clusters(random: &mut Random, rows: &mut Vec<i64>, leaves: usize, case: (u64, u64)) -> Vec<u16> {
-    let side = (1u64 << case.1) as f64;
+fn clusters(random: &mut Random, rows: &mut Vec<i64>, leaves: usize, case: Bits) -> Vec<u16> {
     let mut words = Vec::new();
     let mut begun = 0;
     while begun < leaves {
         let size = (leaves - begun).min(4);
-        let centre = [0; 4].map(|_: i32| 2.0 * side * random.between(200, 800) as f64 / 1000.0);
+        let centre = [0, 1, 2, 3].map(|axis| 2.0 * side(case, axis) * random.between(200, 800) as f64 / 1000.0);
         for leaf in 0..size {
             let normal = direction(random);
             words.push(256 + (rows.len() / 5) as u16);
-            rows.extend(touching(normal, centre, 0.25 * side, case.0 as usize));
+            rows.extend(touching(normal, centre, 0.25 * side(case, 0), case));
             if leaf > 0 {
                 words.push(3);
             }
@@ -85,7 +102,7 @@ fn clusters(random: &mut Random, rows: &mut Vec<i64>, leaves: usize, case: (u64,
 }
 
 /// The icosahedron: its face normals are the corners of a dodecahedron.
-fn icosahedron(rows: &mut Vec<i64>, centre: [f64; 4], radius: f64) -> Vec<u16> {
+fn icosahedron(rows: &mut Vec<i64>, centre: [f64; 4], radius: f64, case: Bits) -> Vec<u16> {
     let golden = (1.0 + 5f64.sqrt()) / 2.0;
     let signs = [1.0, -1.0];
     let mut normals = Vec::new();
@@ -103,7 +120,7 @@ fn icosahedron(rows: &mut Vec<i64>, centre: [f64; 4], radius: f64) -> Vec<u16> {
     let mut words = Vec::new();
     for (place, normal) in normals.into_iter().enumerate() {
         words.push(256 + (rows.len() / 5) as u16);
-        rows.extend(touching(normal, centre.map(|c| 2.0 * c), radius, 3));
+        rows.extend(touching(normal, centre.map(|c| 2.0 * c), radius, case));
         if place > 0 {
             words.push(3);
         }
@@ -116,32 +133,45 @@ fn cases() -> Vec<Case> {
     let mut cases = Vec::new();
     let sizes: [(&str, usize, usize); 5] =
         [("two planes", 1, 1), ("convex and convex", 4, 4), ("convex and union", 10, 10), ("convex and union", 32, 32), ("union and convex", 60, 66)];
-    for (axes, bits) in [(2, 6), (2, 10), (3, 4), (3, 6), (4, 3), (4, 4)] {
+    // rooms as long as wide, then long shots
+    let universes: [Bits; 9] =
+        [(2, 6, 6), (2, 10, 10), (3, 4, 4), (3, 6, 6), (4, 3, 3), (4, 4, 4), (2, 6, 11), (3, 4, 8), (4, 3, 6)];
+    for case in universes {
+        let (axes, bits, frame_bits) = case;
         for (name, one, two) in sizes {
             let mut rows = Vec::new();
             let (first, second) = match name {
                 "convex and union" => (
-                    convex(&mut random, &mut rows, one, 0.5, (axes, bits)),
-                    clusters(&mut random, &mut rows, two, (axes, bits)),
+                    convex(&mut random, &mut rows, one, 0.5, case),
+                    clusters(&mut random, &mut rows, two, case),
                 ),
                 "union and convex" => (
-                    clusters(&mut random, &mut rows, one, (axes, bits)),
-                    convex(&mut random, &mut rows, two, 0.5, (axes, bits)),
+                    clusters(&mut random, &mut rows, one, case),
+                    convex(&mut random, &mut rows, two, 0.5, case),
                 ),
                 _ => (
-                    convex(&mut random, &mut rows, one, 0.45, (axes, bits)),
-                    convex(&mut random, &mut rows, two, 0.55, (axes, bits)),
+                    convex(&mut random, &mut rows, one, 0.45, case),
+                    convex(&mut random, &mut rows, two, 0.55, case),
                 ),
             };
-            cases.push(Case { name: name.to_string(), axes, bits, rows, first, second });
+            cases.push(Case { name: name.to_string(), axes, bits, frame_bits, rows, first, second });
         }
-        if axes == 3 {
-            let side = (1u64 << bits) as f64;
+        if axes == 3 && frame_bits == bits {
+            let side = side(case, 0);
             let mut rows = Vec::new();
-            let first = icosahedron(&mut rows, [side / 2.0; 4], 0.4 * side);
-            cases.push(Case { name: "icosahedron".into(), axes, bits, rows: rows.clone(), first: first.clone(), second: vec![1] });
-            let second = icosahedron(&mut rows, [0.6 * side, 0.55 * side, 0.5 * side, 0.0], 0.3 * side);
-            cases.push(Case { name: "two icosahedra".into(), axes, bits, rows, first, second });
+            let first = icosahedron(&mut rows, [side / 2.0; 4], 0.4 * side, case);
+            let one = Case {
+                name: "icosahedron".into(),
+                axes,
+                bits,
+                frame_bits,
+                rows: rows.clone(),
+                first: first.clone(),
+                second: vec![1],
+            };
+            cases.push(one);
+            let second = icosahedron(&mut rows, [0.6 * side, 0.55 * side, 0.5 * side, 0.0], 0.3 * side, case);
+            cases.push(Case { name: "two icosahedra".into(), axes, bits, frame_bits, rows, first, second });
         }
     }
     cases
@@ -183,8 +213,8 @@ impl Table {
     fn row(&mut self, case: &Case, blocks: usize, words: usize, (library, plain): (f64, f64)) {
         let unit = 1e9 / (blocks as f64 * words as f64);
         println!(
-            "| d {} k {} {} | {blocks} | {words} | {:.2} | {:.2} | {:.2} |",
-            case.axes, case.bits, case.name, library * unit, plain * unit, library / plain,
+            "| {} | {blocks} | {words} | {:.2} | {:.2} | {:.2} |",
+            case.text(), library * unit, plain * unit, library / plain,
         );
         self.ratios.push(library / plain);
     }
@@ -198,7 +228,8 @@ impl Table {
 
 /// The plain side begins where the library does: with the checks.
 fn checked(case: &Case) -> Run {
-    Run::checked(case.axes, case.bits, &case.rows, &[&case.first, &case.second]).expect("in order")
+    let trees: [&[u16]; 2] = [&case.first, &case.second];
+    Run::checked(case.axes, case.bits, case.frame_bits, &case.rows, &trees).expect("in order")
 }
 
 fn words(case: &Case) -> usize {
@@ -213,8 +244,9 @@ fn raw(cases: &[Case], raws: &[Vec<u8>], title: &str, exact: bool) {
         let times = best(
             || {
                 let mut length = [0];
-                let number =
-                    face::raw_two(case.axes, case.bits, &case.rows, &case.first, &case.second, &mut out, &mut length);
+                let number = face::raw_two(
+                    case.axes, case.bits, case.frame_bits, &case.rows, &case.first, &case.second, &mut out, &mut length,
+                );
                 assert_eq!((number, length[0] as usize), (0, raw.len()));
                 black_box(&out);
             },
@@ -237,8 +269,9 @@ fn merged(cases: &[Case], raws: &[Vec<u8>], merged: &[Vec<u8>], title: &str, exa
         let times = best(
             || {
                 let mut length = [0];
-                let number =
-                    face::merged_two(case.axes, case.bits, &case.rows, &case.first, &case.second, &mut out, &mut length);
+                let number = face::merged_two(
+                    case.axes, case.bits, case.frame_bits, &case.rows, &case.first, &case.second, &mut out, &mut length,
+                );
                 assert_eq!((number, length[0] as usize), (0, merged.len()));
                 black_box(&out);
             },
@@ -255,8 +288,8 @@ fn merged(cases: &[Case], raws: &[Vec<u8>], merged: &[Vec<u8>], title: &str, exa
 
 /// The middle half of the frames.
 fn window(case: &Case) -> (u64, u64) {
-    let side = 1u64 << case.bits;
-    (side / 4, 3 * side / 4)
+    let frames = 1u64 << case.frame_bits;
+    (frames / 4, 3 * frames / 4)
 }
 
 fn numbers(cases: &[Case], expressions: &[Vec<u8>], title: &str) {
@@ -266,14 +299,15 @@ fn numbers(cases: &[Case], expressions: &[Vec<u8>], title: &str) {
             continue;
         }
         let (from, to) = window(case);
-        let fields = plain_numbers_fast(case.axes, case.bits, symbols, from, to).expect("well-formed");
+        let (axes, bits, frame_bits) = (case.axes, case.bits, case.frame_bits);
+        let fields = plain_numbers_fast(axes, bits, frame_bits, symbols, from, to).expect("well-formed");
         let times = best(
             || {
                 let mut answer = [0; 5];
-                let number = face::numbers(case.axes, case.bits, black_box(symbols), from, to, &mut answer);
+                let number = face::numbers(axes, bits, frame_bits, black_box(symbols), from, to, &mut answer);
                 assert_eq!((number, answer), (0, fields));
             },
-            || assert_eq!(plain_numbers_fast(case.axes, case.bits, black_box(symbols), from, to), Some(fields)),
+            || assert_eq!(plain_numbers_fast(axes, bits, frame_bits, black_box(symbols), from, to), Some(fields)),
         );
         table.row(case, symbols.len(), 1, times);
     }
@@ -291,28 +325,30 @@ fn reports(cases: &[Case], expressions: &[Vec<u8>], title: &str, copies: usize, 
             continue;
         }
         let (from, to) = window(case);
+        let (axes, bits, frame_bits) = (case.axes, case.bits, case.frame_bits);
         let list = expression.repeat(copies);
         let mut counts = vec![0; (to - from + 1) as usize];
         let mut fields = [0; 5];
-        assert_eq!(face::numbers(case.axes, case.bits, expression, from, to, &mut fields), 0);
+        assert_eq!(face::numbers(axes, bits, frame_bits, expression, from, to, &mut fields), 0);
         let (report, numbers) = best(
             || {
                 let mut answer = [0; 2];
-                let number = face::report(case.axes, case.bits, black_box(&list), from, to, &mut counts, &mut answer);
+                let list = black_box(&list);
+                let number = face::report(axes, bits, frame_bits, list, from, to, &mut counts, &mut answer);
                 assert_eq!((number, answer), (0, [to - from + 1, copies as u64 * fields[4]]));
             },
             || {
                 for expression in black_box(&list).chunks(expression.len()) {
                     let mut answer = [0; 5];
-                    let number = face::numbers(case.axes, case.bits, expression, from, to, &mut answer);
+                    let number = face::numbers(axes, bits, frame_bits, expression, from, to, &mut answer);
                     assert_eq!((number, answer), (0, fields));
                 }
             },
         );
         let unit = 1e9 / list.len() as f64;
         println!(
-            "| d {} k {} {} | {} | {:.2} | {:.2} | {:.2} |",
-            case.axes, case.bits, case.name, list.len(), report * unit, numbers * unit, report / numbers,
+            "| {} | {} | {:.2} | {:.2} | {:.2} |",
+            case.text(), list.len(), report * unit, numbers * unit, report / numbers,
         );
     }
 }
@@ -328,7 +364,8 @@ fn verdict(cases: &[Case], raws: &[Vec<u8>], title: &str, exact: bool) {
             || {
                 let mut answer = [0; 5];
                 let number = face::verdict(
-                    case.axes, case.bits, &case.rows, &case.first, &case.second, from, to, &mut out, &mut answer,
+                    case.axes, case.bits, case.frame_bits, &case.rows, &case.first, &case.second, from, to, &mut out,
+                    &mut answer,
                 );
                 assert_eq!((number, answer), (0, fields));
                 black_box(&out);
@@ -376,9 +413,9 @@ fn main() {
     merged(&cases, &raws, &short, "Merged, room lent for exactly the symbols", true);
     numbers(&cases, &raws, "Numbers of the raw expression over the middle half of the frames (per symbol)");
     numbers(&cases, &short, "Numbers of the merged expression over the middle half of the frames (per symbol)");
-    let (long, short_ones) = (10_000..usize::MAX, 1..200);
+    let (long, few) = (10_000..usize::MAX, 1..200);
     reports(&cases, &raws, "A report on one long raw expression beside its numbers (per symbol)", 1, long);
-    reports(&cases, &short, "A report on 256 short merged expressions beside their numbers (per symbol)", 256, short_ones);
+    reports(&cases, &short, "A report on 256 short merged expressions beside their numbers (per symbol)", 256, few);
     verdict(&cases, &raws, "Verdict on the middle half of the frames, room lent at the formula's size", false);
     verdict(&cases, &raws, "Verdict on the middle half of the frames, room lent for exactly the symbols", true);
 }

@@ -5,4 +5,12 @@ use Rattle.files.proofs.shape_file.header_of.Tie as tie
 
 pub header-of-spec : {M : Type 1} → statement M
 header-of-spec =
-    tie.close (tie.spec (λ c κs. search shape-laws) (λ c κs. search shape-laws) (λ c κs. search shape-laws) (λ c. search shape-laws) (λ c. search shape-laws))
+    tie.close
+    (tie.spec
+    (λ c κs. search shape-laws)
+    (λ c κs. search shape-laws)
+    (λ c κs. search shape-laws)
+    (λ c. search shape-laws)
+    (λ c κs. search shape-laws)
+    (λ c. search shape-laws)
+    (λ c. search shape-laws))

@@ -9,6 +9,12 @@ is-shape-spec =
     (tie.spec
     (λ c. search shape-laws)
     (λ c κs. search shape-laws)
+    (λ c κs. search shape-laws)
+    (λ c. search shape-laws)
+    (λ c κs. search shape-laws)
+    (λ c. search shape-laws)
+    (λ c κs. search shape-laws)
+    (λ c. search shape-laws)
     (λ c. search shape-laws)
     (λ c κs. search shape-laws)
     (λ c. search shape-laws)

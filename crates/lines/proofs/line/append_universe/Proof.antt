@@ -1,4 +1,4 @@
--- `append_universe` gives line 1: two words with their numbers, and the end.
+-- `append_universe` gives line 1: the axes, the bits, and the end.
 use Rattle.lines.proofs.Appended.{appended-then}
 use borrow.Author.Needs.{needs}
 use Rattle.lines.proofs.line.append_universe.Statement.{statement}
@@ -10,11 +10,8 @@ slice-aggregate-append-labelled c = search needs
 append-labelled-requires : tie.Need-append-labelled-requires
 append-labelled-requires c κs = search needs
 
-slice-aggregate-append-labelled-2 : tie.Need-slice-aggregate-append-labelled-2
-slice-aggregate-append-labelled-2 c = search needs
-
-append-labelled-requires-2 : tie.Need-append-labelled-requires-2
-append-labelled-requires-2 c κs = search needs
+append-bits-requires : tie.Need-append-bits-requires
+append-bits-requires c κs = search needs
 
 slice-aggregate-append-text : tie.Need-slice-aggregate-append-text
 slice-aggregate-append-text c = search needs
@@ -24,9 +21,8 @@ append-text-requires c κs = search needs
 
 returns : tie.Need-returns
 returns c =
-    let second = c .before .before .before in
-    let first = second .before .before .before in
-    appended-then (appended-then (first .append-labelled .ensures) (second .append-labelled2 .ensures)) (c .append-text .ensures)
+    let bits = c .before .before .before in
+    appended-then (appended-then (bits .before .before .append-labelled .ensures) (bits .append-bits .ensures)) (c .append-text .ensures)
 
 pub append-universe-spec : {M : Type 1} → statement M
 append-universe-spec =
@@ -34,8 +30,7 @@ append-universe-spec =
     (tie.spec
     slice-aggregate-append-labelled
     append-labelled-requires
-    slice-aggregate-append-labelled-2
-    append-labelled-requires-2
+    append-bits-requires
     slice-aggregate-append-text
     append-text-requires
     returns)

@@ -10,8 +10,8 @@ use mir.Val.{Fits}
 use Rattle.lemmas.proofs.Machine.{shifted-one}
 use Rattle.universe.specs.declared.Universe.{Universe}
 use Rattle.universe.specs.Refusals.{outside}
-use Rattle.universe.specs.Universe.{bitsAlong, frameAxis, frameCount}
 use Rattle.universe.specs.Voxel.{windowRefusal}
+use Rattle.universe.proofs.Universes.{frame-bits}
 use Rattle.universe.proofs.Universe.window_refusal.Statement.{statement}
 use Rattle.universe.proofs.Universe.window_refusal.Tie as tie
 
@@ -20,10 +20,13 @@ module _ (u : Universe) (first last : ℕ) where
   unfolding windowRefusal
   turned h = rw (lt-leb _ _ h)
 
-  module _ (k : first ≤ last) {bits : ℕ} (e : bits ≡ bitsAlong u (frameAxis u)) where
+  module _ (k : first ≤ last) where
+    abbrev bits : ℕ
+    bits = u .«frame_bits»
+
     inside : last < 2 ^ bits → 0 ≡ windowRefusal u first last
     unfolding windowRefusal
-    inside h = rw (le-leb _ _ k, lt-ltb last (frameCount u) (rw e at h))
+    inside h = rw (le-leb _ _ k, frame-bits u, lt-ltb last (2 ^ bits) h)
 
     every-frame : Fits w64 last → 63 < bits → 0 ≡ windowRefusal u first last
     every-frame f h = inside (omega (arith, pow-mono {i = 64} {j = bits} (omega arith)))
@@ -35,7 +38,7 @@ module _ (u : Universe) (first last : ℕ) where
     unfolding windowRefusal
     past-end f h =
         let past : 2 ^ bits ≤ last = rw (shifted-one bits (omega arith)) at h in
-        rw (le-leb _ _ k, le-ltb last (frameCount u) (rw e at past))
+        rw (le-leb _ _ k, frame-bits u, le-ltb last (2 ^ bits) past)
 
 ruleset telling = (needs, turned, every-frame, before-end, past-end)
 
@@ -43,7 +46,6 @@ pub window-refusal-spec : {M : Type 1} → statement M
 window-refusal-spec =
     tie.close
     (tie.spec
-    (λ c κs. search telling)
     (λ c. search telling)
     (λ c. search telling)
     (λ c. search telling)
