@@ -1,7 +1,7 @@
 /* Durbizhan: a clearance checker for animated shots. The face for C.
  *
- * Every function returns the number of its refusal, 0 where it accepts; durbizhan_leaves and durbizhan_lines alone
- * return a count.
+ * Every function returns the number of its refusal, 0 where it accepts; durbizhan_leaves, durbizhan_balls and
+ * durbizhan_lines alone return a count.
  * READ THE NUMBER FIRST. The rest of a refused answer is zeros: a refused verdict is Clear, a refused colour is WHITE,
  * and neither says anything about the shapes.
  * The numbers have names below, and DURBIZHAN_ is left off where one is named in a comment.
@@ -17,10 +17,14 @@
  * bits; along each other it is 2^bits units long, 0 to 10 bits. One axis counts frames alone, and bits is 0. The axes
  * are halved in turn, and one whose bits are used up is passed over.
  * rows: five numbers a0 to a4 to a halfspace, which holds where a0 + a1*x1 + .. + a4*x4 >= 0.
+ * balls: four numbers to a ball, three of its centre and its radius. It holds where the distance to the centre, along
+ * all axes but the last, is at most the radius, in all frames alike; with one axis that distance is 0. A centre number
+ * is at most 1,024 in size, and 0 for an axis that is not there or is the last; the radius is 0 to 1,024. There are at
+ * most 64 balls.
  * words: a tree in postfix order. 0 is WHITE, 1 BLACK; 2 joins by UNION, 3 by INTERSECTION, 4 by MINUS; 256 + i is
- * halfspace i.
- * A MINUS B is A where B is not: reversed, a halfspace has the opposite colour wherever it is decided and at every
- * centre, one on its plane too, so that A MINUS A is 'W' once merged.
+ * halfspace i, and 512 + i is ball i.
+ * A MINUS B is A where B is not: reversed, a halfspace or a ball has the opposite colour wherever it is decided and at
+ * every centre, one on its surface too, so that A MINUS A is 'W' once merged.
  * expressions: one byte a symbol, '(' then the low and the high half, 'B' or 'W'.
  */
 #ifndef DURBIZHAN_H
@@ -31,14 +35,16 @@
 
 /* Nothing is refused. */
 #define DURBIZHAN_ACCEPTED 0
-/* no scene or no shape: its mark, a version that is not 1 or 2, the zero byte of a scene of version 1, or its length */
+/* no scene or no shape: its mark, a version that is not 1 or 2 (of a scene 1 to 3), the zero byte of a scene of version
+ * 1, or its length */
 #define DURBIZHAN_BAD_FILE 1
 /* axes not 1 to 4, bits over 10, frame bits over 12, or bits not 0 where there is one axis */
 #define DURBIZHAN_BAD_UNIVERSE 2
-/* a row that is not five numbers, over 256 rows, a number past its limit, or not 0 for an axis that is not there */
+/* a row that is not five numbers or a ball that is not four, over 256 rows or 64 balls, a number past its limit, or not
+ * 0 for an axis that is not there (of a ball's centre: or that is the last) */
 #define DURBIZHAN_BAD_ROWS 3
-/* words that do not make one shape: none, one that means nothing or names no row, too few shapes for an operator, or
- * too many left */
+/* words that do not make one shape: none, one that means nothing or names no row and no ball, too few shapes for an
+ * operator, or too many left */
 #define DURBIZHAN_BAD_TREE 4
 /* more than 255 words, or more than 32 shapes pending */
 #define DURBIZHAN_OVERFULL_TREE 5
@@ -53,6 +59,14 @@
 /* a number of a proxy that is no whole number of sixteenths or is past its limit, or near over far */
 #define DURBIZHAN_BAD_PROXY 10
 
+/* The words that name the first halfspace and the first ball. */
+#define DURBIZHAN_FIRST_HALFSPACE 256
+#define DURBIZHAN_FIRST_BALL 512
+/* The most balls, the largest size of a centre number, and the largest radius. */
+#define DURBIZHAN_MOST_BALLS 64
+#define DURBIZHAN_CENTRE_LIMIT 1024
+#define DURBIZHAN_RADIUS_LIMIT 1024
+
 #ifdef __cplusplus
 extern "C" {
 #endif
@@ -60,20 +74,28 @@ extern "C" {
 /* How many words of one tree name a halfspace. Of a run with two trees, N is the sum. This is a count, no refusal. */
 uint64_t durbizhan_leaves(const uint16_t *words, size_t words_count);
 
-/* answer[0]: how many symbols an expression takes at the most, for N = leaves. A buffer this long is never refused
- * NO_ROOM by a conversion or a verdict; a shape file takes 12 bytes more. */
-uint64_t durbizhan_room(uint64_t axes, uint64_t bits, uint64_t frame_bits, uint64_t leaves, uint64_t answer[1]);
+/* How many words of one tree name a ball. They count nothing of N. This is a count, no refusal. */
+uint64_t durbizhan_balls(const uint16_t *words, size_t words_count);
+
+/* answer[0]: how many symbols an expression takes at the most, for N = leaves and so many words that name a ball: where
+ * there is one, every block counts, whatever N is. A buffer this long is never refused NO_ROOM by a conversion or a
+ * verdict; a shape file takes 12 bytes more. */
+uint64_t durbizhan_room(uint64_t axes, uint64_t bits, uint64_t frame_bits,
+                        uint64_t leaves, uint64_t balls,
+                        uint64_t answer[1]);
 
 /* The raw expression of one tree, and of two intersected, into out. answer[0]: the length written, or needed on
  * NO_ROOM. */
 uint64_t durbizhan_raw_one(uint64_t axes, uint64_t bits, uint64_t frame_bits,
                            const int64_t *rows, size_t rows_count,
+                           const int64_t *balls, size_t balls_count,
                            const uint16_t *words, size_t words_count,
                            uint8_t *out, size_t out_count,
                            uint64_t answer[1]);
 
 uint64_t durbizhan_raw_two(uint64_t axes, uint64_t bits, uint64_t frame_bits,
                            const int64_t *rows, size_t rows_count,
+                           const int64_t *balls, size_t balls_count,
                            const uint16_t *first, size_t first_count,
                            const uint16_t *second, size_t second_count,
                            uint8_t *out, size_t out_count,
@@ -83,12 +105,14 @@ uint64_t durbizhan_raw_two(uint64_t axes, uint64_t bits, uint64_t frame_bits,
  * NO_ROOM. */
 uint64_t durbizhan_merged_one(uint64_t axes, uint64_t bits, uint64_t frame_bits,
                               const int64_t *rows, size_t rows_count,
+                              const int64_t *balls, size_t balls_count,
                               const uint16_t *words, size_t words_count,
                               uint8_t *out, size_t out_count,
                               uint64_t answer[1]);
 
 uint64_t durbizhan_merged_two(uint64_t axes, uint64_t bits, uint64_t frame_bits,
                               const int64_t *rows, size_t rows_count,
+                              const int64_t *balls, size_t balls_count,
                               const uint16_t *first, size_t first_count,
                               const uint16_t *second, size_t second_count,
                               uint8_t *out, size_t out_count,
@@ -99,6 +123,7 @@ uint64_t durbizhan_merged_two(uint64_t axes, uint64_t bits, uint64_t frame_bits,
  * first: a refused verdict is Clear. */
 uint64_t durbizhan_verdict(uint64_t axes, uint64_t bits, uint64_t frame_bits,
                            const int64_t *rows, size_t rows_count,
+                           const int64_t *balls, size_t balls_count,
                            const uint16_t *first, size_t first_count,
                            const uint16_t *second, size_t second_count,
                            uint64_t first_frame, uint64_t last_frame,
@@ -150,13 +175,13 @@ uint64_t durbizhan_merge(uint64_t axes, uint64_t bits, uint64_t frame_bits,
                          uint8_t *out, size_t out_count,
                          uint64_t answer[2]);
 
-/* Reads a scene file, of version 1 or 2; its rows and the words of its two trees go to the front of the lent arrays.
- * answer: version, axes, bits, frame bits, rows, words of tree 1, words of tree 2, first frame, last frame. A row is
- * five numbers. Version 1 has one number, 0 to 10, for bits and frame bits; of one axis it is the frame bits, and bits
- * is 0. */
+/* Reads a scene file, of version 1 to 3; its rows, its balls and the words of its two trees go to the front of the lent
+ * arrays. answer: version, axes, bits, frame bits, rows, balls, words of tree 1, words of tree 2, first frame, last
+ * frame. A row is five numbers, a ball four. Version 1 has one number, 0 to 10, for bits and frame bits; of one axis it
+ * is the frame bits, and bits is 0. Versions 1 and 2 have no balls. */
 uint64_t durbizhan_scene(const uint8_t *bytes, size_t bytes_count,
-                         int64_t rows[1280], uint16_t first[255], uint16_t second[255],
-                         uint64_t answer[9]);
+                         int64_t rows[1280], int64_t balls[256], uint16_t first[255], uint16_t second[255],
+                         uint64_t answer[10]);
 
 /* The lines that the program prints for a scene file go to the front of out: 256 bytes are lent, no lines have more,
  * and nothing behind them is written to. Returns how many bytes the lines have; this is a count, no refusal. READ THE

@@ -19,13 +19,24 @@ static uint64_t named(const char *name)
 uint64_t durbizhan_leaves(const uint16_t *words, size_t words_count)
 {
     uint64_t count = 0;
-    for (size_t i = 0; i < words_count; i++) count += words[i] >= 256;
+    for (size_t i = 0; i < words_count; i++)
+        count += words[i] >= DURBIZHAN_FIRST_HALFSPACE && words[i] < DURBIZHAN_FIRST_BALL;
     return count;
 }
 
-uint64_t durbizhan_room(uint64_t axes, uint64_t bits, uint64_t frame_bits, uint64_t leaves, uint64_t answer[1])
+uint64_t durbizhan_balls(const uint16_t *words, size_t words_count)
 {
-    (void)axes, (void)bits, (void)frame_bits, (void)leaves;
+    uint64_t count = 0;
+    for (size_t i = 0; i < words_count; i++)
+        count += words[i] >= DURBIZHAN_FIRST_BALL && words[i] < DURBIZHAN_FIRST_BALL + DURBIZHAN_MOST_BALLS;
+    return count;
+}
+
+uint64_t durbizhan_room(uint64_t axes, uint64_t bits, uint64_t frame_bits,
+                        uint64_t leaves, uint64_t balls,
+                        uint64_t answer[1])
+{
+    (void)axes, (void)bits, (void)frame_bits, (void)leaves, (void)balls;
     uint64_t number = named("ROOM_NUMBER");
     answer[0] = number == DURBIZHAN_ACCEPTED ? named("ROOM") : 0;
     return number;
@@ -33,14 +44,16 @@ uint64_t durbizhan_room(uint64_t axes, uint64_t bits, uint64_t frame_bits, uint6
 
 uint64_t durbizhan_verdict(uint64_t axes, uint64_t bits, uint64_t frame_bits,
                            const int64_t *rows, size_t rows_count,
+                           const int64_t *balls, size_t balls_count,
                            const uint16_t *first, size_t first_count,
                            const uint16_t *second, size_t second_count,
                            uint64_t first_frame, uint64_t last_frame,
                            uint8_t *out, size_t out_count,
                            uint64_t answer[5])
 {
-    (void)axes, (void)bits, (void)frame_bits, (void)rows, (void)rows_count, (void)first, (void)first_count;
-    (void)second, (void)second_count, (void)first_frame, (void)last_frame, (void)out, (void)out_count;
+    (void)axes, (void)bits, (void)frame_bits, (void)rows, (void)rows_count, (void)balls, (void)balls_count;
+    (void)first, (void)first_count, (void)second, (void)second_count, (void)first_frame, (void)last_frame;
+    (void)out, (void)out_count;
     uint64_t number = named("VERDICT_NUMBER");
     memset(answer, 0, 5 * sizeof answer[0]);
     if (number == DURBIZHAN_ACCEPTED) answer[4] = LENGTH;

@@ -4,8 +4,9 @@
  * Each call is made on a stack of its own that is painted beforehand. What is painted no more was taken, the frame of
  * the call itself among it; two paints are tried, so that what is written in the colour of one is seen on the other.
  * The calls go the deepest way: to level 42 of axes 4, bits 10, frame bits 12, in the low halves and in the high ones,
- * with room short of the formula and with all of it, with the most rows and words, with 13 digits to print; and every
- * function is refused, too. A call that does not return the number that stands beside it fails: it did not go that way.
+ * with room short of the formula and with all of it, with the most rows, balls and words, with 13 digits to print; and
+ * every function is refused, too. A call that does not return the number that stands beside it fails: it did not go
+ * that way.
  */
 #define _GNU_SOURCE
 #include <inttypes.h>
@@ -26,6 +27,8 @@ struct scene {
     uint64_t axes, bits, frame_bits;
     const int64_t *rows;
     size_t rows_count;
+    const int64_t *balls;
+    size_t balls_count;
     const uint16_t *first;
     size_t first_count;
     const uint16_t *second;
@@ -38,44 +41,50 @@ static size_t bytes_count, path_count, lent, counts_count;
 static double corner;
 
 /* What it returned and wrote. */
-static uint64_t number, answer[9], counts[FRAMES];
-static int64_t rows[1280];
+static uint64_t number, answer[10], counts[FRAMES];
+static int64_t rows[1280], balls[256];
 static uint16_t first[255], second[255];
 
 /* The calls. */
 static void leaves(void) { number = durbizhan_leaves(scene.first, scene.first_count); }
 
-static void room(void) { number = durbizhan_room(axes, bits, frame_bits, UINT64_MAX, answer); }
+static void ball_words(void) { number = durbizhan_balls(scene.first, scene.first_count); }
+
+static void room(void) { number = durbizhan_room(axes, bits, frame_bits, UINT64_MAX, UINT64_MAX, answer); }
+
+static void room_without_balls(void) { number = durbizhan_room(axes, bits, frame_bits, UINT64_MAX, 0, answer); }
 
 static void raw_one(void)
 {
     number = durbizhan_raw_one(scene.axes, scene.bits, scene.frame_bits, scene.rows, scene.rows_count,
-                               scene.first, scene.first_count, out, lent, answer);
+                               scene.balls, scene.balls_count, scene.first, scene.first_count, out, lent, answer);
 }
 
 static void raw_two(void)
 {
     number = durbizhan_raw_two(scene.axes, scene.bits, scene.frame_bits, scene.rows, scene.rows_count,
-                               scene.first, scene.first_count, scene.second, scene.second_count, out, lent, answer);
+                               scene.balls, scene.balls_count, scene.first, scene.first_count,
+                               scene.second, scene.second_count, out, lent, answer);
 }
 
 static void merged_one(void)
 {
     number = durbizhan_merged_one(scene.axes, scene.bits, scene.frame_bits, scene.rows, scene.rows_count,
-                                  scene.first, scene.first_count, out, lent, answer);
+                                  scene.balls, scene.balls_count, scene.first, scene.first_count, out, lent, answer);
 }
 
 static void merged_two(void)
 {
     number = durbizhan_merged_two(scene.axes, scene.bits, scene.frame_bits, scene.rows, scene.rows_count,
-                                  scene.first, scene.first_count, scene.second, scene.second_count, out, lent, answer);
+                                  scene.balls, scene.balls_count, scene.first, scene.first_count,
+                                  scene.second, scene.second_count, out, lent, answer);
 }
 
 static void verdict(void)
 {
     number = durbizhan_verdict(scene.axes, scene.bits, scene.frame_bits, scene.rows, scene.rows_count,
-                               scene.first, scene.first_count, scene.second, scene.second_count, 0, last_frame, out,
-                               lent, answer);
+                               scene.balls, scene.balls_count, scene.first, scene.first_count,
+                               scene.second, scene.second_count, 0, last_frame, out, lent, answer);
     answer[0] = answer[4];
 }
 
@@ -103,7 +112,7 @@ static void part(void)
 
 static void merge(void) { number = durbizhan_merge(axes, bits, frame_bits, bytes, bytes_count, out, lent, answer); }
 
-static void read_scene(void) { number = durbizhan_scene(bytes, bytes_count, rows, first, second, answer); }
+static void read_scene(void) { number = durbizhan_scene(bytes, bytes_count, rows, balls, first, second, answer); }
 
 /* A line's number, where it is a refusal's. */
 static void lines(void)
@@ -178,32 +187,45 @@ static const int64_t halfspaces[] = {
 };
 enum { AND = 3, LOW = 256, HIGH = 260, OBLIQUE = 264 };
 
-/* The lowest voxel, the highest, and an oblique strip in the lowest place of two axes, which has many blocks. */
+/* Balls about the lowest corner and the highest, each of which holds the centre of the voxel there alone. */
+static const int64_t corners[] = {0, 0, 0, 1, 1024, 1024, 1024, 1};
+enum { LOW_BALL = DURBIZHAN_FIRST_BALL, HIGH_BALL };
+
+/* The lowest voxel, the highest, either by a ball, and an oblique strip in the lowest place of two axes, which has many
+ * blocks. */
 static const uint16_t low_voxel[] = {LOW, LOW + 1, AND, LOW + 2, AND, LOW + 3, AND};
 static const uint16_t high_voxel[] = {HIGH, HIGH + 1, AND, HIGH + 2, AND, HIGH + 3, AND};
+static const uint16_t low_ball[] = {LOW_BALL, LOW + 3, AND};
+static const uint16_t high_ball[] = {HIGH_BALL, HIGH + 3, AND};
 static const uint16_t strip[] = {OBLIQUE, OBLIQUE + 1, AND, LOW + 2, AND, LOW + 3, AND};
 static const uint16_t black[] = {1};
 
-/* The most rows, the most words, with 32 shapes pending on the way, and a word more. */
-static int64_t all_rows[1280];
+/* The most rows, the most balls, the most words, with 32 shapes pending on the way, and a word more. Behind those that
+ * are pending a halfspace and a ball take turns, 48 times. */
+static int64_t all_rows[1280], all_balls[256];
 static uint16_t all_words[256];
+enum { BALLS_NAMED = 48, LEAVES_NAMED = 80 };
 
 static void fill(void)
 {
     memcpy(all_rows, halfspaces, sizeof halfspaces);
+    for (size_t i = 0; i < COUNT(all_balls); i++) all_balls[i] = corners[i % 4];
     for (size_t i = 0; i < COUNT(all_words); i++)
-        all_words[i] = i < 32 ? LOW + i % 4 : i < 63 || i % 2 == 0 ? AND : LOW;
+        all_words[i] = i < 32 ? LOW + i % 4 : i < 63 || i % 2 == 0 ? AND : i % 4 == 3 ? LOW : LOW_BALL + i / 4;
 }
 
 #define SCENE(d, k, f, one, two) \
-    (struct scene){d, k, f, halfspaces, COUNT(halfspaces), one, COUNT(one), two, COUNT(two)}
+    (struct scene){d, k, f, halfspaces, COUNT(halfspaces), corners, COUNT(corners), one, COUNT(one), two, COUNT(two)}
 #define DEEPEST(one, two) SCENE(AXES, BITS, FRAME_BITS, one, two)
-#define LARGEST (struct scene){AXES, BITS, FRAME_BITS, all_rows, COUNT(all_rows), all_words, 255, all_words, 255}
+#define LARGEST \
+    (struct scene){AXES, BITS, FRAME_BITS, all_rows, COUNT(all_rows), all_balls, COUNT(all_balls), all_words, 255, \
+                   all_words, 255}
 
 static void conversions(const char *named, void (*call)(void))
 {
     const struct scene deep[] = {
-        DEEPEST(low_voxel, low_voxel), DEEPEST(high_voxel, high_voxel), LARGEST, DEEPEST(strip, black),
+        DEEPEST(low_voxel, low_voxel), DEEPEST(high_voxel, high_voxel), DEEPEST(low_ball, low_ball),
+        DEEPEST(high_ball, high_ball), LARGEST, DEEPEST(strip, black),
     };
     begin(named);
     last_frame = FRAMES - 1;
@@ -225,6 +247,11 @@ static void conversions(const char *named, void (*call)(void))
     scene = SCENE(5, BITS, FRAME_BITS, low_voxel, black);
     take(call, DURBIZHAN_BAD_UNIVERSE);
     scene = SCENE(1, 0, FRAME_BITS, low_voxel, black);
+    take(call, DURBIZHAN_BAD_ROWS);
+    scene.rows_count = 0;
+    take(call, DURBIZHAN_BAD_ROWS);
+    scene = LARGEST;
+    scene.balls_count--;
     take(call, DURBIZHAN_BAD_ROWS);
     scene = LARGEST;
     scene.first_count = 2;
@@ -298,17 +325,20 @@ static void put(uint64_t value, int length)
     for (int i = 0; i < length; i++) bytes[bytes_count++] = (uint8_t)(value >> 8 * i);
 }
 
-static void scene_file(struct scene of, uint64_t last)
+/* The file of a scene; version 3 alone has balls. */
+static void scene_file(uint64_t version, struct scene of, uint64_t last)
 {
     bytes_count = 0;
-    put(0x02435348, 4);
+    put(0x00435348 | version << 24, 4);
     put(of.axes << 8 | of.bits << 16 | of.frame_bits << 24, 4);
     put(of.rows_count / 5, 2);
     put(of.first_count, 2);
     put(of.second_count, 2);
     put(0, 2);
     put(last, 2);
+    if (version == 3) put(of.balls_count / 4, 2);
     for (size_t i = 0; i < of.rows_count; i++) put((uint64_t)of.rows[i], 8);
+    for (size_t i = 0; version == 3 && i < of.balls_count; i++) put((uint64_t)of.balls[i], 2);
     for (size_t i = 0; i < of.first_count; i++) put(of.first[i], 2);
     for (size_t i = 0; i < of.second_count; i++) put(of.second[i], 2);
 }
@@ -317,36 +347,45 @@ static void scene_file(struct scene of, uint64_t last)
 static void scenes(const char *named, void (*call)(void), uint64_t of_strip)
 {
     const struct scene taken_in[] = {
-        LARGEST, DEEPEST(low_voxel, low_voxel), DEEPEST(high_voxel, high_voxel), DEEPEST(black, black),
-        SCENE(AXES, 4, 5, low_voxel, black),
+        LARGEST, DEEPEST(low_voxel, low_voxel), DEEPEST(high_voxel, high_voxel), DEEPEST(low_ball, low_ball),
+        DEEPEST(high_ball, high_ball), DEEPEST(black, black), SCENE(AXES, 4, 5, low_voxel, black),
     };
     begin(named);
     for (size_t i = 0; i < COUNT(taken_in); i++) {
-        scene_file(taken_in[i], taken_in[i].bits == BITS ? FRAMES - 1 : 31);
+        scene_file(3, taken_in[i], taken_in[i].bits == BITS ? FRAMES - 1 : 31);
         take(call, DURBIZHAN_ACCEPTED);
     }
-    /* version 1 */
-    scene_file(SCENE(AXES, BITS, 0, low_voxel, low_voxel), SIDE - 1);
-    bytes[3] = 1;
+    scene_file(2, DEEPEST(low_voxel, low_voxel), FRAMES - 1);
     take(call, DURBIZHAN_ACCEPTED);
-    scene_file(DEEPEST(strip, black), FRAMES - 1);
+    scene_file(1, SCENE(AXES, BITS, 0, low_voxel, low_voxel), SIDE - 1);
+    take(call, DURBIZHAN_ACCEPTED);
+    scene_file(3, DEEPEST(strip, black), FRAMES - 1);
     take(call, of_strip);
-    scene_file(LARGEST, FRAMES);
+    scene_file(3, LARGEST, FRAMES);
     take(call, DURBIZHAN_OUTSIDE);
     bytes[5] = 1;
     bytes[6] = 0;
     take(call, DURBIZHAN_BAD_ROWS);
     bytes[6] = 1;
     take(call, DURBIZHAN_BAD_UNIVERSE);
-    bytes[3] = 3;
+    bytes[3] = 4;
     take(call, DURBIZHAN_BAD_FILE);
     struct scene wrong = LARGEST;
     wrong.second_count = 2;
-    scene_file(wrong, 0);
+    scene_file(3, wrong, 0);
     take(call, DURBIZHAN_BAD_TREE);
     wrong.second_count = 256;
-    scene_file(wrong, 0);
+    scene_file(3, wrong, 0);
     take(call, DURBIZHAN_OVERFULL_TREE);
+    /* a ball's number past its limit, and a ball word where there are no balls */
+    wrong = SCENE(AXES, BITS, FRAME_BITS, black, black);
+    static const int64_t too_large[] = {0, 0, 0, 1025};
+    wrong.balls = too_large;
+    wrong.balls_count = COUNT(too_large);
+    scene_file(3, wrong, 0);
+    take(call, DURBIZHAN_BAD_ROWS);
+    scene_file(2, DEEPEST(low_ball, black), 0);
+    take(call, DURBIZHAN_BAD_TREE);
     end();
 }
 
@@ -406,13 +445,17 @@ int main(void)
 
     begin("durbizhan_leaves");
     scene = LARGEST;
-    take(leaves, 128);
+    take(leaves, LEAVES_NAMED);
+    end();
+    begin("durbizhan_balls");
+    take(ball_words, BALLS_NAMED);
     end();
     begin("durbizhan_room");
     axes = AXES;
     bits = BITS;
     frame_bits = FRAME_BITS;
     take(room, DURBIZHAN_ACCEPTED);
+    take(room_without_balls, DURBIZHAN_ACCEPTED);
     frame_bits = FRAME_BITS + 1;
     take(room, DURBIZHAN_BAD_UNIVERSE);
     end();

@@ -17,7 +17,7 @@ const REPORT: &[u64] = &[0, 2, 6, 7, 9];
 const MERGE: &[u64] = &[0, 2, 6, 7];
 const LINES: &[u64] = &[0, 1, 2, 3, 4, 5, 6, 9];
 
-/// Two trees over rows, and a window.
+/// Two trees over rows and balls, and a window.
 #[derive(Clone)]
 struct Scene {
     version: u16,
@@ -25,6 +25,7 @@ struct Scene {
     bits: u64,
     frame_bits: u64,
     rows: Vec<i64>,
+    balls: Vec<i64>,
     first: Vec<u16>,
     second: Vec<u16>,
     window: [u64; 2],
@@ -33,8 +34,8 @@ struct Scene {
 /// The scene of examples/program.txt: a hit in frames 1 and 2, of 13 symbols.
 fn example() -> Scene {
     let rows = vec![0, 1, -1, 0, 0, 1, -1, 1, 0, 0, -2, 1, 0, 0, 0, 3, -1, 0, 0, 0];
-    let (first, second) = (vec![256, 257, 3], vec![258, 259, 3]);
-    Scene { version: 2, axes: 2, bits: 2, frame_bits: 2, rows, first, second, window: [0, 3] }
+    let (balls, first, second) = (vec![], vec![256, 257, 3], vec![258, 259, 3]);
+    Scene { version: 3, axes: 2, bits: 2, frame_bits: 2, rows, balls, first, second, window: [0, 3] }
 }
 
 /// The example with one thing changed, and the number that it then has.
@@ -49,6 +50,10 @@ fn scenes() -> Vec<(u64, Scene)> {
         changed(0, |scene| scene.window = [3, 3]),
         changed(0, |scene| scene.second = vec![0]),
         changed(0, |scene| scene.version = 1),
+        changed(0, |scene| scene.version = 2),
+        changed(0, |scene| (scene.balls, scene.second) = (vec![2, 0, 0, 1], vec![512])),
+        changed(0, |scene| (scene.balls, scene.second) = (vec![-1024, 0, 0, 1024, 1024, 0, 0, 0], vec![513, 512, 2])),
+        changed(0, |scene| (scene.balls, scene.first) = ([1, 0, 0, 0].repeat(64), vec![1, 575, 4])),
         changed(0, |scene| (scene.frame_bits, scene.window) = (12, [0, 4095])),
         changed(0, |scene| (scene.bits, scene.frame_bits, scene.window) = (1, 0, [0, 0])),
         changed(2, |scene| scene.axes = 0),
@@ -59,8 +64,16 @@ fn scenes() -> Vec<(u64, Scene)> {
         changed(3, |scene| (scene.axes, scene.bits) = (1, 0)),
         changed(3, |scene| scene.rows[3] = 1),
         changed(3, |scene| scene.rows[0] = (1 << 40) + 1),
+        changed(3, |scene| scene.balls = [1, 0, 0, 0].repeat(65)),
+        changed(3, |scene| scene.balls = vec![1025, 0, 0, 0]),
+        changed(3, |scene| scene.balls = vec![-1025, 0, 0, 0]),
+        changed(3, |scene| scene.balls = vec![0, 0, 0, 1025]),
+        changed(3, |scene| scene.balls = vec![0, 1, 0, 0]),
         changed(4, |scene| scene.first = vec![]),
         changed(4, |scene| scene.second = vec![260]),
+        changed(4, |scene| scene.second = vec![512]),
+        changed(4, |scene| (scene.balls, scene.second) = (vec![2, 0, 0, 1], vec![513])),
+        changed(4, |scene| (scene.balls, scene.second) = ([1, 0, 0, 0].repeat(64), vec![576])),
         changed(5, |scene| scene.first = vec![1; 33]),
         changed(5, |scene| scene.second = vec![1; 256]),
         changed(9, |scene| scene.window = [0, 4]),
@@ -78,7 +91,11 @@ impl Scene {
         let universe = [self.axes as u8, self.bits as u8, last];
         let mut file = [b"HSC".as_slice(), &self.version.to_le_bytes(), &universe].concat();
         file.extend([counts.as_slice(), &frames].concat().iter().flat_map(|number| number.to_le_bytes()));
+        if self.version == 3 {
+            file.extend((self.balls.len() as u16 / 4).to_le_bytes());
+        }
         file.extend(self.rows.iter().flat_map(|number| number.to_le_bytes()));
+        file.extend(self.balls.iter().flat_map(|number| (*number as u16).to_le_bytes()));
         file.extend([&self.first[..], &self.second].concat().iter().flat_map(|word| word.to_le_bytes()));
         file
     }
@@ -90,9 +107,10 @@ fn held<T: PartialEq + std::fmt::Debug>(what: &str, wanted: u64, number: u64, wr
     assert_eq!(wrapped, faced, "{what}: the wrapper's answer, and what the face's says, number {number}");
 }
 
-fn leaves() {
-    for words in [vec![], vec![256, 257, 3], vec![0, 1, 2, 255, 256, 511, 512]] {
+fn counts() {
+    for words in [vec![], vec![256, 257, 3], vec![0, 1, 2, 255, 256, 511, 512], vec![511, 512, 575, 576, 512]] {
         held("leaves", 0, 0, durbizhan::leaves(&words), face::leaves(&words));
+        held("balls", 0, 0, durbizhan::balls(&words), face::balls(&words));
     }
 }
 
@@ -115,27 +133,31 @@ fn rooms() -> Vec<u64> {
         (2, 2, 2, u64::MAX),
     ];
     for (wanted, axes, bits, frame_bits) in cases {
-        let mut answer = [u64::MAX];
-        let number = face::room(axes, bits, frame_bits, 4, &mut answer);
-        let faced = if number == ACCEPTED { Ok(answer[0]) } else { Err(Refused { number, needed: 0 }) };
-        held("room", wanted, number, durbizhan::room(Universe { axes, bits, frame_bits }, 4), faced);
+        for (leaves, balls) in [(4, 0), (4, 1), (0, 2), (0, u64::MAX)] {
+            let mut answer = [u64::MAX];
+            let number = face::room(axes, bits, frame_bits, leaves, balls, &mut answer);
+            let faced = if number == ACCEPTED { Ok(answer[0]) } else { Err(Refused { number, needed: 0 }) };
+            held("room", wanted, number, durbizhan::room(Universe { axes, bits, frame_bits }, leaves, balls), faced);
+        }
     }
     cases.map(|(wanted, ..)| wanted).to_vec()
 }
 
 /// The verdict of a scene with so much room lent.
 fn verdict(wanted: u64, scene: &Scene, lent: usize) {
-    let Scene { axes, bits, frame_bits, rows, first, second, window: [first_frame, last_frame], .. } = scene.clone();
+    let Scene { axes, bits, frame_bits, rows, balls, first, second, window, .. } = scene.clone();
+    let [first_frame, last_frame] = window;
     let universe = Universe { axes, bits, frame_bits };
     let [mut room, mut other_room] = [vec![b'.'; lent], vec![b'.'; lent]];
     let window = Window { first: first_frame, last: last_frame };
-    let wrapped = durbizhan::verdict(universe, &rows, &first, &second, window, &mut room);
+    let wrapped = durbizhan::verdict(universe, &rows, &balls, &first, &second, window, &mut room);
     let mut answer = [u64::MAX; 5];
     let number = face::verdict(
         axes,
         bits,
         frame_bits,
         &rows,
+        &balls,
         &first,
         &second,
         first_frame,
@@ -157,6 +179,8 @@ fn verdict(wanted: u64, scene: &Scene, lent: usize) {
 fn verdicts() -> Vec<u64> {
     let mut cases: Vec<_> = scenes().into_iter().map(|(wanted, scene)| (wanted, scene, 100)).collect();
     cases.extend([(ACCEPTED, example(), 13), (NO_ROOM, example(), 12), (NO_ROOM, example(), 0)]);
+    // balls that are not in fours, which no file says
+    cases.extend([1, 2, 3, 5].map(|count| (3, Scene { balls: vec![0; count], ..example() }, 100)));
     for (wanted, scene, lent) in &cases {
         verdict(*wanted, scene, *lent);
     }
@@ -294,7 +318,7 @@ fn lines() -> Vec<u64> {
 }
 
 fn main() {
-    leaves();
+    counts();
     let mut tried = 0;
     let tables = [
         (ROOM, rooms()),

@@ -30,6 +30,9 @@ static const int64_t rows[] = {
 };
 static const uint16_t first[] = {256, 257, 3};
 static const uint16_t second[] = {258, 259, 3};
+/* There are no balls: an empty buffer, too, has a pointer. */
+static const int64_t balls[1];
+enum { BALLS_COUNT = 0 };
 
 #define COUNT(array) (sizeof(array) / sizeof((array)[0]))
 
@@ -67,13 +70,15 @@ int main(int count, char **words)
     uint64_t room[1], verdict[5], numbers[5];
 
     uint64_t leaves = durbizhan_leaves(first, COUNT(first)) + durbizhan_leaves(second, COUNT(second));
-    uint64_t number = durbizhan_room(AXES, BITS, FRAME_BITS, leaves, room);
+    uint64_t ball_words = durbizhan_balls(first, COUNT(first)) + durbizhan_balls(second, COUNT(second));
+    uint64_t number = durbizhan_room(AXES, BITS, FRAME_BITS, leaves, ball_words, room);
     if (number != DURBIZHAN_ACCEPTED) return refused(number, 0);
     if (room[0] > sizeof out) return refused(DURBIZHAN_NO_ROOM, room[0]);
 
     /* The number is read first: a refused verdict is Clear. */
-    number = durbizhan_verdict(AXES, BITS, FRAME_BITS, rows, COUNT(rows), first, COUNT(first), second, COUNT(second),
-                               FIRST_FRAME, LAST_FRAME, out, sizeof out, verdict);
+    number = durbizhan_verdict(AXES, BITS, FRAME_BITS, rows, COUNT(rows), balls, BALLS_COUNT,
+                               first, COUNT(first), second, COUNT(second), FIRST_FRAME, LAST_FRAME,
+                               out, sizeof out, verdict);
     if (number != DURBIZHAN_ACCEPTED) return refused(number, verdict[4]);
 
     /* Asked for its numbers, the expression that was written has the same verdict; its volume stands before that. */

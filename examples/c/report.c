@@ -37,6 +37,9 @@ static const int64_t rows[] = {
 };
 static const uint16_t mover[] = {256, 257, 3};
 static const uint16_t walls[SHOTS][3] = {{258, 259, 3}, {260, 261, 3}};
+/* There are no balls: an empty buffer, too, has a pointer. */
+static const int64_t balls[1];
+enum { BALLS_COUNT = 0 };
 
 #define COUNT(array) (sizeof(array) / sizeof((array)[0]))
 
@@ -59,9 +62,9 @@ int main(void)
     /* The expressions stand one straight after another: each shot's intersection behind the one before it. */
     for (int shot = 0; shot < SHOTS; shot++) {
         uint64_t length[1];
-        uint64_t number = durbizhan_merged_two(AXES, BITS, FRAME_BITS, rows, COUNT(rows), mover, COUNT(mover),
-                                               walls[shot], COUNT(walls[shot]), expressions + start,
-                                               sizeof expressions - start, length);
+        uint64_t number = durbizhan_merged_two(AXES, BITS, FRAME_BITS, rows, COUNT(rows), balls, BALLS_COUNT,
+                                               mover, COUNT(mover), walls[shot], COUNT(walls[shot]),
+                                               expressions + start, sizeof expressions - start, length);
         if (number == DURBIZHAN_ACCEPTED) number = report(expressions + start, length[0], columns[shot]);
         if (number != DURBIZHAN_ACCEPTED) {
             printf("refused %" PRIu64 "\n", number);

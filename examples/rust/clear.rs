@@ -30,6 +30,7 @@ const ROWS: [i64; 20] = [
     -2, 1, 0, 0, 0, //
     3, -1, 0, 0, 0,
 ];
+const NO_BALLS: [i64; 0] = [];
 const FIRST: [u16; 3] = [256, 257, 3];
 const SECOND: [u16; 3] = [258, 259, 3];
 
@@ -37,9 +38,10 @@ fn judged() -> Result<String, Refused> {
     let universe = Universe { axes: 2, bits: 2, frame_bits: 2 };
     let window = Window { first: 0, last: 3 };
     let leaves = durbizhan::leaves(&FIRST) + durbizhan::leaves(&SECOND);
-    let room = durbizhan::room(universe, leaves)?;
+    let balls = durbizhan::balls(&FIRST) + durbizhan::balls(&SECOND);
+    let room = durbizhan::room(universe, leaves, balls)?;
     let mut out = vec![0; room as usize];
-    let found = durbizhan::verdict(universe, &ROWS, &FIRST, &SECOND, window, &mut out)?;
+    let found = durbizhan::verdict(universe, &ROWS, &NO_BALLS, &FIRST, &SECOND, window, &mut out)?;
     // asked for its numbers, the expression that was written has the same verdict
     let numbers = durbizhan::numbers(universe, &out[..found.length], window)?;
     assert_eq!(numbers.verdict, found.verdict);

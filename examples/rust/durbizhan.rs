@@ -6,7 +6,16 @@ mod face {
     extern "C" {
         pub fn durbizhan_leaves(words: *const u16, words_count: usize) -> u64;
 
-        pub fn durbizhan_room(axes: u64, bits: u64, frame_bits: u64, leaves: u64, answer: *mut [u64; 1]) -> u64;
+        pub fn durbizhan_balls(words: *const u16, words_count: usize) -> u64;
+
+        pub fn durbizhan_room(
+            axes: u64,
+            bits: u64,
+            frame_bits: u64,
+            leaves: u64,
+            balls: u64,
+            answer: *mut [u64; 1],
+        ) -> u64;
 
         pub fn durbizhan_verdict(
             axes: u64,
@@ -14,6 +23,8 @@ mod face {
             frame_bits: u64,
             rows: *const i64,
             rows_count: usize,
+            balls: *const i64,
+            balls_count: usize,
             first: *const u16,
             first_count: usize,
             second: *const u16,
@@ -126,22 +137,31 @@ pub struct Window {
     pub last: u64,
 }
 
+/// How many words of a tree name a halfspace.
 pub fn leaves(words: &[u16]) -> u64 {
     unsafe { face::durbizhan_leaves(words.as_ptr(), words.len()) }
 }
 
-pub fn room(universe: Universe, leaves: u64) -> Result<u64, Refused> {
+/// How many words of a tree name a ball.
+pub fn balls(words: &[u16]) -> u64 {
+    unsafe { face::durbizhan_balls(words.as_ptr(), words.len()) }
+}
+
+/// Room for a run with so many words that name a halfspace, and so many that name a ball.
+pub fn room(universe: Universe, leaves: u64, balls: u64) -> Result<u64, Refused> {
     let Universe { axes, bits, frame_bits } = universe;
     let mut answer = [0; 1];
-    match unsafe { face::durbizhan_room(axes, bits, frame_bits, leaves, &mut answer) } {
+    match unsafe { face::durbizhan_room(axes, bits, frame_bits, leaves, balls, &mut answer) } {
         ACCEPTED => Ok(answer[0]),
         number => Err(Refused { number, needed: 0 }),
     }
 }
 
+/// The verdict of two trees over a window. Of `rows` five numbers are a halfspace, of `balls` four are a ball.
 pub fn verdict(
     universe: Universe,
     rows: &[i64],
+    balls: &[i64],
     first: &[u16],
     second: &[u16],
     window: Window,
@@ -155,6 +175,8 @@ pub fn verdict(
             universe.frame_bits,
             rows.as_ptr(),
             rows.len(),
+            balls.as_ptr(),
+            balls.len(),
             first.as_ptr(),
             first.len(),
             second.as_ptr(),

@@ -1,5 +1,5 @@
 -- The worked cases hold: the closed ones by computation, both sides being computed and compared; the quantified ones since no level is
--- counted where there are no halfspace words, and there are no levels where there are no bits.
+-- counted where there are no halfspace words and no ball words, and there are no levels where there are no bits.
 use Prim.Native.Nat.{ℕ, zero, suc, _≤_}
 use mathlib.Core.Path.{_≡_, refl, sym, ap, _∙_}
 use mathlib.Core.List.{List, map}
@@ -24,9 +24,10 @@ use Rattle.bintree.specs.Counts.{volumeFrom, voxelsFrom}
 use Rattle.bintree.specs.Verdicts.{firstFrame, lastFrame, voxelsIn, verdict, numbersAnswer}
 use Rattle.bintree.proofs.Answers.{written-all}
 use Rattle.csg.specs.Halfspace.{withinLimits, rowsRefusal, centreValue, colourAtCentre, least, greatest, markOver}
+use Rattle.csg.specs.Ball.{ballWithin, ballsRefusal}
 use Rattle.csg.specs.Surfaces.{Surfaces}
 use Rattle.csg.specs.Tree.{Tree, plain, reversal}
-use Rattle.csg.specs.Words.{meaning, step, finish, run, parse, treeRefusal, treeOf, halfspaceWords}
+use Rattle.csg.specs.Words.{meaning, step, finish, run, parse, treeRefusal, treeOf, countWords}
 use Rattle.csg.specs.Marks.{unionMark, intersectionMark, unionColour, intersectionColour}
 use Rattle.csg.specs.Marks.{surfaceMark, surfaceColour, sideMark, sideColour, plainMark, plainColour}
 use Rattle.csg.specs.Raw.{examine, raw}
@@ -44,8 +45,8 @@ unfolding
     symbols size readLeaf withHigh readHalves readAt exactly expression expressionRefusal writtenAnswer writtenBuffer join merged
     isPair onward heldIn heldAfter largest mostHeld mergeAnswer mergeBuffer
     part colourAt colourAnswer volumeFrom voxelsFrom firstFrame lastFrame voxelsIn verdict numbersAnswer
-    withinLimits rowsRefusal centreValue colourAtCentre least greatest markOver plain reversal
-    meaning step finish run parse treeRefusal treeOf halfspaceWords
+    withinLimits rowsRefusal centreValue colourAtCentre least greatest markOver ballWithin ballsRefusal plain reversal
+    meaning step finish run parse treeRefusal treeOf countWords
     unionMark intersectionMark unionColour intersectionColour surfaceMark surfaceColour sideMark sideColour plainMark plainColour examine
     oneTreeChecks twoTreesChecks clearanceChecks rawOfOne rawOfTwo mergedOfOne mergedOfTwo
     rawOfOneAnswer rawOfOneBuffer mergedOfOneAnswer mergedOfOneBuffer rawOfTwoAnswer rawOfTwoBuffer clearanceAnswer clearanceBuffer
@@ -53,25 +54,25 @@ computed = refl
 
 -- ---- room
 
-room-is : (u : Universe) (leaves n : ℕ) → universeRefusal u ≡ 0 → room u leaves ≡ n → roomAnswer u leaves ≡ doneRoom n
+room-is : (u : Universe) (leaves balls n : ℕ) → universeRefusal u ≡ 0 → room u leaves balls ≡ n → roomAnswer u leaves balls ≡ doneRoom n
 unfolding roomAnswer
-room-is u leaves n z e = rw (eq-eqb (universeRefusal u) 0 z, e)
+room-is u leaves balls n z e = rw (eq-eqb (universeRefusal u) 0 z, e)
 
-nothing-counted : (u : Universe) (n : ℕ) → sum n (levelCount u 0) ≡ 0
+nothing-counted : (u : Universe) (n : ℕ) → sum n (levelCount u 0 0) ≡ 0
 unfolding sum levelCount
 nothing-counted u zero = refl
 nothing-counted u (suc n) = omega (arith, nothing-counted u n)
 
 no-leaves : NoLeavesRoom
 unfolding room
-no-leaves u z = room-is u 0 1 z (omega (arith, nothing-counted u (levels u)))
+no-leaves u z = room-is u 0 0 1 z (omega (arith, nothing-counted u (levels u)))
 
 no-levels : (d : ℕ) → levels (universe d 0) ≡ 0
 no-levels d = omega (arith, levels-product d 0 (omega arith))
 
 no-bits-room : NoBitsRoom
 unfolding room sum
-no-bits-room d leaves z = room-is (universe d 0) leaves 1 z (rw (no-levels d))
+no-bits-room d leaves balls z = room-is (universe d 0) leaves balls 1 z (rw (no-levels d))
 
 -- ---- one symbol
 

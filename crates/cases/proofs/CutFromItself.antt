@@ -8,6 +8,7 @@ use Rattle.bintree.specs.Shape.{symbols}
 use Rattle.bintree.specs.Answers.{writtenAnswer, writtenBuffer}
 use Rattle.bintree.specs.Merging.{join, merged}
 use Rattle.csg.specs.Halfspace.{withinLimits, rowsRefusal, centreValue, colourAtCentre, least, greatest, markOver}
+use Rattle.csg.specs.Ball.{ballWithin, ballsRefusal}
 use Rattle.csg.specs.Tree.{plain, reversal}
 use Rattle.csg.specs.Words.{meaning, step, finish, run, parse, treeRefusal, treeOf}
 use Rattle.csg.specs.Marks.{unionMark, intersectionMark, unionColour, intersectionColour}
@@ -21,7 +22,7 @@ unfolding
     sum total every
     round rounds universeRefusal equalBits bitsAlong levels order axisAt halvings blockSide overwritten
     symbols writtenAnswer writtenBuffer join merged
-    withinLimits rowsRefusal centreValue colourAtCentre least greatest markOver plain reversal
+    withinLimits rowsRefusal centreValue colourAtCentre least greatest markOver ballWithin ballsRefusal plain reversal
     meaning step finish run parse treeRefusal treeOf
     unionMark intersectionMark unionColour intersectionColour
     surfaceMark surfaceColour sideMark sideColour plainMark plainColour examine

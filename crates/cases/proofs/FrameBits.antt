@@ -13,6 +13,7 @@ use Rattle.bintree.specs.Merging.{join, merged}
 use Rattle.bintree.specs.Counts.{volumeFrom, voxelsFrom}
 use Rattle.bintree.specs.Verdicts.{firstFrame, lastFrame, voxelsIn, verdict, numbersAnswer}
 use Rattle.csg.specs.Halfspace.{withinLimits, rowsRefusal, centreValue, colourAtCentre, least, greatest, markOver}
+use Rattle.csg.specs.Ball.{ballWithin, ballsRefusal}
 use Rattle.csg.specs.Tree.{plain, reversal}
 use Rattle.csg.specs.Words.{meaning, step, finish, run, parse, treeRefusal, treeOf}
 use Rattle.csg.specs.Marks.{unionMark, intersectionMark, unionColour, intersectionColour}
@@ -28,7 +29,7 @@ unfolding
     windowRefusal blocksAt innerBlocksAt levelCount room roomAnswer
     symbols size readLeaf withHigh readHalves readAt exactly expression expressionRefusal writtenAnswer writtenBuffer join merged
     volumeFrom voxelsFrom firstFrame lastFrame voxelsIn verdict numbersAnswer
-    withinLimits rowsRefusal centreValue colourAtCentre least greatest markOver plain reversal
+    withinLimits rowsRefusal centreValue colourAtCentre least greatest markOver ballWithin ballsRefusal plain reversal
     meaning step finish run parse treeRefusal treeOf
     unionMark intersectionMark unionColour intersectionColour surfaceMark surfaceColour sideMark sideColour plainMark plainColour examine
     oneTreeChecks rawOfOne mergedOfOne rawOfOneAnswer rawOfOneBuffer mergedOfOneAnswer mergedOfOneBuffer

@@ -65,7 +65,7 @@ minus n = negℤ (pos n)
 
 -- room lent as the room question answers for so many leaves, with zeros in it
 abbrev pub roomFor : ℕ → List ℕ
-roomFor leaves = replicate (roomAnswer square leaves .symbols) 0
+roomFor leaves = replicate (roomAnswer square leaves 0 .symbols) 0
 
 -- a tree over its surfaces
 pub record Scene : Type 0 where
@@ -74,7 +74,7 @@ pub record Scene : Type 0 where
 
 -- case 1: a halfspace that is aslant
 abbrev pub slanted : Scene
-slanted = record { surfaces = surfacesOf (row (minus 2) (pos 2) (minus 1) []); words = 256 ∷ [] }
+slanted = record { surfaces = surfacesOf (row (minus 2) (pos 2) (minus 1) []) []; words = 256 ∷ [] }
 
 -- cases 2 and 3: a triangle, of three halfspaces intersected
 abbrev pub triangle : Scene
@@ -83,13 +83,14 @@ triangle =
       surfaces = surfacesOf
           (row (minus 2) (pos 1) (pos 0)
           (row (minus 2) (pos 0) (pos 1)
-          (row (pos 6) (minus 1) (minus 1) [])));
+          (row (pos 6) (minus 1) (minus 1) [])))
+          [];
       words = 256 ∷ 257 ∷ 258 ∷ 3 ∷ 3 ∷ [];
     }
 
 -- case 6: the all-zero halfspace
 abbrev pub allZero : Scene
-allZero = record { surfaces = surfacesOf (row (pos 0) (pos 0) (pos 0) []); words = 256 ∷ [] }
+allZero = record { surfaces = surfacesOf (row (pos 0) (pos 0) (pos 0) []) []; words = 256 ∷ [] }
 
 -- cases 4 and 5: the two strips of examples/program.txt
 abbrev pub strips : Surfaces
@@ -99,6 +100,7 @@ strips =
     (row (pos 1) (minus 1) (pos 1)
     (row (minus 2) (pos 1) (pos 0)
     (row (pos 3) (minus 1) (pos 0) []))))
+    []
 
 abbrev pub moving : List ℕ
 moving = 256 ∷ 257 ∷ 3 ∷ []
@@ -206,7 +208,7 @@ doneRoom symbols = record { refusal = 0; symbols = symbols }
 
 -- the number that a tree of one word is refused with, where there are so many halfspaces
 abbrev pub wordRefusal : ℕ → ℕ → Value
-wordRefusal rows word = number (treeRefusal (record { halfspaces = rows }) (word ∷ []))
+wordRefusal rows word = number (treeRefusal (record { halfspaces = rows; balls = 0 }) (word ∷ []))
 
 -- the closed cases, by their numbers
 abbrev pub closed : List Case
@@ -216,7 +218,7 @@ closed =
     ∷ (rawOf slanted is writes 15 "(((W(BWW(B((BWB" 8)
     ∷ (mergedOf slanted is writes 15 "(((W(BWW(B((BWB" 8)
     ∷ (number (volumeOf slanted) is number 8)
-    ∷ (room (roomAnswer square (halfspaceWords (slanted .words))) is room (doneRoom 23))
+    ∷ (room (roomAnswer square (halfspaceWords (slanted .words)) 0) is room (doneRoom 23))
     -- 2
     ∷ (number (oneTreeRefusal square (triangle .surfaces) (triangle .words)) is number 0)
     ∷ (rawOf triangle is writes 11 "(W(W((BB(BW" 20)
@@ -240,8 +242,8 @@ closed =
     ∷ (number (oneTreeRefusal square (allZero .surfaces) (allZero .words)) is number 0)
     ∷ (rawOf allZero is writes 1 "B" 22)
     -- 7
-    ∷ (room (roomAnswer square 2) is room (doneRoom 31))
-    ∷ (room (roomAnswer (universe 2 1) 1) is room (doneRoom 7))
+    ∷ (room (roomAnswer square 2 0) is room (doneRoom 31))
+    ∷ (room (roomAnswer (universe 2 1) 1 0) is room (doneRoom 7))
     -- 9
     ∷ (number (wellFormedRefusal square (text "(BB")) is number 0)
     ∷ (mergingOf "(BB" is merges 1 2 "B" 22)
@@ -265,13 +267,14 @@ closed =
     ∷ (mergingInto [] "(B(B(B(BW" is merging (shortMerging 9) [])
     ∷ []
 
--- 6: where no word names a halfspace, room is 1, in every universe
+-- 6: where no word names a halfspace or a ball, room is 1, in every universe
 abbrev pub NoLeavesRoom : Type 0
-NoLeavesRoom = (u : Universe) → universeRefusal u ≡ 0 → roomAnswer u 0 ≡ doneRoom 1
+NoLeavesRoom = (u : Universe) → universeRefusal u ≡ 0 → roomAnswer u 0 0 ≡ doneRoom 1
 
 -- 8: without bits there is room for one symbol, and one is written, for all axes, surfaces and trees
 abbrev pub NoBitsRoom : Type 0
-NoBitsRoom = (d leaves : ℕ) → universeRefusal (universe d 0) ≡ 0 → roomAnswer (universe d 0) leaves ≡ doneRoom 1
+NoBitsRoom = (d leaves balls : ℕ)
+    → universeRefusal (universe d 0) ≡ 0 → roomAnswer (universe d 0) leaves balls ≡ doneRoom 1
 
 abbrev pub NoBitsOne : Type 0
 NoBitsOne = (d : ℕ) (surfaces : Surfaces) (words out : List ℕ)

@@ -26,8 +26,8 @@ pub record Called : Type 0 where
 abbrev pub converted : List ℕ → Called
 converted words =
     record {
-      answer = mergedOfOneAnswer square (surfacesOf planes) words (text "..");
-      left = mergedOfOneBuffer square (surfacesOf planes) words (text "..");
+      answer = mergedOfOneAnswer square (surfacesOf planes []) words (text "..");
+      left = mergedOfOneBuffer square (surfacesOf planes []) words (text "..");
     }
 
 abbrev pub cut : List ℕ → Called

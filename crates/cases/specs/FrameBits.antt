@@ -32,14 +32,14 @@ universeOf d k f = record { axes = d; bits = k; «frame_bits» = f }
 
 -- twice the place along the first axis less the time
 abbrev pub slanted : Universe → Surfaces
-slanted u = surfacesOf (set (pos 0 ∷ pos 2 ∷ pos 0 ∷ pos 0 ∷ pos 0 ∷ []) (suc (frameAxis u)) (negℤ (pos 1)))
+slanted u = surfacesOf (set (pos 0 ∷ pos 2 ∷ pos 0 ∷ pos 0 ∷ pos 0 ∷ []) (suc (frameAxis u)) (negℤ (pos 1))) []
 
 -- room for it, and what its conversion leaves in that room
 abbrev pub roomOf : Universe → List ℕ
-roomOf u = roomAnswer u 1 .symbols ∷ []
+roomOf u = roomAnswer u 1 0 .symbols ∷ []
 
 abbrev pub lent : Universe → List ℕ
-lent u = replicate (roomAnswer u 1 .symbols) 0
+lent u = replicate (roomAnswer u 1 0 .symbols) 0
 
 abbrev pub rawOf : Universe → List ℕ
 rawOf u =

@@ -4,3 +4,4 @@ pub mod CutFromItself
 pub mod Numbers
 pub mod FrameBits
 pub mod Reports
+pub mod Balls

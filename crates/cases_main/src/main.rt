@@ -46,16 +46,16 @@ fn one_tree(label: &[u8], rows: &[i64], words: &[u16]) {
     say(label);
     say(b"\n");
     let mut room = [b'.'; LENT];
-    let answer = convert::raw_of_one(square(), rows, words, &mut room);
+    let answer = convert::raw_of_one(square(), rows, &[], words, &mut room);
     written(b"raw", answer, &room);
     let mut room = [b'.'; LENT];
-    let answer = convert::merged_of_one(square(), rows, words, &mut room);
+    let answer = convert::merged_of_one(square(), rows, &[], words, &mut room);
     written(b"merged", answer, &room);
 }
 
 // Two trees, raw, in the room lent.
 fn two_trees(label: &[u8], rows: &[i64], first: &[u16], second: &[u16], room: &mut [u8]) {
-    let answer = convert::raw_of_two(square(), rows, first, second, room);
+    let answer = convert::raw_of_two(square(), rows, &[], first, second, room);
     written(label, answer, room);
 }
 
@@ -115,6 +115,7 @@ fn window(first_frame: u64, last_frame: u64, room: &mut [u8]) {
     let answer = convert::verdict_of_two(
         square(),
         &rows,
+        &[],
         &first,
         &second,
         first_frame,
@@ -134,7 +135,7 @@ fn next_number(n: u64) {
 fn scene(label: &[u8], universe: Universe, rows: &[i64], first: &[u16], second: &[u16]) {
     say(b"scene: ");
     say(label);
-    next_number(convert::scene_refusal(universe, rows, first, second));
+    next_number(convert::scene_refusal(universe, rows, &[], first, second));
     say(b"\n");
 }
 

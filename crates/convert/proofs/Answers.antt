@@ -24,11 +24,12 @@ use Rattle.bintree.proofs.Lays.{laid-noted}
 use Rattle.bintree.proofs.Answers.{written-refused, kept-refused, written-short, kept-short, written-all, left-all}
 use Rattle.lemmas.proofs.Stores.{sets-first, sets-front}
 use Rattle.csg.specs.Halfspace.{rowsRefusal}
+use Rattle.csg.specs.Ball.{ballsRefusal}
 use Rattle.csg.specs.Surfaces.{Surfaces, named}
-use Rattle.csg.specs.Tree.{leaves}
-use Rattle.csg.specs.Words.{treeRefusal, halfspaceWords}
+use Rattle.csg.specs.Tree.{countLeaves}
+use Rattle.csg.specs.Words.{treeRefusal, halfspaceWords, ballWords}
 use Rattle.csg.specs.Raw.{raw}
-use Rattle.csg.proofs.Words.{accepted-length, tree-leaves}
+use Rattle.csg.proofs.Words.{accepted-length, tree-leaves, tree-balls}
 use Rattle.demands.proofs.Room.{raw-room}
 use Rattle.convert.specs.declared.lay.Piece.{Piece}
 use Rattle.convert.specs.Blocks.{Ready, RoomReady, Standing, treesOf, wholeSides}
@@ -53,17 +54,28 @@ module _ (u : Universe) (surfaces : Surfaces) (first second : List ℕ) where
     refused-rows {n} e h = (rw (← ea, eq-eqb a 0 za, ← e, ne-eqb n 0 h), λ z. absurd (h z))
 
     module _ {b : ℕ} (eb : b ≡ rowsRefusal u (surfaces .rows)) (zb : b ≡ 0) where
-      pub refused-first : {n : ℕ} → n ≡ treeRefusal (named surfaces) first → (n ≡ 0 → ⊥) → Checked n
+      pub refused-balls : {n : ℕ} → n ≡ ballsRefusal u (surfaces .balls) → (n ≡ 0 → ⊥) → Checked n
       unfolding twoTreesChecks
-      refused-first {n} e h = (rw (← ea, eq-eqb a 0 za, ← eb, eq-eqb b 0 zb, ← e, ne-eqb n 0 h), λ z. absurd (h z))
+      refused-balls {n} e h = (rw (← ea, eq-eqb a 0 za, ← eb, eq-eqb b 0 zb, ← e, ne-eqb n 0 h), λ z. absurd (h z))
 
-      module _ {d : ℕ} (ed : d ≡ treeRefusal (named surfaces) first) (zd : d ≡ 0) where
-        pub checked-second : {n : ℕ} → n ≡ treeRefusal (named surfaces) second → Checked n
+      module _ {f : ℕ} (ef : f ≡ ballsRefusal u (surfaces .balls)) (zf : f ≡ 0) where
+        pub refused-first : {n : ℕ} → n ≡ treeRefusal (named surfaces) first → (n ≡ 0 → ⊥) → Checked n
         unfolding twoTreesChecks
-        checked-second {n} e = (
-          rw (← ea, eq-eqb a 0 za, ← eb, eq-eqb b 0 zb, ← ed, eq-eqb d 0 zd, ← e) (sym (last-check n)),
-          λ z. record { accepted-universe = sym ea ∙ za; accepted-rows = sym eb ∙ zb; accepted-first = sym ed ∙ zd; accepted-second = sym e ∙ z },
-        )
+        refused-first {n} e h = (rw (← ea, eq-eqb a 0 za, ← eb, eq-eqb b 0 zb, ← ef, eq-eqb f 0 zf, ← e, ne-eqb n 0 h), λ z. absurd (h z))
+
+        module _ {d : ℕ} (ed : d ≡ treeRefusal (named surfaces) first) (zd : d ≡ 0) where
+          pub checked-second : {n : ℕ} → n ≡ treeRefusal (named surfaces) second → Checked n
+          unfolding twoTreesChecks
+          checked-second {n} e = (
+            rw (← ea, eq-eqb a 0 za, ← eb, eq-eqb b 0 zb, ← ef, eq-eqb f 0 zf, ← ed, eq-eqb d 0 zd, ← e) (sym (last-check n)),
+            λ z. record {
+              accepted-universe = sym ea ∙ za;
+              accepted-rows = sym eb ∙ zb;
+              accepted-balls = sym ef ∙ zf;
+              accepted-first = sym ed ∙ zd;
+              accepted-second = sym e ∙ z;
+            },
+          )
 
 -- ---- the whole universe's block, and what its recursion writes
 module _ {u : Universe} {surfaces : Surfaces} {first second : List ℕ} (r : Ready u surfaces first second) where
@@ -94,16 +106,23 @@ module _ {u : Universe} {surfaces : Surfaces} {first second : List ℕ} (r : Rea
 
   -- ---- room that is as large as the formula says suffices
   module _ (m : Bool) where
-    in-room : length (writtenOfTwo m u surfaces first second) ≤ room u (halfspaceWords first + halfspaceWords second)
-    unfolding writtenOfTwo leaves
+    abbrev roomOf : ℕ
+    roomOf = room u (halfspaceWords first + halfspaceWords second) (ballWords first + ballWords second)
+
+    in-room : length (writtenOfTwo m u surfaces first second) ≤ roomOf
+    unfolding writtenOfTwo countLeaves
     in-room =
         let s = raw u surfaces (treesOf surfaces first second) in
         let e = raw-room u (r .accepted-universe) surfaces (treesOf surfaces first second) in
-        rw (← tree-leaves (named surfaces) first (r .accepted-first), ← tree-leaves (named surfaces) second (r .accepted-second))
+        rw (
+          ← tree-leaves (named surfaces) first (r .accepted-first),
+          ← tree-leaves (named surfaces) second (r .accepted-second),
+          ← tree-balls (named surfaces) first (r .accepted-first),
+          ← tree-balls (named surfaces) second (r .accepted-second),
+        )
         (omega (arith, e, shaped-size m s, length-symbols s, length-symbols (shaped m s)))
 
-    pub room-suffices : {x lent k : ℕ} → x ≡ room u (halfspaceWords first + halfspaceWords second) → x ≤ lent →
-        k ≡ length (writtenOfTwo m u surfaces first second) → k ≤ lent
+    pub room-suffices : {x lent k : ℕ} → x ≡ roomOf → x ≤ lent → k ≡ length (writtenOfTwo m u surfaces first second) → k ≤ lent
     room-suffices e h l = omega (arith, in-room)
 
   pub room-ready : RoomReady u first second
@@ -114,13 +133,12 @@ module _ {u : Universe} {surfaces : Surfaces} {first second : List ℕ} (r : Rea
         second-few = accepted-length (named surfaces) second (r .accepted-second);
       }
 
--- the room question's answer, for leaves that two calls counted
-pub room-is : (u : Universe) (first second : List ℕ) {x y : ℕ} {answer : RoomAnswer} → universeRefusal u ≡ 0 →
-    x ≡ halfspaceWords first → y ≡ halfspaceWords second → answer ≡ roomAnswer u (x + y) →
-    answer .symbols ≡ room u (halfspaceWords first + halfspaceWords second)
+-- the room question's answer, for leaves and balls that calls counted
+pub room-is : (u : Universe) (first second : List ℕ) {x y b d : ℕ} {answer : RoomAnswer} → universeRefusal u ≡ 0 →
+    x ≡ halfspaceWords first → y ≡ halfspaceWords second → b ≡ ballWords first → d ≡ ballWords second → answer ≡ roomAnswer u (x + y) (b + d) →
+    answer .symbols ≡ room u (halfspaceWords first + halfspaceWords second) (ballWords first + ballWords second)
 unfolding roomAnswer
-room-is u first second {x} {y} z p q e =
-    ap (λ (a : RoomAnswer). a .symbols) e ∙ rw (eq-eqb (universeRefusal u) 0 z) (ap₂ (λ (a b : ℕ). room u (a + b)) p q)
+room-is u first second z p q s t e = ap (λ (a : RoomAnswer). a .symbols) e ∙ rw (eq-eqb (universeRefusal u) 0 z, p, q, s, t)
 
 -- ---- the ends of a conversion that writes these symbols
 module _ (out written : List ℕ) where

@@ -8,14 +8,17 @@ use native.Mathlib.Nat.{le-refl, le-trans}
 use native.Mathlib.Omega.{arith}
 use borrow.Author.Tests.{leb-true}
 use lib.Dec.{eqb, leb, ltb, eqb·suc-zero}
-use lib.IntN.{ℤ, natAbs}
+use lib.IntN.{ℤ, pos, natAbs}
+use lib.Signed.{_≤ℤ_, leZ}
 use lib.ListN.{length}
 use Rattle.lemmas.specs.Sums.{every}
 use Rattle.lemmas.proofs.Sums.{and-left, and-right, every-all}
+use Rattle.lemmas.proofs.Whole.{ι, ν, one-part, le-of, leZ-true}
+use Rattle.lemmas.proofs.Machine.{natAbs-parts}
 use Rattle.universe.specs.declared.Universe.{Universe}
 use Rattle.universe.specs.declared.Block.{Block}
 use Rattle.universe.specs.Refusals.{badRows}
-use Rattle.universe.specs.Universe.{mostAxes, offsetLimit, coefficientLimit, levels, blockSide}
+use Rattle.universe.specs.Universe.{mostAxes, offsetLimit, coefficientLimit, centreLimit, radiusLimit, levels, blockSide}
 use Rattle.universe.specs.Block.{low, high}
 use Rattle.universe.specs.Voxel.{Within}
 use Rattle.universe.proofs.Refusing.{unless-holds}
@@ -24,18 +27,20 @@ use Rattle.bintree.specs.declared.Colour.{Colour}
 use Rattle.bintree.specs.declared.Colour.the-variants.{White, Black}
 use Rattle.bintree.specs.Shape.{leaf, halved}
 use Rattle.csg.specs.Halfspace.{Halfspace, Mark, decided, undecided, rowCount, rowAt, withinLimits, rowsRefusal, mostRows, rowLength}
+use Rattle.csg.specs.Ball.{Ball, placeAxes, mostPlaces, ballLength, mostBalls, ballCount, ballAt, radiusWithin, ballWithin, ballsRefusal}
 use Rattle.csg.specs.Tree.{Tree, plain}
-use Rattle.csg.specs.Surfaces.{Surfaces, named, Surface, halfspace}
+use Rattle.csg.specs.Surfaces.{Surfaces, named, Surface, halfspace, ball}
 use Rattle.csg.specs.Words.{treeRefusal, treeOf, AllNamed}
 use Rattle.csg.specs.Marks.{intersectionMark, surfaceMark, surfaceColour, plainMark, plainColour, treeMark, treeColour}
 use Rattle.csg.specs.Raw.{both, examine}
 use Rattle.csg.proofs.Words.{tree-named}
 use Rattle.csg.proofs.Marks.{mark-over, mark-at, intersection-colours, tree-sound}
 use Rattle.csg.proofs.Raw.{examine-decided, examine-undecided, examine-voxel}
-use Rattle.convert.specs.Small.{SmallCoefficient, SmallHalfspace, JudgeReady}
+use Rattle.convert.specs.Small.{SmallCoefficient, SmallHalfspace, SmallBall, JudgeReady}
 use Rattle.convert.specs.Codes.{spreadOf, blackBit, whiteBit, bitsOf, codeOfSurface, codeOfLeaf, codeOfTree}
 use Rattle.convert.specs.Blocks.{Ready, Standing, treesOf, blockLeft, judged}
 use Rattle.convert.proofs.Spreads.{black-test, white-test, centre-doubled}
+use Rattle.convert.proofs.BallMarks.{ball-over, ball-at}
 use Rattle.convert.proofs.Blocks.{low-small, side-small}
 use Rattle.convert.proofs.Codes.{code-tree, code-of-marks, code-of-colours}
 
@@ -74,17 +79,68 @@ module _ (u : Universe) (rows : List ℤ) (e : rowsRefusal u rows ≡ 0) where
   unfolding within
   small-rows i l = within-small u (rowAt rows i) (every-all (rowCount rows) within (and-right shaped-rows (every (rowCount rows) within) good) i l)
 
+-- ---- and so are balls
+centre-limit : (b : Bool) → cond b centreLimit 0 ≤ centreLimit
+centre-limit true = le-refl centreLimit
+centre-limit false = omega arith
+
+ball-small : (u : Universe) (b : Ball) → ballWithin u b ≡ true → SmallBall b
+unfolding ballWithin
+ball-small u b e = record {
+  centre = λ i l. le-trans (leb-true _ _ (every-all mostPlaces within (and-right (radiusWithin (b .radius)) (every mostPlaces within) e) i l))
+      (centre-limit (ltb i (placeAxes u)));
+  positive = positive;
+  radius = few;
+}
+  where
+    within : ℕ → Bool
+    within i = leb (natAbs (b .centre i)) (cond (ltb i (placeAxes u)) centreLimit 0)
+
+    tests : radiusWithin (b .radius) ≡ true
+    tests = and-left (radiusWithin (b .radius)) (every mostPlaces within) e
+
+    positive : pos 0 ≤ℤ b .radius
+    positive = leZ-true _ _ (and-left (leZ (pos 0) (b .radius)) (leZ (b .radius) (pos radiusLimit)) tests)
+
+    most : b .radius ≤ℤ pos radiusLimit
+    most = leZ-true _ _ (and-right (leZ (pos 0) (b .radius)) (leZ (b .radius) (pos radiusLimit)) tests)
+
+    few : natAbs (b .radius) ≤ radiusLimit
+    few =
+        let p = le-of (ν 0) (ι (b .radius)) positive in
+        let q = le-of (ι (b .radius)) (ν radiusLimit) most in
+        one-part (b .radius) (natAbs (b .radius) ≤ radiusLimit)
+        (λ z. omega (arith, natAbs-parts (b .radius)))
+        (λ z. omega (arith, natAbs-parts (b .radius)))
+
+module _ (u : Universe) (balls : List ℤ) (e : ballsRefusal u balls ≡ 0) where
+  shaped-balls : Bool
+  shaped-balls = eqb (length balls % ballLength) 0 && leb (ballCount balls) mostBalls
+
+  within-ball : ℕ → Bool
+  within-ball j = ballWithin u (ballAt balls j)
+
+  good-balls : shaped-balls && every (ballCount balls) within-ball ≡ true
+  unfolding ballsRefusal shaped-balls within-ball
+  good-balls = unless-holds (shaped-balls && every (ballCount balls) within-ball) badRows (omega arith) e
+
+  pub small-balls : (i : ℕ) → i < ballCount balls → SmallBall (ballAt balls i)
+  unfolding within-ball
+  small-balls i l =
+      ball-small u (ballAt balls i) (every-all (ballCount balls) within-ball (and-right shaped-balls (every (ballCount balls) within-ball) good-balls) i l)
+
 -- ---- low places and sides are those of a block
 module _ {u : Universe} {surfaces : Surfaces} {first second : List ℕ} (r : Ready u surfaces first second) {left : ℕ} {lows side : List ℕ}
     (s : Standing u left lows side) where
   abbrev b : Block
   b = blockLeft u left lows
 
-  pub judge-ready : {axes : ℕ} → axes ≡ u .axes → JudgeReady axes (surfaces .rows) lows side
+  pub judge-ready : {axes : ℕ} → axes ≡ u .axes → JudgeReady axes surfaces lows side
   judge-ready e =
       let a = accepted u (r .accepted-universe) in
       let small = small-rows u (surfaces .rows) (r .accepted-rows) in
-      rw e (record { some = a .some-axes; few = a .few-axes; small = small; lows = low-small s; sides = side-small s })
+      let balls = small-balls u (surfaces .balls) (r .accepted-balls) in
+      rw e (record { some = a .some-axes; few = a .few-axes; small = small; small-balls = balls; lows = low-small s; sides = side-small s })
 
   -- the code of a tree over a block
   surface-over : (x : Surface) → codeOfSurface (u .axes) surfaces lows side false x ≡ bitsOf (surfaceMark surfaces x b)
@@ -92,6 +148,7 @@ module _ {u : Universe} {surfaces : Surfaces} {first second : List ℕ} (r : Rea
   surface-over (halfspace i) =
       let h = rowAt (surfaces .rows) i in
       code-of-marks h b (spreadOf (u .axes) h lows side) (black-test h b side (s .along)) (white-test h b side (s .along))
+  surface-over (ball i) = ball-over (ballAt (surfaces .balls) i) b side (s .along)
 
   over-block : (t : Tree) → AllNamed (named surfaces) t → codeOfTree (u .axes) surfaces lows side false t ≡ bitsOf (treeMark surfaces t b)
   unfolding codeOfTree codeOfLeaf
@@ -114,6 +171,7 @@ module _ {u : Universe} {surfaces : Surfaces} {first second : List ℕ} (r : Rea
   surface-at : (x : Surface) → codeOfSurface (u .axes) surfaces lows side true x ≡ bitsOf (decided (surfaceColour surfaces u x lows))
   unfolding codeOfSurface surfaceColour
   surface-at (halfspace i) = let h = rowAt (surfaces .rows) i in rw (centre-doubled h v side (s .along) unit) (code-of-colours h u lows)
+  surface-at (ball i) = ball-at u (ballAt (surfaces .balls) i) lows
 
   over-voxel : (t : Tree) → AllNamed (named surfaces) t → codeOfTree (u .axes) surfaces lows side true t ≡ bitsOf (decided (treeColour surfaces u t lows))
   unfolding codeOfTree codeOfLeaf

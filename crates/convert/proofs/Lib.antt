@@ -1,6 +1,8 @@
 -- Laws of how the conversion judges and writes.
 pub mod Spreads
 pub mod Codes
+pub mod BallCodes
+pub mod BallMarks
 pub mod Blocks
 pub mod Judging
 pub mod Shapes

@@ -23,6 +23,7 @@ use Rattle.universe.specs.declared.Block.{Block}
 use Rattle.universe.specs.Universe.{offsetLimit, coefficientLimit, mostAxes, longestSide}
 use Rattle.universe.specs.Block.{lowAlong, lengthAlong}
 use Rattle.csg.specs.Halfspace.{Halfspace, rowAt, rowCount, least, greatest, centreValue}
+use Rattle.csg.specs.Surfaces.{Surfaces}
 use Rattle.csg.proofs.Halfspace.{axesOf, endAlong, added, taken, rise, fall, least-is, greatest-is, voxel-sum}
 use Rattle.convert.specs.declared.spread.Spread.{Spread}
 use Rattle.convert.specs.Codes.{spreadWith, spreadOf, testedCode, spreadCode, leafCode}
@@ -183,7 +184,8 @@ module _ {axes : ℕ} {rows : List ℤ} {i : ℕ} {low side : List ℕ} (ready :
         four e₄ = goes-on 3 (lit< tt) three e₄
 
 -- ---- what judging asks is what each row's spread asks
-pub row-ready : {axes : ℕ} {rows : List ℤ} {low side : List ℕ} {i : ℕ} → JudgeReady axes rows low side → i < rowCount rows → SpreadReady axes rows i low side
+pub row-ready : {axes : ℕ} {surfaces : Surfaces} {low side : List ℕ} {i : ℕ} → JudgeReady axes surfaces low side → i < rowCount (surfaces .rows) →
+    SpreadReady axes (surfaces .rows) i low side
 row-ready {i = i} ready l =
     record { some = ready .some; few = ready .few; named = l; small = ready .small i l; lows = ready .lows; sides = ready .sides }
 

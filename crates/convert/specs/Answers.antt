@@ -1,5 +1,5 @@
 -- What the conversions (rules 4.2 and 4.3) and the verdict of two trees (5.2 and 5.3) answer. By rule 8.5 the refusals
--- are in the order 2, 3, tree 1, tree 2, for a verdict 9, and 6.
+-- are in the order 2, 3 for the rows, 3 for the balls, tree 1, tree 2, for a verdict 9, and 6.
 use Prim.Native.Nat.{ℕ}
 use mathlib.Core.Bool.{Bool, cond}
 use mathlib.Core.List.{List, [], _∷_}
@@ -16,6 +16,7 @@ use Rattle.bintree.specs.Merging.{merged}
 use Rattle.bintree.specs.Verdicts.{verdict}
 use Rattle.bintree.specs.Answers.{writtenAnswer, writtenBuffer}
 use Rattle.csg.specs.Halfspace.{rowsRefusal}
+use Rattle.csg.specs.Ball.{ballsRefusal}
 use Rattle.csg.specs.Surfaces.{Surfaces, named}
 use Rattle.csg.specs.Words.{treeRefusal, treeOf}
 use Rattle.csg.specs.Raw.{raw}
@@ -26,12 +27,17 @@ use Rattle.convert.specs.Shapes.{shaped}
 -- rules 8.5 and 8.8: the checks before 6, of one tree and of two
 unfoldable pub oneTreeChecks : Universe → Surfaces → List ℕ → List ℕ
 oneTreeChecks u surfaces words =
-    universeRefusal u ∷ rowsRefusal u (surfaces .rows) ∷ treeRefusal (named surfaces) words ∷ []
+    universeRefusal u
+    ∷ rowsRefusal u (surfaces .rows)
+    ∷ ballsRefusal u (surfaces .balls)
+    ∷ treeRefusal (named surfaces) words
+    ∷ []
 
 unfoldable pub twoTreesChecks : Universe → Surfaces → List ℕ → List ℕ → List ℕ
 twoTreesChecks u surfaces first second =
     universeRefusal u
     ∷ rowsRefusal u (surfaces .rows)
+    ∷ ballsRefusal u (surfaces .balls)
     ∷ treeRefusal (named surfaces) first
     ∷ treeRefusal (named surfaces) second
     ∷ []

@@ -10,6 +10,7 @@ use Rattle.universe.specs.declared.Block.{Block}
 use Rattle.universe.specs.Universe.{mostAxes, universeRefusal, levels, blockSide}
 use Rattle.universe.specs.Questions.{sideAnswer}
 use Rattle.csg.specs.Halfspace.{Mark, decided, rowsRefusal}
+use Rattle.csg.specs.Ball.{ballsRefusal}
 use Rattle.csg.specs.Surfaces.{Surfaces, named}
 use Rattle.csg.specs.Tree.{Tree}
 use Rattle.csg.specs.Words.{mostWords, treeRefusal, treeOf}
@@ -25,6 +26,7 @@ treesOf surfaces first second = both (treeOf (named surfaces) first) (treeOf (na
 pub record Ready (u : Universe) (surfaces : Surfaces) (first second : List ℕ) : Type 0 where
   pub accepted-universe : universeRefusal u ≡ 0
   pub accepted-rows : rowsRefusal u (surfaces .rows) ≡ 0
+  pub accepted-balls : ballsRefusal u (surfaces .balls) ≡ 0
   pub accepted-first : treeRefusal (named surfaces) first ≡ 0
   pub accepted-second : treeRefusal (named surfaces) second ≡ 0
 

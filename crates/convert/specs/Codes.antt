@@ -1,15 +1,18 @@
--- How code judges a tree by rules 2.3, 2.4 and 3.3 to 3.5: a row's value at the centre of a block and how far it
--- reaches, and a pending shape's mark in two bits, its code.
-use Prim.Native.Nat.{ℕ, zero, suc, _+_, _*_, _/_, _%_}
+-- How code judges a tree by rules 2.3, 2.4, 2.8, 2.9 and 3.3 to 3.5: a row's value at the centre of a block and how far
+-- it reaches, a ball's nearest and farthest squares, and a pending shape's mark in two bits, its code.
+use Prim.Native.Nat.{ℕ, zero, suc, _+_, _*_, _-_, _/_, _%_}
 use mathlib.Core.Bool.{Bool, true, false, cond}
 use mathlib.Core.List.{List}
 use lib.Bits.{bitAnd, bitOr}
+use lib.Dec.{leb, ltb}
 use lib.IntN.{ℤ, pos, natAbs, _+ℤ_, _*ℤ_}
 use lib.ListN.{getD}
 use lib.Signed.{leZ}
+use Rattle.lemmas.specs.Sums.{sum}
 use Rattle.bintree.specs.declared.Colour.the-variants.{White, Black}
 use Rattle.csg.specs.Halfspace.{Halfspace, Mark, decided, undecided, rowAt}
-use Rattle.csg.specs.Surfaces.{Surfaces, Surface, halfspace}
+use Rattle.csg.specs.Ball.{Ball, ballAt, square, radiusSquared, nearest, farthest, off}
+use Rattle.csg.specs.Surfaces.{Surfaces, Surface, halfspace, ball}
 use Rattle.csg.specs.Tree.{Leaf, white, black, surface, Operator, union, intersection, minus, Tree}
 use Rattle.csg.specs.Words.{fold}
 use Rattle.convert.specs.declared.spread.Spread.{Spread}
@@ -48,6 +51,32 @@ abbrev pub leafCode : Bool → Spread → ℕ
 leafCode false s = spreadCode (s .doubled) (s .reach)
 leafCode true s = spreadCode (s .doubled) (pos 0)
 
+-- the squares of a ball's distances to the nearest and to the farthest points of a block, and four times that to its
+-- centre where it is a voxel, added up over the first n axes
+unfoldable pub nearOver : ℕ → Ball → List ℕ → List ℕ → ℕ
+nearOver n b low side =
+    sum n (λ i. square (nearest (getD low i 0) (getD low i 0 + getD side i 0) (b .centre i)))
+
+unfoldable pub farOver : ℕ → Ball → List ℕ → List ℕ → ℕ
+farOver n b low side =
+    sum n (λ i. square (farthest (getD low i 0) (getD low i 0 + getD side i 0) (b .centre i)))
+
+unfoldable pub offOver : ℕ → Ball → List ℕ → ℕ
+offOver n b low = sum n (λ i. square (natAbs (off 2 (2 * getD low i 0 + 1) (b .centre i))))
+
+-- the code of a ball: BLACK where the farthest square is at most the radius squared, WHITE where the nearest is more;
+-- at a centre one of both
+abbrev pub ballCodeOver : ℕ → Ball → List ℕ → List ℕ → ℕ
+ballCodeOver n b low side =
+    testedCode (leb (farOver n b low side) (radiusSquared b)) (ltb (radiusSquared b) (nearOver n b low side))
+
+abbrev pub ballCodeAt : ℕ → Ball → List ℕ → ℕ
+ballCodeAt n b low = testedCode (leb (offOver n b low) (4 * radiusSquared b)) true
+
+abbrev pub ballCode : Bool → ℕ → Ball → List ℕ → List ℕ → ℕ
+ballCode false n b low side = ballCodeOver n b low side
+ballCode true n b low side = ballCodeAt n b low
+
 -- the bits of one mask where either code has them, those of another where both have them
 abbrev pub mixed : ℕ → ℕ → ℕ → ℕ → ℕ
 mixed either both a b = bitOr (bitAnd (bitOr a b) either) (bitAnd (bitAnd a b) both)
@@ -67,6 +96,8 @@ joinCode minus a b = mixed whiteBit blackBit a (oppositeCode b)
 unfoldable pub codeOfSurface : ℕ → Surfaces → List ℕ → List ℕ → Bool → Surface → ℕ
 codeOfSurface axes surfaces low side centre (halfspace i) =
     leafCode centre (spreadOf axes (rowAt (surfaces .rows) i) low side)
+codeOfSurface axes surfaces low side centre (ball i) =
+    ballCode centre (axes - 1) (ballAt (surfaces .balls) i) low side
 
 unfoldable pub codeOfLeaf : ℕ → Surfaces → List ℕ → List ℕ → Bool → Leaf → ℕ
 codeOfLeaf axes surfaces low side centre white = whiteBit

@@ -1,4 +1,5 @@
 // Judging a tree over a block, or at the centre of a voxel, in one pass over its words.
+use crate::ball::code_of_ball;
 use crate::marks::BLACK_BIT;
 use crate::marks::WHITE_BIT;
 use crate::marks::join_code;
@@ -8,9 +9,10 @@ use crate::spread::spread_of_row;
 use universe::Universe;
 ghost use mathlib.Core.Path.{_≡_};
 ghost use mathlib.Core.Bool.{true};
-ghost use Rattle.csg.specs.Surfaces.{surfacesOf, named, halfspace};
+ghost use Rattle.csg.specs.Halfspace.{rowAt};
+ghost use Rattle.csg.specs.Surfaces.{surfacesOf, named};
 ghost use Rattle.csg.specs.Words.{isLeaf, leafOf, treeOf, treeRefusal};
-ghost use Rattle.convert.specs.Codes.{codeOfSurface, codeOfLeaf, codeOfTree, bitsOf};
+ghost use Rattle.convert.specs.Codes.{spreadOf, leafCode, codeOfLeaf, codeOfTree, bitsOf};
 ghost use Rattle.convert.specs.Small.{SpreadReady, JudgeReady};
 ghost use Rattle.convert.specs.Blocks.{Ready, Standing, treesOf, blockLeft, judged};
 
@@ -24,8 +26,8 @@ fn code_of_row(
     centre: bool,
 ) -> u8
     requires { ⌜ SpreadReady axes (now rows) i (now low) (now side) ⌝ }
-    ensures { λ r. let surfaces = surfacesOf (now (rows .entry)) in
-        ⌜ r ≡ codeOfSurface axes surfaces (now (low .entry)) (now (side .entry)) centre (halfspace i) ⌝ }
+    ensures { λ r. let spread = spreadOf axes (rowAt (now (rows .entry)) i) (now (low .entry)) (now (side .entry)) in
+        ⌜ r ≡ leafCode centre spread ⌝ }
 {
     let spread = spread_of_row(axes, rows, i, low, side);
     if centre {
@@ -38,16 +40,27 @@ fn code_of_row(
 fn code_of_word(
     axes: usize,
     rows: &[i64],
+    balls: &[i64],
     word: u16,
     low: &[u64; Universe::MOST_AXES as usize],
     side: &[u64; Universe::MOST_AXES as usize],
     centre: bool,
 ) -> u8
-    requires { ⌜ JudgeReady axes (now rows) (now low) (now side) ⌝ }
-    requires { ⌜ isLeaf (named (surfacesOf (now rows))) word ≡ true ⌝ }
-    ensures { λ r. let surfaces = surfacesOf (now (rows .entry)) in
+    requires { ⌜ JudgeReady axes (surfacesOf (now rows) (now balls)) (now low) (now side) ⌝ }
+    requires { ⌜ isLeaf (named (surfacesOf (now rows) (now balls))) word ≡ true ⌝ }
+    ensures { λ r. let surfaces = surfacesOf (now (rows .entry)) (now (balls .entry)) in
         ⌜ r ≡ codeOfLeaf axes surfaces (now (low .entry)) (now (side .entry)) centre (leafOf word) ⌝ }
 {
+    if csg::FIRST_BALL <= word {
+        return code_of_ball(
+            axes,
+            balls,
+            (word - csg::FIRST_BALL) as usize,
+            low,
+            side,
+            centre,
+        );
+    }
     if csg::FIRST_HALFSPACE <= word {
         return code_of_row(
             axes,
@@ -69,14 +82,15 @@ fn code_of_word(
 pub(crate) fn code_of_tree(
     axes: usize,
     rows: &[i64],
+    balls: &[i64],
     words: &[u16],
     low: &[u64; Universe::MOST_AXES as usize],
     side: &[u64; Universe::MOST_AXES as usize],
     centre: bool,
 ) -> u8
-    requires { ⌜ JudgeReady axes (now rows) (now low) (now side) ⌝ }
-    requires { ⌜ treeRefusal (named (surfacesOf (now rows))) (now words) ≡ 0 ⌝ }
-    ensures { λ r. let surfaces = surfacesOf (now (rows .entry)) in
+    requires { ⌜ JudgeReady axes (surfacesOf (now rows) (now balls)) (now low) (now side) ⌝ }
+    requires { ⌜ treeRefusal (named (surfacesOf (now rows) (now balls))) (now words) ≡ 0 ⌝ }
+    ensures { λ r. let surfaces = surfacesOf (now (rows .entry)) (now (balls .entry)) in
         let tree = treeOf (named surfaces) (now (words .entry)) in
         ⌜ r ≡ codeOfTree axes surfaces (now (low .entry)) (now (side .entry)) centre tree ⌝ }
 {
@@ -91,7 +105,7 @@ pub(crate) fn code_of_tree(
             top = join_code(word, pending[n], top);
         } else {
             pending[n] = top;
-            top = code_of_word(axes, rows, word, low, side, centre);
+            top = code_of_word(axes, rows, balls, word, low, side, centre);
             n += 1;
         }
         i += 1;
@@ -105,25 +119,26 @@ pub(crate) fn judge(
     universe: Universe,
     axes: usize,
     rows: &[i64],
+    balls: &[i64],
     first: &[u16],
     second: &[u16],
     low: &[u64; Universe::MOST_AXES as usize],
     side: &[u64; Universe::MOST_AXES as usize],
     left: u64,
 ) -> u8
-    requires { ⌜ Ready universe (surfacesOf (now rows)) (now first) (now second) ⌝ }
+    requires { ⌜ Ready universe (surfacesOf (now rows) (now balls)) (now first) (now second) ⌝ }
     requires { ⌜ Standing universe left (now low) (now side) ⌝ }
     requires { ⌜ axes ≡ universe .axes ⌝ }
-    ensures { λ r. let surfaces = surfacesOf (now (rows .entry)) in
+    ensures { λ r. let surfaces = surfacesOf (now (rows .entry)) (now (balls .entry)) in
         let trees = treesOf surfaces (now (first .entry)) (now (second .entry)) in
         ⌜ r ≡ bitsOf (judged surfaces trees left (blockLeft universe left (now (low .entry)))) ⌝ }
 {
     let centre = left == 0;
-    let a = code_of_tree(axes, rows, first, low, side, centre);
+    let a = code_of_tree(axes, rows, balls, first, low, side, centre);
     if a == WHITE_BIT {
         return WHITE_BIT;
     }
-    let b = code_of_tree(axes, rows, second, low, side, centre);
+    let b = code_of_tree(axes, rows, balls, second, low, side, centre);
     if b == WHITE_BIT {
         return WHITE_BIT;
     }

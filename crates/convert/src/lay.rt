@@ -96,6 +96,7 @@ fn lay_block(
     universe: Universe,
     count: usize,
     rows: &[i64],
+    balls: &[i64],
     first: &[u16],
     second: &[u16],
     axes: &[usize; Universe::MOST_LEVELS as usize],
@@ -106,21 +107,21 @@ fn lay_block(
     out: &mut [u8],
     at: usize,
 ) -> usize
-    requires { let surfaces = surfacesOf (now rows) in
+    requires { let surfaces = surfacesOf (now rows) (now balls) in
         ⌜ Laying universe surfaces (now first) (now second) (now axes) left (now low) (now side) at ⌝ }
     requires { ⌜ count ≡ universe .axes ⌝ }
-    ensures { λ r. let surfaces = surfacesOf (now (rows .entry)) in
+    ensures { λ r. let surfaces = surfacesOf (now (rows .entry)) (now (balls .entry)) in
         let first = now (first .entry) in
         let second = now (second .entry) in
         ⌜ r ≡ packed (pieceOf at (laidShape merging universe surfaces first second left (now (low .entry)))) ⌝ }
-    ensures { λ _. let surfaces = surfacesOf (now (rows .entry)) in
+    ensures { λ _. let surfaces = surfacesOf (now (rows .entry)) (now (balls .entry)) in
         let first = now (first .entry) in
         let second = now (second .entry) in
         ⌜ now (out .exit)
         ≡ laid (now (out .entry)) at (laidShape merging universe surfaces first second left (now (low .entry))) ⌝ }
     ensures { λ _. ⌜ (now (low .exit) ≡ now (low .entry)) × (now (side .exit) ≡ now (side .entry)) ⌝ }
 {
-    let mark = judge(universe, count, rows, first, second, low, side, left);
+    let mark = judge(universe, count, rows, balls, first, second, low, side, left);
     if mark != 0 {
         return packed(Piece {
             held: symbol_of(mark),
@@ -130,6 +131,7 @@ fn lay_block(
     lay_halves(
         universe,
         rows,
+        balls,
         first,
         second,
         axes,
@@ -146,6 +148,7 @@ fn lay_block(
 fn lay_halves(
     universe: Universe,
     rows: &[i64],
+    balls: &[i64],
     first: &[u16],
     second: &[u16],
     axes: &[usize; Universe::MOST_LEVELS as usize],
@@ -156,14 +159,14 @@ fn lay_halves(
     out: &mut [u8],
     at: usize,
 ) -> usize
-    requires { let surfaces = surfacesOf (now rows) in
+    requires { let surfaces = surfacesOf (now rows) (now balls) in
         let axis = axisLeft (now axes) left in
         ⌜ Halving universe surfaces (now first) (now second) (now axes) left (now low) (now side) axis at ⌝ }
-    ensures { λ r. let surfaces = surfacesOf (now (rows .entry)) in
+    ensures { λ r. let surfaces = surfacesOf (now (rows .entry)) (now (balls .entry)) in
         let first = now (first .entry) in
         let second = now (second .entry) in
         ⌜ r ≡ packed (pieceOf at (laidShape merging universe surfaces first second left (now (low .entry)))) ⌝ }
-    ensures { λ _. let surfaces = surfacesOf (now (rows .entry)) in
+    ensures { λ _. let surfaces = surfacesOf (now (rows .entry)) (now (balls .entry)) in
         let first = now (first .entry) in
         let second = now (second .entry) in
         ⌜ now (out .exit)
@@ -180,6 +183,7 @@ fn lay_halves(
         universe,
         count,
         rows,
+        balls,
         first,
         second,
         axes,
@@ -196,6 +200,7 @@ fn lay_halves(
         universe,
         count,
         rows,
+        balls,
         first,
         second,
         axes,
@@ -215,16 +220,17 @@ fn lay_halves(
 pub(crate) fn write_whole(
     universe: Universe,
     rows: &[i64],
+    balls: &[i64],
     first: &[u16],
     second: &[u16],
     merging: bool,
     out: &mut [u8],
 ) -> usize
-    requires { ⌜ Ready universe (surfacesOf (now rows)) (now first) (now second) ⌝ }
-    ensures { λ r. let surfaces = surfacesOf (now (rows .entry)) in
+    requires { ⌜ Ready universe (surfacesOf (now rows) (now balls)) (now first) (now second) ⌝ }
+    ensures { λ r. let surfaces = surfacesOf (now (rows .entry)) (now (balls .entry)) in
         let written = writtenOfTwo merging universe surfaces (now (first .entry)) (now (second .entry)) in
         ⌜ r ≡ length written ⌝ }
-    ensures { λ _. let surfaces = surfacesOf (now (rows .entry)) in
+    ensures { λ _. let surfaces = surfacesOf (now (rows .entry)) (now (balls .entry)) in
         let written = writtenOfTwo merging universe surfaces (now (first .entry)) (now (second .entry)) in
         ⌜ now (out .exit) ≡ sets (now (out .entry)) 0 written ⌝ }
 {
@@ -232,7 +238,17 @@ pub(crate) fn write_whole(
     let mut side = whole_sides(universe);
     let levels = universe.levels();
     let count = universe.axes as usize;
-    let mark = judge(universe, count, rows, first, second, &low, &side, levels);
+    let mark = judge(
+        universe,
+        count,
+        rows,
+        balls,
+        first,
+        second,
+        &low,
+        &side,
+        levels,
+    );
     if mark != 0 {
         bintree::note(out, 0, symbol_of(mark));
         return 1;
@@ -241,6 +257,7 @@ pub(crate) fn write_whole(
     let piece = unpacked(lay_halves(
         universe,
         rows,
+        balls,
         first,
         second,
         &axes,

@@ -19,21 +19,22 @@ const LONG: usize = 65536;
 fn through(
     universe: Universe,
     rows: &[i64],
+    balls: &[i64],
     first: &[u16],
     second: &[u16],
     merging: bool,
     scratch: &mut [u8],
     out: &mut [u8],
 ) -> Written
-    requires { ⌜ Ready universe (surfacesOf (now rows)) (now first) (now second) ⌝ }
-    ensures { λ r. let surfaces = surfacesOf (now (rows .entry)) in
+    requires { ⌜ Ready universe (surfacesOf (now rows) (now balls)) (now first) (now second) ⌝ }
+    ensures { λ r. let surfaces = surfacesOf (now (rows .entry)) (now (balls .entry)) in
         let written = writtenOfTwo merging universe surfaces (now (first .entry)) (now (second .entry)) in
         ⌜ r ≡ writtenAnswer 0 (now (out .entry)) written ⌝ }
-    ensures { λ _. let surfaces = surfacesOf (now (rows .entry)) in
+    ensures { λ _. let surfaces = surfacesOf (now (rows .entry)) (now (balls .entry)) in
         let written = writtenOfTwo merging universe surfaces (now (first .entry)) (now (second .entry)) in
         ⌜ now (out .exit) ≡ writtenBuffer 0 (now (out .entry)) written ⌝ }
 {
-    let length = write_whole(universe, rows, first, second, merging, scratch);
+    let length = write_whole(universe, rows, balls, first, second, merging, scratch);
     if out.len() < length {
         return Written::short(length as u64);
     }
@@ -41,7 +42,7 @@ fn through(
         bintree::copy(&scratch[..length], out, 0);
         return Written::done(length as u64);
     }
-    write_whole(universe, rows, first, second, merging, out);
+    write_whole(universe, rows, balls, first, second, merging, out);
     Written::done(length as u64)
 }
 
@@ -49,40 +50,60 @@ fn through(
 pub(crate) fn short(
     universe: Universe,
     rows: &[i64],
+    balls: &[i64],
     first: &[u16],
     second: &[u16],
     merging: bool,
     out: &mut [u8],
 ) -> Written
-    requires { ⌜ Ready universe (surfacesOf (now rows)) (now first) (now second) ⌝ }
-    ensures { λ r. let surfaces = surfacesOf (now (rows .entry)) in
+    requires { ⌜ Ready universe (surfacesOf (now rows) (now balls)) (now first) (now second) ⌝ }
+    ensures { λ r. let surfaces = surfacesOf (now (rows .entry)) (now (balls .entry)) in
         let written = writtenOfTwo merging universe surfaces (now (first .entry)) (now (second .entry)) in
         ⌜ r ≡ writtenAnswer 0 (now (out .entry)) written ⌝ }
-    ensures { λ _. let surfaces = surfacesOf (now (rows .entry)) in
+    ensures { λ _. let surfaces = surfacesOf (now (rows .entry)) (now (balls .entry)) in
         let written = writtenOfTwo merging universe surfaces (now (first .entry)) (now (second .entry)) in
         ⌜ now (out .exit) ≡ writtenBuffer 0 (now (out .entry)) written ⌝ }
 {
     let mut scratch = [0u8; SHORT];
-    through(universe, rows, first, second, merging, &mut scratch, out)
+    through(
+        universe,
+        rows,
+        balls,
+        first,
+        second,
+        merging,
+        &mut scratch,
+        out,
+    )
 }
 
 // The same with much scratch room.
 pub(crate) fn long(
     universe: Universe,
     rows: &[i64],
+    balls: &[i64],
     first: &[u16],
     second: &[u16],
     merging: bool,
     out: &mut [u8],
 ) -> Written
-    requires { ⌜ Ready universe (surfacesOf (now rows)) (now first) (now second) ⌝ }
-    ensures { λ r. let surfaces = surfacesOf (now (rows .entry)) in
+    requires { ⌜ Ready universe (surfacesOf (now rows) (now balls)) (now first) (now second) ⌝ }
+    ensures { λ r. let surfaces = surfacesOf (now (rows .entry)) (now (balls .entry)) in
         let written = writtenOfTwo merging universe surfaces (now (first .entry)) (now (second .entry)) in
         ⌜ r ≡ writtenAnswer 0 (now (out .entry)) written ⌝ }
-    ensures { λ _. let surfaces = surfacesOf (now (rows .entry)) in
+    ensures { λ _. let surfaces = surfacesOf (now (rows .entry)) (now (balls .entry)) in
         let written = writtenOfTwo merging universe surfaces (now (first .entry)) (now (second .entry)) in
         ⌜ now (out .exit) ≡ writtenBuffer 0 (now (out .entry)) written ⌝ }
 {
     let mut scratch = [0u8; LONG];
-    through(universe, rows, first, second, merging, &mut scratch, out)
+    through(
+        universe,
+        rows,
+        balls,
+        first,
+        second,
+        merging,
+        &mut scratch,
+        out,
+    )
 }

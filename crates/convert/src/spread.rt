@@ -73,7 +73,7 @@ pub(crate) fn spread_of_row(
 
 // The code by the tests of the least and of the greatest value, the least looked at first. There is no branch, since
 // which way a test goes is not to be foreseen.
-fn tested_code(least: bool, greatest: bool) -> u8
+pub(crate) fn tested_code(least: bool, greatest: bool) -> u8
     ensures { λ r. ⌜ r ≡ testedCode least greatest ⌝ }
 {
     let black = least as u8;

@@ -45,23 +45,24 @@ impl Clearance {
 pub fn verdict_of_two(
     universe: Universe,
     rows: &[i64],
+    balls: &[i64],
     first: &[u16],
     second: &[u16],
     first_frame: u64,
     last_frame: u64,
     out: &mut [u8],
 ) -> Clearance
-    ensures { λ r. let surfaces = surfacesOf (now (rows .entry)) in
+    ensures { λ r. let surfaces = surfacesOf (now (rows .entry)) (now (balls .entry)) in
         let first = now (first .entry) in
         let second = now (second .entry) in
         ⌜ r ≡ clearanceAnswer universe surfaces first second «first_frame» «last_frame» (now (out .entry)) ⌝ }
-    ensures { λ _. let surfaces = surfacesOf (now (rows .entry)) in
+    ensures { λ _. let surfaces = surfacesOf (now (rows .entry)) (now (balls .entry)) in
         let first = now (first .entry) in
         let second = now (second .entry) in
         ⌜ now (out .exit)
         ≡ clearanceBuffer universe surfaces first second «first_frame» «last_frame» (now (out .entry)) ⌝ }
 {
-    let refusal = checked(universe, rows, first, second);
+    let refusal = checked(universe, rows, balls, first, second);
     if refusal != 0 {
         return Clearance::refused(refusal, 0);
     }
@@ -69,7 +70,7 @@ pub fn verdict_of_two(
     if nine != 0 {
         return Clearance::refused(nine, 0);
     }
-    let written = written_of_two(universe, rows, first, second, false, out);
+    let written = written_of_two(universe, rows, balls, first, second, false, out);
     if written.refusal != 0 {
         return Clearance::refused(written.refusal, written.length);
     }

@@ -1,5 +1,5 @@
--- What the check of a tree and the count of its halfspace words cite. The check keeps the number of shapes pending alone: that is the machine with
--- no meaning at all, and what is left of the words decides. The count keeps those of the words read that name a halfspace.
+-- What the check of a tree and the counts of its words cite. The check keeps the number of shapes pending alone: that is the machine with
+-- no meaning at all, and what is left of the words decides. A count keeps those of the words read that are among so many from the first on.
 use Prim.Native.Nat.{ℕ, zero, suc, _+_, _-_, _≤_, _<_}
 use native.Mathlib.Omega.{arith}
 use native.Mathlib.Numerals.{add-one, sub-one}
@@ -10,11 +10,10 @@ use lib.ListN.{length, getD, drop, replicate, length-replicate, drop-of-length-l
 use lib.Dec.{ltb}
 use borrow.Author.Tests.{lt-ltb, le-ltb, ltb-true, ltb-false}
 use Rattle.universe.specs.Refusals.{badTree, overfullTree}
-use Rattle.csg.specs.Halfspace.{mostRows}
 use Rattle.csg.specs.Surfaces.{Named}
 use Rattle.csg.specs.Tree.{Leaf, Operator, leaf, node}
-use Rattle.csg.specs.Words.{mostWords, mostPending, firstHalfspace, namesHalfspace, isOperator, isLeaf, Outcome, refused, made, mapOutcome}
-use Rattle.csg.specs.Words.{finish, run, fold, parse, outcomeRefusal, treeRefusal, halfspaceWords}
+use Rattle.csg.specs.Words.{mostWords, mostPending, isAmong, isOperator, isLeaf, Outcome, refused, made, mapOutcome}
+use Rattle.csg.specs.Words.{finish, run, fold, parse, outcomeRefusal, treeRefusal, countWords}
 use Rattle.csg.proofs.Words.{next, on-leaf, on-full, on-operator, on-few, on-unknown, run-parse}
 
 -- the refusal by the number of shapes pending alone: the machine with no meaning at all
@@ -97,37 +96,37 @@ module _ {names : Named} {ws : List ℕ} {n i : ℕ} (m : Counting names ws n i)
         by (suc zero) f = absurd (omega arith)
         by (suc (suc k)) f = rw sub-one (ap outcomeRefusal (on-operator blankLeaf blankNode names _ _ (tt {0}) (tt {0}) (blanks k) o))
 
--- a word from 256 on names a halfspace where it is below 256 + 256
-pub below-shifted : (w : ℕ) → firstHalfspace ≤ w → ltb (w - firstHalfspace) mostRows ≡ ltb w (firstHalfspace + mostRows)
-below-shifted w h = by (ltb w (firstHalfspace + mostRows)) refl
+-- a word from the first on is among so many where it is below the first and so many more
+pub below-shifted : (first most w : ℕ) → first ≤ w → ltb (w - first) most ≡ ltb w (first + most)
+below-shifted first most w h = by (ltb w (first + most)) refl
   where
-    by : (b : Bool) → ltb w (firstHalfspace + mostRows) ≡ b → ltb (w - firstHalfspace) mostRows ≡ b
-    by true t = lt-ltb (w - firstHalfspace) mostRows (omega (arith, ltb-true w (firstHalfspace + mostRows) t))
-    by false t = le-ltb (w - firstHalfspace) mostRows (omega (arith, ltb-false w (firstHalfspace + mostRows) t))
+    by : (b : Bool) → ltb w (first + most) ≡ b → ltb (w - first) most ≡ b
+    by true t = lt-ltb (w - first) most (omega (arith, ltb-true w (first + most) t))
+    by false t = le-ltb (w - first) most (omega (arith, ltb-false w (first + most) t))
 
--- the count of the words that name a halfspace: i words are read, and n of them did
-pub record NamesSofar (ws : List ℕ) (n i : ℕ) : Type 0 where
+-- the count of the words among those: i words are read, and n of them were
+pub record NamesSofar (first most : ℕ) (ws : List ℕ) (n i : ℕ) : Type 0 where
   pub read : i ≤ length ws
   pub few : n ≤ i
-  pub same : halfspaceWords ws ≡ n + halfspaceWords (drop i ws)
+  pub same : countWords first most ws ≡ n + countWords first most (drop i ws)
 
-pub names-start : (ws : List ℕ) → NamesSofar ws 0 0
-names-start ws = record { read = omega arith; few = omega arith; same = omega arith }
+pub names-start : (first most : ℕ) (ws : List ℕ) → NamesSofar first most ws 0 0
+names-start first most ws = record { read = omega arith; few = omega arith; same = omega arith }
 
-module _ {ws : List ℕ} {n i : ℕ} (m : NamesSofar ws n i) where
-  pub names-end : length ws ≤ i → n ≡ halfspaceWords ws
-  unfolding halfspaceWords
-  names-end h = omega (arith, m .same, ap halfspaceWords (drop-of-length-le ws {i = i} h))
+module _ {first most : ℕ} {ws : List ℕ} {n i : ℕ} (m : NamesSofar first most ws n i) where
+  pub names-end : length ws ≤ i → n ≡ countWords first most ws
+  unfolding countWords
+  names-end h = omega (arith, m .same, ap (countWords first most) (drop-of-length-le ws {i = i} h))
 
   module _ (h : i < length ws) where
-    pub names-more : namesHalfspace (getD ws i 0) ≡ true → NamesSofar ws (n + 1) (i + 1)
-    unfolding halfspaceWords
+    pub names-more : isAmong first most (getD ws i 0) ≡ true → NamesSofar first most ws (n + 1) (i + 1)
+    unfolding countWords
     names-more t =
-        let e = rw (ap halfspaceWords (next ws i h), t) at (m .same) in
+        let e = rw (ap (countWords first most) (next ws i h), t) at (m .same) in
         record { read = omega arith; few = omega (arith, m .few); same = omega arith }
 
-    pub names-same : namesHalfspace (getD ws i 0) ≡ false → NamesSofar ws n (i + 1)
-    unfolding halfspaceWords
+    pub names-same : isAmong first most (getD ws i 0) ≡ false → NamesSofar first most ws n (i + 1)
+    unfolding countWords
     names-same t =
-        let e = rw (ap halfspaceWords (next ws i h), t) at (m .same) in
+        let e = rw (ap (countWords first most) (next ws i h), t) at (m .same) in
         record { read = omega arith; few = omega (arith, m .few); same = omega arith }

@@ -1,7 +1,11 @@
 -- Laws of the definitions.
 pub mod Halfspace
 pub mod Nested
+pub mod Distances
+pub mod Balls
+pub mod Limits
 pub mod Rows
+pub mod BallChecks
 pub mod Tree
 pub mod Words
 pub mod Checking

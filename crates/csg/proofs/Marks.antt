@@ -17,12 +17,14 @@ use Rattle.universe.specs.Voxel.{placeAlong, Within}
 use Rattle.bintree.specs.declared.Colour.{Colour}
 use Rattle.bintree.specs.declared.Colour.the-variants.{White, Black}
 use Rattle.csg.specs.Halfspace.{Mark, decided, undecided, rowAt, colourAtCentre}
-use Rattle.csg.specs.Surfaces.{Surfaces, Surface, halfspace}
+use Rattle.csg.specs.Ball.{ballAt}
+use Rattle.csg.specs.Surfaces.{Surfaces, Surface, halfspace, ball}
 use Rattle.csg.specs.Tree.{Tree, Plain, colour, side, unionOf, intersectionOf, reversed, plain, reversal}
 use Rattle.csg.specs.Marks.{unionMark, intersectionMark, unionColour, intersectionColour}
 use Rattle.csg.specs.Marks.{oppositeColour, oppositeMark, surfaceMark, surfaceColour, sideMark, sideColour, plainMark, plainColour}
 use Rattle.csg.proofs.Halfspace.{axesOf, mark-sound, centre-places, zero-black}
 use Rattle.csg.proofs.Nested.{Nested, low-nested, high-nested, mark-nested}
+use Rattle.csg.proofs.Balls.{ball-sound, ball-nested, ball-places}
 use Rattle.csg.proofs.Tree.{turned, reversal-turned, HasSide, itself, union-first, union-second, intersection-first, intersection-second}
 
 -- ---- surfaces: a decided one has its colour at every centre in the block, and stays decided in every part of the block; at a centre its colour
@@ -31,16 +33,19 @@ pub surface-sound : (surfaces : Surfaces) (s : Surface) (b : Block) (c : Colour)
     surfaceMark surfaces s b ≡ decided c → Within b v → surfaceColour surfaces (b .universe) s v ≡ c
 unfolding surfaceMark surfaceColour
 surface-sound surfaces (halfspace i) b = mark-sound (rowAt (surfaces .rows) i) b
+surface-sound surfaces (ball i) b = ball-sound (ballAt (surfaces .balls) i) b
 
 pub surface-persistent : (surfaces : Surfaces) (s : Surface) (b part : Block) → Nested part b → (c : Colour) →
     surfaceMark surfaces s b ≡ decided c → surfaceMark surfaces s part ≡ decided c
 unfolding surfaceMark
 surface-persistent surfaces (halfspace i) b part = mark-nested (rowAt (surfaces .rows) i) part b
+surface-persistent surfaces (ball i) b part = ball-nested (ballAt (surfaces .balls) i) part b
 
 pub surface-places : (surfaces : Surfaces) (u : Universe) (s : Surface) (v w : List ℕ) →
     ((i : ℕ) → i < u .axes → placeAlong v i ≡ placeAlong w i) → surfaceColour surfaces u s v ≡ surfaceColour surfaces u s w
 unfolding surfaceColour colourAtCentre
 surface-places surfaces u (halfspace i) v w same = rw (centre-places u (rowAt (surfaces .rows) i) v w same)
+surface-places surfaces u (ball i) v w same = ball-places u (ballAt (surfaces .balls) i) v w same
 
 -- ---- the sides of a surface: reversed, it has the opposite mark and the opposite colour
 module _ (surfaces : Surfaces) (turned : Bool) (s : Surface) where

@@ -1,13 +1,13 @@
 -- Trees and plain trees. Reversal is turning a plain tree over: each side the other way, each colour the opposite one, UNION and INTERSECTION
--- exchanged. Turning twice gives the tree back, and neither MINUS nor reversal adds or drops a halfspace.
-use Prim.Native.Nat.{_+_}
+-- exchanged. Turning twice gives the tree back, and neither MINUS nor reversal adds or drops a surface.
+use Prim.Native.Nat.{ℕ, _+_}
 use mathlib.Core.Path.{_≡_, refl, sym, ap, ap₂, _∙_}
 use mathlib.Core.Bool.{Bool, true, false, not}
 use Rattle.bintree.specs.declared.Colour.{Colour}
 use Rattle.bintree.specs.declared.Colour.the-variants.{White, Black}
 use Rattle.csg.specs.Surfaces.{Surface}
 use Rattle.csg.specs.Tree.{white, black, surface, union, intersection, minus, Tree, leaf, node}
-use Rattle.csg.specs.Tree.{Plain, colour, side, unionOf, intersectionOf, plain, reversal, leaves, sides}
+use Rattle.csg.specs.Tree.{Plain, colour, side, unionOf, intersectionOf, plain, reversal, countLeaves, countSides}
 use Rattle.csg.specs.Marks.{oppositeColour}
 
 -- a plain tree turned over
@@ -71,22 +71,23 @@ module _ (a b : Tree) where
   unfolding reversal
   reversal-minus = refl
 
--- a side for each halfspace
-pub sides-turned : (p : Plain) → sides (turned p) ≡ sides p
-unfolding turned sides
-sides-turned (colour c) = refl
-sides-turned (side flag s) = refl
-sides-turned (unionOf a b) = ap₂ _+_ (sides-turned a) (sides-turned b)
-sides-turned (intersectionOf a b) = ap₂ _+_ (sides-turned a) (sides-turned b)
+-- a side for each surface, whatever it counts
+module _ (counts : Surface → ℕ) where
+  pub sides-turned : (p : Plain) → countSides counts (turned p) ≡ countSides counts p
+  unfolding turned countSides
+  sides-turned (colour c) = refl
+  sides-turned (side flag s) = refl
+  sides-turned (unionOf a b) = ap₂ _+_ (sides-turned a) (sides-turned b)
+  sides-turned (intersectionOf a b) = ap₂ _+_ (sides-turned a) (sides-turned b)
 
-pub sides-plain : (t : Tree) → sides (plain t) ≡ leaves t
-unfolding plain sides leaves
-sides-plain (leaf white) = refl
-sides-plain (leaf black) = refl
-sides-plain (leaf (surface s)) = refl
-sides-plain (node union a b) = ap₂ _+_ (sides-plain a) (sides-plain b)
-sides-plain (node intersection a b) = ap₂ _+_ (sides-plain a) (sides-plain b)
-sides-plain (node minus a b) = ap₂ _+_ (sides-plain a) (ap sides (reversal-turned b) ∙ sides-turned (plain b) ∙ sides-plain b)
+  pub sides-plain : (t : Tree) → countSides counts (plain t) ≡ countLeaves counts t
+  unfolding plain countSides countLeaves
+  sides-plain (leaf white) = refl
+  sides-plain (leaf black) = refl
+  sides-plain (leaf (surface s)) = refl
+  sides-plain (node union a b) = ap₂ _+_ (sides-plain a) (sides-plain b)
+  sides-plain (node intersection a b) = ap₂ _+_ (sides-plain a) (sides-plain b)
+  sides-plain (node minus a b) = ap₂ _+_ (sides-plain a) (ap (countSides counts) (reversal-turned b) ∙ sides-turned (plain b) ∙ sides-plain b)
 
 -- the side `flag s` stands in a plain tree
 pub data HasSide : Plain → Bool → Surface → Type 0 where

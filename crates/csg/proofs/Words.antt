@@ -4,7 +4,7 @@ use Prim.Native.Nat.{ℕ, zero, suc, _+_, _-_, _≤_, _<_}
 use native.Mathlib.Omega.{arith}
 use native.Mathlib.Numerals.{add-one}
 use mathlib.Core.Path.{_≡_, refl, sym, ap, _∙_}
-use mathlib.Core.Bool.{Bool, true, false, cond, false≢true}
+use mathlib.Core.Bool.{Bool, true, false, cond, _||_, false≢true}
 use mathlib.Core.List.{List, [], _∷_, map}
 use lib.ListN.{length, getD, drop, length-map}
 use lib.Seq.{drop-cons}
@@ -13,11 +13,12 @@ use borrow.Author.Tests.{ne-eqb, lt-ltb, le-ltb, ltb-true, ltb-false, leb-true, 
 use Rattle.lemmas.proofs.Sums.{and-left, and-right}
 use Rattle.universe.specs.Refusals.{overfullTree}
 use Rattle.csg.specs.Halfspace.{mostRows}
-use Rattle.csg.specs.Surfaces.{Named, halfspace-named}
-use Rattle.csg.specs.Tree.{Leaf, surface, Operator, Tree, leaf, node, leaves}
-use Rattle.csg.specs.Words.{mostWords, mostPending, Word, push, join, unknown, firstHalfspace, namesHalfspace, namesSurface, surfaceOf}
+use Rattle.csg.specs.Ball.{mostBalls}
+use Rattle.csg.specs.Surfaces.{Named, Surface, halfspace, ball, IsNamed, halfspace-named, ball-named, countHalfspace, countBall}
+use Rattle.csg.specs.Tree.{Leaf, surface, Operator, Tree, leaf, node, countLeaves, leaves, ballLeaves}
+use Rattle.csg.specs.Words.{mostWords, mostPending, Word, push, join, unknown, firstHalfspace, firstBall, isAmong, namesOne, namesSurface, surfaceOf}
 use Rattle.csg.specs.Words.{meaning, isOperator, operatorOf, isLeaf, leafOf, Fault, malformed, overfull, Outcome, refused, made, andThen, mapOutcome}
-use Rattle.csg.specs.Words.{step, finish, run, fold, parse, outcomeRefusal, treeRefusal, orWhite, treeOf, halfspaceWords}
+use Rattle.csg.specs.Words.{step, finish, run, fold, parse, outcomeRefusal, treeRefusal, orWhite, treeOf, countWords, halfspaceWords, ballWords}
 use Rattle.csg.specs.Words.{AllNamed, white-named, black-named, surface-named, node-named}
 
 -- a word by its number: an operator, else a leaf, else unknown
@@ -47,9 +48,20 @@ meaning-is names (suc (suc (suc zero))) = refl
 meaning-is names (suc (suc (suc (suc zero)))) = refl
 meaning-is names (suc (suc (suc (suc (suc w))))) = far names (suc (suc (suc (suc (suc w))))) (omega arith)
 
--- a word that names a halfspace is at least 256
-pub from-first : (w : ℕ) → namesHalfspace w ≡ true → firstHalfspace ≤ w
-from-first w e = leb-true _ _ (and-left (leb firstHalfspace w) (ltb w (firstHalfspace + mostRows)) e)
+-- a word among so many from the first on is at least the first, and below the last but one
+pub among-is : (first most w : ℕ) → isAmong first most w ≡ true → (first ≤ w) × (w < first + most)
+among-is first most w e =
+    (leb-true _ _ (and-left (leb first w) (ltb w (first + most)) e), ltb-true _ _ (and-right (leb first w) (ltb w (first + most)) e))
+
+one-is : (first most there w : ℕ) → namesOne first most there w ≡ true → (first ≤ w) × (w < first + most) × (w - first < there)
+one-is first most there w e =
+    let a = among-is first most w (and-left (isAmong first most w) (ltb (w - first) there) e) in
+    (a .0, a .1, ltb-true _ _ (and-right (isAmong first most w) (ltb (w - first) there) e))
+
+-- what a word names: a halfspace, one of the rows, by a word of 256 to 511, or a ball, one of the balls, by a word of 512 to 575
+pub data Names (names : Named) (w : ℕ) : Type 0 where
+  a-halfspace : firstHalfspace ≤ w → w < firstBall → w - firstHalfspace < names .halfspaces → Names names w
+  a-ball : firstBall ≤ w → w < firstBall + mostBalls → w - firstBall < names .balls → Names names w
 
 module _ (names : Named) (w : ℕ) where
   pub join-word : isOperator w ≡ true → meaning names w ≡ join (operatorOf w)
@@ -61,20 +73,23 @@ module _ (names : Named) (w : ℕ) where
   pub unknown-word : isOperator w ≡ false → isLeaf names w ≡ false → meaning names w ≡ unknown
   unknown-word o l = meaning-is names w ∙ simp (o, l)
 
-  -- a leaf that is neither WHITE nor BLACK names a surface; a halfspace is named by a word of 256 to 511, and is one of the rows
-  pub leaf-names : isLeaf names w ≡ true → 1 < w → namesSurface names w ≡ true
-  leaf-names l h = rw (lt-leb w 1 h) at l
-
-  pub surface-halfspace : namesSurface names w ≡ true → namesHalfspace w ≡ true
-  surface-halfspace e = and-left (namesHalfspace w) (ltb (w - firstHalfspace) (names .halfspaces)) e
-
-  pub leaf-row : isLeaf names w ≡ true → 1 < w → (firstHalfspace ≤ w) × (w - firstHalfspace < names .halfspaces)
-  leaf-row l h =
-      let e = leaf-names l h in
-      (from-first w (surface-halfspace e), ltb-true _ _ (and-right (namesHalfspace w) (ltb (w - firstHalfspace) (names .halfspaces)) e))
+  -- a leaf that is neither WHITE nor BLACK names a surface
+  pub leaf-names : isLeaf names w ≡ true → 1 < w → Names names w
+  leaf-names l h = by (namesOne firstHalfspace mostRows (names .halfspaces) w) refl (rw (lt-leb w 1 h) at l)
+    where
+      by : (b : Bool) → namesOne firstHalfspace mostRows (names .halfspaces) w ≡ b → (b || namesOne firstBall mostBalls (names .balls) w) ≡ true → Names names w
+      by true e t = let o = one-is firstHalfspace mostRows (names .halfspaces) w e in a-halfspace (o .0) (o .1) (o .2)
+      by false e t = let o = one-is firstBall mostBalls (names .balls) w t in a-ball (o .0) (o .1) (o .2)
 
 pub leaf-surface : (w : ℕ) → 1 < w → leafOf w ≡ surface (surfaceOf w)
 leaf-surface w h = simp (ne-eqb w 0 (omega arith), ne-eqb w 1 (omega arith))
+
+-- a word below 512 names a halfspace, one from 512 on a ball
+pub below-halfspace : (w : ℕ) → w < firstBall → surfaceOf w ≡ halfspace (w - firstHalfspace)
+below-halfspace w h = rw (lt-ltb w firstBall h)
+
+pub above-ball : (w : ℕ) → firstBall ≤ w → surfaceOf w ≡ ball (w - firstBall)
+above-ball w h = rw (le-ltb w firstBall h)
 
 -- the word at i, and those after it
 pub next : (ws : List ℕ) (i : ℕ) → i < length ws → drop i ws ≡ getD ws i 0 ∷ drop (i + 1) ws
@@ -234,39 +249,67 @@ module _ {A : Type 0} {ofLeaf : Leaf → A} {ofNode : Operator → A → A → A
   join-next (pushed p l g r) o = absurd (false≢true (sym p ∙ o))
   join-next (joined p r) o = r
 
--- the halfspaces of a tree are the words that name one
-leavesOf : List Tree → ℕ
-leavesOf [] = 0
-leavesOf (t ∷ ts) = leaves t + leavesOf ts
+-- the surfaces of a kind that a tree has are the words that name one: the words of the kind stand above all others that push or join
+record Kind (counts : Surface → ℕ) (first most : ℕ) : Type 0 where
+  above : 4 < first
+  counted : (names : Named) (w : ℕ) → Names names w → counts (surfaceOf w) ≡ cond (isAmong first most w) 1 0
 
-leaf-leaves : (names : Named) (w : ℕ) → isLeaf names w ≡ true → leaves (leaf (leafOf w)) ≡ cond (namesHalfspace w) 1 0
-unfolding leaves
-leaf-leaves names zero l = refl
-leaf-leaves names (suc zero) l = refl
-leaf-leaves names (suc (suc w)) l =
-    let v = suc (suc w) in
-    rw (leaf-surface v (omega arith), surface-halfspace names v (leaf-names names v l (omega arith)))
+halfspaces : Kind countHalfspace firstHalfspace mostRows
+halfspaces = record { above = omega arith; counted = by }
+  where
+    by : (names : Named) (w : ℕ) → Names names w → countHalfspace (surfaceOf w) ≡ cond (isAmong firstHalfspace mostRows w) 1 0
+    by names w (a-halfspace l h k) = rw (below-halfspace w h, le-leb firstHalfspace w l, lt-ltb w (firstHalfspace + mostRows) h)
+    by names w (a-ball l h k) = rw (above-ball w l, le-leb firstHalfspace w (omega arith), le-ltb w (firstHalfspace + mostRows) l)
 
-operator-names : (w : ℕ) → isOperator w ≡ true → _≡_ {A = ℕ} (cond (namesHalfspace w) 1 0) 0
-operator-names w o = simp (lt-leb firstHalfspace w (omega (arith, leb-true w 4 (and-right (leb 2 w) (leb w 4) o))))
+balls : Kind countBall firstBall mostBalls
+balls = record { above = omega arith; counted = by }
+  where
+    by : (names : Named) (w : ℕ) → Names names w → countBall (surfaceOf w) ≡ cond (isAmong firstBall mostBalls w) 1 0
+    by names w (a-halfspace l h k) = rw (below-halfspace w h, lt-leb firstBall w h)
+    by names w (a-ball l h k) = rw (above-ball w l, le-leb firstBall w l, lt-ltb w (firstBall + mostBalls) h)
 
-run-leaves : {names : Named} {ws : List ℕ} {pending : List Tree} {t : Tree} → Reads leaf node names ws pending t →
-    leaves t ≡ leavesOf pending + halfspaceWords ws
-unfolding leaves leavesOf halfspaceWords
-run-leaves ended = omega arith
-run-leaves {names} (pushed {w} o l g r) = omega (arith, run-leaves r, leaf-leaves names w l)
-run-leaves (joined {w} o r) = omega (arith, run-leaves r, operator-names w o)
+module _ {counts : Surface → ℕ} {first most : ℕ} (kind : Kind counts first most) where
+  countedOf : List Tree → ℕ
+  countedOf [] = 0
+  countedOf (t ∷ ts) = countLeaves counts t + countedOf ts
+
+  low-word : (w : ℕ) → w ≤ 4 → _≡_ {A = ℕ} (cond (isAmong first most w) 1 0) 0
+  low-word w h = rw (lt-leb first w (omega (arith, kind .above)))
+
+  leaf-counts : (names : Named) (w : ℕ) → isLeaf names w ≡ true → countLeaves counts (leaf (leafOf w)) ≡ cond (isAmong first most w) 1 0
+  unfolding countLeaves
+  leaf-counts names zero l = sym (low-word 0 (omega arith))
+  leaf-counts names (suc zero) l = sym (low-word 1 (omega arith))
+  leaf-counts names (suc (suc w)) l =
+      let v = suc (suc w) in
+      rw (leaf-surface v (omega arith)) (kind .counted names v (leaf-names names v l (omega arith)))
+
+  operator-counts : (w : ℕ) → isOperator w ≡ true → _≡_ {A = ℕ} (cond (isAmong first most w) 1 0) 0
+  operator-counts w o = low-word w (leb-true w 4 (and-right (leb 2 w) (leb w 4) o))
+
+  run-counts : {names : Named} {ws : List ℕ} {pending : List Tree} {t : Tree} → Reads leaf node names ws pending t →
+      countLeaves counts t ≡ countedOf pending + countWords first most ws
+  unfolding countLeaves countedOf countWords
+  run-counts ended = omega arith
+  run-counts {names} (pushed {w} o l g r) = omega (arith, run-counts r, leaf-counts names w l)
+  run-counts (joined {w} o r) = omega (arith, run-counts r, operator-counts w o)
+
+  tree-counts : (names : Named) (ws : List ℕ) → treeRefusal names ws ≡ 0 → countLeaves counts (treeOf names ws) ≡ countWords first most ws
+  unfolding countedOf
+  tree-counts names ws accepted = omega (arith, run-counts (reads ws [] (treeOf names ws) (accepted-tree names ws accepted)))
 
 pub tree-leaves : (names : Named) (ws : List ℕ) → treeRefusal names ws ≡ 0 → leaves (treeOf names ws) ≡ halfspaceWords ws
-unfolding leavesOf
-tree-leaves names ws accepted = omega (arith, run-leaves (reads ws [] (treeOf names ws) (accepted-tree names ws accepted)))
+tree-leaves names ws accepted = tree-counts halfspaces names ws accepted
 
-pub halfspace-words-most : (ws : List ℕ) → halfspaceWords ws ≤ length ws
-unfolding halfspaceWords
-halfspace-words-most [] = omega arith
-halfspace-words-most (w ∷ ws) = by (namesHalfspace w) (halfspace-words-most ws)
+pub tree-balls : (names : Named) (ws : List ℕ) → treeRefusal names ws ≡ 0 → ballLeaves (treeOf names ws) ≡ ballWords ws
+tree-balls names ws accepted = tree-counts balls names ws accepted
+
+pub count-words-most : (first most : ℕ) (ws : List ℕ) → countWords first most ws ≤ length ws
+unfolding countWords
+count-words-most first most [] = omega arith
+count-words-most first most (w ∷ ws) = by (isAmong first most w) (count-words-most first most ws)
   where
-    by : (b : Bool) → halfspaceWords ws ≤ length ws → cond b 1 0 + halfspaceWords ws ≤ suc (length ws)
+    by : (b : Bool) → countWords first most ws ≤ length ws → cond b 1 0 + countWords first most ws ≤ suc (length ws)
     by true h = omega arith
     by false h = omega arith
 
@@ -280,7 +323,11 @@ leaf-named names zero l = white-named
 leaf-named names (suc zero) l = black-named
 leaf-named names (suc (suc w)) l =
     let v = suc (suc w) in
-    rw (leaf-surface v (omega arith)) (surface-named (halfspace-named (leaf-row names v l (omega arith) .1)))
+    rw (leaf-surface v (omega arith)) (surface-named (by v (leaf-names names v l (omega arith))))
+  where
+    by : (v : ℕ) → Names names v → IsNamed names (surfaceOf v)
+    by v (a-halfspace a h k) = rw (below-halfspace v h) (halfspace-named k)
+    by v (a-ball a h k) = rw (above-ball v a) (ball-named k)
 
 run-named : {names : Named} {ws : List ℕ} {pending : List Tree} {t : Tree} → Reads leaf node names ws pending t → EachNamed names pending → AllNamed names t
 run-named ended (more p none) = p

@@ -1,5 +1,6 @@
--- Halfspaces and trees (rules, sections 2 and 3), and the raw expression (4.2).
+-- Halfspaces, balls and trees (rules, sections 2 and 3), and the raw expression (4.2).
 pub mod Halfspace
+pub mod Ball
 pub mod Surfaces
 pub mod Tree
 pub mod Words

@@ -1,4 +1,4 @@
--- Rules 3.5 and 2.3: the mark of a tree over a block, and its colour at the centre of a voxel.
+-- Rules 3.5, 2.3 and 2.9: the mark of a tree over a block, and its colour at the centre of a voxel.
 use Prim.Native.Nat.{ℕ}
 use mathlib.Core.Bool.{Bool, cond}
 use mathlib.Core.List.{List}
@@ -7,7 +7,8 @@ use Rattle.universe.specs.declared.Block.{Block}
 use Rattle.bintree.specs.declared.Colour.{Colour}
 use Rattle.bintree.specs.declared.Colour.the-variants.{White, Black}
 use Rattle.csg.specs.Halfspace.{Mark, decided, undecided, rowAt, markOver, colourAtCentre}
-use Rattle.csg.specs.Surfaces.{Surfaces, Surface, halfspace}
+use Rattle.csg.specs.Ball.{ballAt, ballMark, ballColour}
+use Rattle.csg.specs.Surfaces.{Surfaces, Surface, halfspace, ball}
 use Rattle.csg.specs.Tree.{Tree, Plain, colour, side, unionOf, intersectionOf, plain}
 
 -- rule 3.5: one BLACK son makes a UNION BLACK, two WHITE ones make it WHITE; for an INTERSECTION the colours exchanged
@@ -46,9 +47,11 @@ oppositeMark undecided = undecided
 -- the mark over a block, and the colour at a centre, of a surface as it is
 unfoldable pub surfaceMark : Surfaces → Surface → Block → Mark
 surfaceMark surfaces (halfspace i) b = markOver (rowAt (surfaces .rows) i) b
+surfaceMark surfaces (ball i) b = ballMark (ballAt (surfaces .balls) i) b
 
 unfoldable pub surfaceColour : Surfaces → Universe → Surface → List ℕ → Colour
 surfaceColour surfaces u (halfspace i) v = colourAtCentre u (rowAt (surfaces .rows) i) v
+surfaceColour surfaces u (ball i) v = ballColour u (ballAt (surfaces .balls) i) v
 
 -- and of a side of it, as it is or reversed: reversed it has the opposite mark and the opposite colour (rule 3.4)
 unfoldable pub sideMark : Surfaces → Bool → Surface → Block → Mark

@@ -4,7 +4,7 @@ use Prim.Native.Nat.{ℕ, _+_}
 use mathlib.Core.Bool.{Bool, true, false}
 use Rattle.bintree.specs.declared.Colour.{Colour}
 use Rattle.bintree.specs.declared.Colour.the-variants.{White, Black}
-use Rattle.csg.specs.Surfaces.{Surface, countHalfspace}
+use Rattle.csg.specs.Surfaces.{Surface, countHalfspace, countBall}
 
 -- what a word pushes: WHITE, BLACK or a surface
 pub data Leaf : Type 0 where
@@ -55,15 +55,22 @@ unfoldable mutual
   reversal (node intersection a b) = unionOf (reversal a) (reversal b)
   reversal (node minus a b) = unionOf (reversal a) (plain b)
 
--- rule 3.6: how many halfspaces a tree has, and how many a plain one; one that stands twice counts twice
-unfoldable pub leaves : Tree → ℕ
-leaves (leaf white) = 0
-leaves (leaf black) = 0
-leaves (leaf (surface s)) = countHalfspace s
-leaves (node o a b) = leaves a + leaves b
+-- what the surfaces of a tree, and of a plain one, count together; one that stands twice counts twice
+unfoldable pub countLeaves : (Surface → ℕ) → Tree → ℕ
+countLeaves counts (leaf white) = 0
+countLeaves counts (leaf black) = 0
+countLeaves counts (leaf (surface s)) = counts s
+countLeaves counts (node o a b) = countLeaves counts a + countLeaves counts b
 
-unfoldable pub sides : Plain → ℕ
-sides (colour c) = 0
-sides (side turned s) = countHalfspace s
-sides (unionOf a b) = sides a + sides b
-sides (intersectionOf a b) = sides a + sides b
+unfoldable pub countSides : (Surface → ℕ) → Plain → ℕ
+countSides counts (colour c) = 0
+countSides counts (side turned s) = counts s
+countSides counts (unionOf a b) = countSides counts a + countSides counts b
+countSides counts (intersectionOf a b) = countSides counts a + countSides counts b
+
+-- rules 3.6 and 4.14: how many halfspaces a tree has, and how many balls
+abbrev pub leaves : Tree → ℕ
+leaves t = countLeaves countHalfspace t
+
+abbrev pub ballLeaves : Tree → ℕ
+ballLeaves t = countLeaves countBall t

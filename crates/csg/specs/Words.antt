@@ -1,4 +1,4 @@
--- Rules 3.1, 3.2, 3.6 and 8.6: a tree's words in postfix order, its limits, and its refusals 4 and 5 in their order.
+-- Rules 3.1, 3.2, 3.6, 3.8 and 8.6: a tree's words in postfix order, its limits, and its refusals 4 and 5 in order.
 use Prim.Native.Nat.{ℕ, _+_, _-_}
 use mathlib.Core.Bool.{Bool, cond, _&&_, _||_}
 use mathlib.Core.List.{List, [], _∷_, _++_}
@@ -6,7 +6,8 @@ use lib.Dec.{ltb, leb, eqb}
 use lib.ListN.{length}
 use Rattle.universe.specs.Refusals.{badTree, overfullTree}
 use Rattle.csg.specs.Halfspace.{mostRows}
-use Rattle.csg.specs.Surfaces.{Named, Surface, halfspace, IsNamed}
+use Rattle.csg.specs.Ball.{mostBalls}
+use Rattle.csg.specs.Surfaces.{Named, Surface, halfspace, ball, IsNamed}
 use Rattle.csg.specs.Tree.{Leaf, white, black, surface, Operator, union, intersection, minus, Tree, leaf, node}
 
 -- rule 3.2: how many words a tree may have, and how many shapes may be pending
@@ -22,19 +23,34 @@ pub data Word : Type 0 where
   join : Operator → Word
   unknown : Word
 
--- rule 3.1: the word that names halfspace 0, and which words name one at all
+-- rules 3.1 and 3.8: the words that name halfspace 0 and ball 0
 abbrev pub firstHalfspace : ℕ
 firstHalfspace = 256
 
+abbrev pub firstBall : ℕ
+firstBall = 512
+
+-- whether a word is one of so many from the first on, and whether it names one of those that there are
+abbrev pub isAmong : ℕ → ℕ → ℕ → Bool
+isAmong first most w = leb first w && ltb w (first + most)
+
+abbrev pub namesOne : ℕ → ℕ → ℕ → ℕ → Bool
+namesOne first most there w = isAmong first most w && ltb (w - first) there
+
+-- which words name a halfspace at all, and which a ball
 abbrev pub namesHalfspace : ℕ → Bool
-namesHalfspace w = leb firstHalfspace w && ltb w (firstHalfspace + mostRows)
+namesHalfspace w = isAmong firstHalfspace mostRows w
+
+abbrev pub namesBall : ℕ → Bool
+namesBall w = isAmong firstBall mostBalls w
 
 -- whether a word names a surface, one of so many as there are, and which
 abbrev pub namesSurface : Named → ℕ → Bool
-namesSurface names w = namesHalfspace w && ltb (w - firstHalfspace) (names .halfspaces)
+namesSurface names w =
+    namesOne firstHalfspace mostRows (names .halfspaces) w || namesOne firstBall mostBalls (names .balls) w
 
 abbrev pub surfaceOf : ℕ → Surface
-surfaceOf w = halfspace (w - firstHalfspace)
+surfaceOf w = cond (ltb w firstBall) (halfspace (w - firstHalfspace)) (ball (w - firstBall))
 
 -- the word of MINUS, and the words of A MINUS A from those of A
 abbrev pub minusWord : ℕ
@@ -43,7 +59,7 @@ minusWord = 4
 abbrev pub minusItself : List ℕ → List ℕ
 minusItself words = words ++ (words ++ (minusWord ∷ []))
 
--- rule 3.1: what each word means; one that names no row means as little as one that is no word
+-- rule 3.1: what each word means; one that names no row and no ball means as little as one that is no word
 unfoldable pub meaning : Named → ℕ → Word
 meaning names w =
     cond (eqb w 0) (push white)
@@ -134,10 +150,17 @@ orWhite (made t) = t
 unfoldable pub treeOf : Named → List ℕ → Tree
 treeOf names ws = orWhite (parse names ws)
 
--- rule 3.6: how many of the words name a halfspace; a row named twice counts twice
-unfoldable pub halfspaceWords : List ℕ → ℕ
-halfspaceWords [] = 0
-halfspaceWords (w ∷ ws) = cond (namesHalfspace w) 1 0 + halfspaceWords ws
+-- how many of the words are among so many from the first on
+unfoldable pub countWords : ℕ → ℕ → List ℕ → ℕ
+countWords first most [] = 0
+countWords first most (w ∷ ws) = cond (isAmong first most w) 1 0 + countWords first most ws
+
+-- rules 3.6 and 4.14: how many of the words name a halfspace, and how many a ball; one named twice counts twice
+abbrev pub halfspaceWords : List ℕ → ℕ
+halfspaceWords ws = countWords firstHalfspace mostRows ws
+
+abbrev pub ballWords : List ℕ → ℕ
+ballWords ws = countWords firstBall mostBalls ws
 
 -- every surface of the tree is one of so many
 pub data AllNamed (names : Named) : Tree → Type 0 where

@@ -1,4 +1,11 @@
-// Halfspaces and trees: whether rows are halfspaces of a universe, and whether words are a tree over them.
+// Halfspaces, balls and trees: whether rows are halfspaces of a universe, whether numbers are its balls, and whether
+// words are a tree over them.
+mod ball;
+
+pub use ball::BALL_LENGTH;
+pub use ball::MOST_BALLS;
+pub use ball::MOST_PLACES;
+pub use ball::check_balls;
 use universe::Universe;
 use universe::refusals;
 ghost use mathlib.Core.Path.{_≡_};
@@ -9,7 +16,8 @@ ghost use lib.IntN.{natAbs};
 ghost use lib.Signed.{leZ};
 ghost use Rattle.universe.specs.Universe.{offsetLimit, coefficientLimit};
 ghost use Rattle.csg.specs.Halfspace.{rowLength, rowAt, withinLimits, rowsRefusal};
-ghost use Rattle.csg.specs.Words.{isOperator, isLeaf, treeRefusal, namesHalfspace, halfspaceWords};
+ghost use Rattle.csg.specs.Words.{isOperator, isAmong, namesOne, isLeaf, treeRefusal, countWords};
+ghost use Rattle.csg.specs.Words.{halfspaceWords, ballWords};
 
 // How many rows there may be, and the numbers of each (rule 2.5).
 pub const MOST_ROWS: usize = 256;
@@ -21,7 +29,8 @@ pub const MOST_WORDS: usize = 255;
 
 pub const MOST_PENDING: usize = 32;
 
-// The words (rule 3.1): five that name themselves, and from 256 on those that name a halfspace.
+// The words (rules 3.1 and 3.8): five that name themselves, from 256 on those that name a halfspace, and from 512 on
+// those that name a ball.
 pub const WHITE: u16 = 0;
 
 pub const BLACK: u16 = 1;
@@ -34,8 +43,10 @@ pub const MINUS: u16 = 4;
 
 pub const FIRST_HALFSPACE: u16 = 256;
 
+pub const FIRST_BALL: u16 = 512;
+
 // Whether a number is from least to most.
-fn between(least: i64, value: i64, most: i64) -> bool
+pub(crate) fn between(least: i64, value: i64, most: i64) -> bool
     ensures { λ r. ⌜ r ≡ (leZ least value && leZ value most) ⌝ }
 {
     if least <= value { value <= most } else { false }
@@ -112,32 +123,42 @@ pub fn is_operator(word: u16) -> bool
     word <= MINUS
 }
 
-// Whether a word names a halfspace.
-fn names_halfspace(word: u16) -> bool
-    ensures { λ r. ⌜ r ≡ namesHalfspace word ⌝ }
+// Whether a word is one of so many from the first on.
+fn is_among(first: u16, most: usize, word: u16) -> bool
+    ensures { λ r. ⌜ r ≡ isAmong first most word ⌝ }
 {
-    if word < FIRST_HALFSPACE {
+    if word < first {
         return false;
     }
-    ((word - FIRST_HALFSPACE) as usize) < MOST_ROWS
+    ((word - first) as usize) < most
 }
 
-// Whether a word pushes a shape, where there are so many rows.
-fn is_leaf(rows: u64, word: u16) -> bool
-    ensures { λ r. ⌜ r ≡ isLeaf (record { halfspaces = rows }) word ⌝ }
+// Whether it is, and names one of those that there are.
+fn names_one(first: u16, most: usize, there: u64, word: u16) -> bool
+    ensures { λ r. ⌜ r ≡ namesOne first most there word ⌝ }
+{
+    if !is_among(first, most, word) {
+        return false;
+    }
+    ((word - first) as u64) < there
+}
+
+// Whether a word pushes a shape, where there are so many rows and balls.
+fn is_leaf(rows: u64, balls: u64, word: u16) -> bool
+    ensures { λ r. ⌜ r ≡ isLeaf (record { halfspaces = rows; balls = balls }) word ⌝ }
 {
     if word <= BLACK {
         return true;
     }
-    if !names_halfspace(word) {
-        return false;
+    if names_one(FIRST_HALFSPACE, MOST_ROWS, rows, word) {
+        return true;
     }
-    ((word - FIRST_HALFSPACE) as u64) < rows
+    names_one(FIRST_BALL, MOST_BALLS, balls, word)
 }
 
-// 5 where a tree has too many words or shapes pending, 4 where words are no tree over so many rows, else 0.
-pub fn check_tree(rows: u64, words: &[u16]) -> u64
-    ensures { λ r. ⌜ r ≡ treeRefusal (record { halfspaces = rows }) (now (words .entry)) ⌝ }
+// 5 where a tree has too many words or shapes pending, 4 where words are no tree over so many rows and balls, else 0.
+pub fn check_tree(rows: u64, balls: u64, words: &[u16]) -> u64
+    ensures { λ r. ⌜ r ≡ treeRefusal (record { halfspaces = rows; balls = balls }) (now (words .entry)) ⌝ }
 {
     if MOST_WORDS < words.len() {
         return refusals::OVERFULL_TREE;
@@ -152,7 +173,7 @@ pub fn check_tree(rows: u64, words: &[u16]) -> u64
             }
             pending -= 1;
         } else {
-            if !is_leaf(rows, word) {
+            if !is_leaf(rows, balls, word) {
                 return refusals::BAD_TREE;
             }
             if MOST_PENDING <= pending {
@@ -165,17 +186,31 @@ pub fn check_tree(rows: u64, words: &[u16]) -> u64
     if pending == 1 { 0 } else { refusals::BAD_TREE }
 }
 
-// How many of the words name a halfspace.
-pub fn halfspace_words(words: &[u16]) -> u64
-    ensures { λ r. ⌜ r ≡ halfspaceWords (now (words .entry)) ⌝ }
+// How many of the words are among so many from the first on.
+fn count_words(first: u16, most: usize, words: &[u16]) -> u64
+    ensures { λ r. ⌜ r ≡ countWords first most (now (words .entry)) ⌝ }
 {
     let mut count: u64 = 0;
     let mut i: usize = 0;
     while i < words.len() {
-        if names_halfspace(words[i]) {
+        if is_among(first, most, words[i]) {
             count += 1;
         }
         i += 1;
     }
     count
+}
+
+// How many of the words name a halfspace.
+pub fn halfspace_words(words: &[u16]) -> u64
+    ensures { λ r. ⌜ r ≡ halfspaceWords (now (words .entry)) ⌝ }
+{
+    count_words(FIRST_HALFSPACE, MOST_ROWS, words)
+}
+
+// How many of the words name a ball.
+pub fn ball_words(words: &[u16]) -> u64
+    ensures { λ r. ⌜ r ≡ ballWords (now (words .entry)) ⌝ }
+{
+    count_words(FIRST_BALL, MOST_BALLS, words)
 }

@@ -71,12 +71,12 @@ colourArray a = colourNumber (a .colour) ∷ []
 abbrev pub placeArray : Placed → List ℕ
 placeArray a = a .start ∷ a .length ∷ []
 
--- a scene's version, axes, bits, frame bits, rows, words of tree 1 and of tree 2, first frame and last frame
+-- a scene's version, axes, bits, frame bits, rows, balls, words of tree 1 and of tree 2, first frame and last frame
 abbrev pub sceneArray : Scene → List ℕ
 sceneArray a =
     a .version
     ∷ a .universe .axes ∷ a .universe .bits ∷ a .universe .«frame_bits»
-    ∷ a .counts .rows ∷ a .counts .first ∷ a .counts .second
+    ∷ a .counts .rows ∷ a .counts .balls ∷ a .counts .first ∷ a .counts .second
     ∷ a .window .first ∷ a .window .last ∷ []
 
 -- a shape's axes, bits, frame bits and length, needed on 6

@@ -1,32 +1,35 @@
 // Scene files are read and put into lines, shape files are read and written.
 use csg::MOST_WORDS;
+use files::MOST_BALL_NUMBERS;
 use files::MOST_NUMBERS;
 use lines::MOST_BYTES;
 use universe::Universe;
 ghost use mathlib.Core.Path.{_≡_};
 ghost use mathlib.Core.List.{_++_};
 ghost use lib.ListN.{length, drop};
-ghost use Rattle.files.specs.Scenes.{sceneAnswer, rowsAfter, firstWordsAfter, secondWordsAfter};
+ghost use Rattle.files.specs.Scenes.{sceneAnswer, rowsAfter, ballsAfter, firstWordsAfter, secondWordsAfter};
 ghost use Rattle.files.specs.Shapes.{readAnswer, readBuffer, writeAnswer, writeBuffer};
 ghost use Rattle.lines.specs.Program.{programLines};
 ghost use Rattle.export.specs.Arrays.{universeOf, lengthArray, sceneArray, shapeArray};
 
-// Reads a scene: its rows and the words of its two trees go to the front of the lent arrays.
+// Reads a scene: its rows, its balls and the words of its two trees go to the front of the lent arrays.
 #[no_mangle]
 pub extern "C" fn durbizhan_scene(
     bytes: &[u8],
     rows: &mut [i64; MOST_NUMBERS],
+    balls: &mut [i64; MOST_BALL_NUMBERS],
     first: &mut [u16; MOST_WORDS],
     second: &mut [u16; MOST_WORDS],
-    answer: &mut [u64; 9],
+    answer: &mut [u64; 10],
 ) -> u64
     ensures { λ r. ⌜ r ≡ sceneAnswer (now (bytes .entry)) .refusal ⌝ }
     ensures { λ _. ⌜ now (answer .exit) ≡ sceneArray (sceneAnswer (now (bytes .entry))) ⌝ }
     ensures { λ _. ⌜ now (rows .exit) ≡ rowsAfter (now (bytes .entry)) (now (rows .entry)) ⌝ }
+    ensures { λ _. ⌜ now (balls .exit) ≡ ballsAfter (now (bytes .entry)) (now (balls .entry)) ⌝ }
     ensures { λ _. ⌜ now (first .exit) ≡ firstWordsAfter (now (bytes .entry)) (now (first .entry)) ⌝ }
     ensures { λ _. ⌜ now (second .exit) ≡ secondWordsAfter (now (bytes .entry)) (now (second .entry)) ⌝ }
 {
-    let scene = files::read_scene(bytes, rows, first, second);
+    let scene = files::read_scene(bytes, rows, balls, first, second);
     let universe = scene.universe;
     let counts = scene.counts;
     let window = scene.window;
@@ -36,6 +39,7 @@ pub extern "C" fn durbizhan_scene(
         universe.bits,
         universe.frame_bits,
         counts.rows,
+        counts.balls,
         counts.first,
         counts.second,
         window.first,

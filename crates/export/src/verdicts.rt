@@ -42,6 +42,7 @@ pub extern "C" fn durbizhan_verdict(
     bits: u64,
     frame_bits: u64,
     rows: &[i64],
+    balls: &[i64],
     first: &[u16],
     second: &[u16],
     first_frame: u64,
@@ -50,20 +51,20 @@ pub extern "C" fn durbizhan_verdict(
     answer: &mut [u64; 5],
 ) -> u64
     ensures { λ r. let u = universeOf axes bits «frame_bits» in
-        let surfaces = surfacesOf (now (rows .entry)) in
+        let surfaces = surfacesOf (now (rows .entry)) (now (balls .entry)) in
         let first = now (first .entry) in
         let second = now (second .entry) in
         let out = now (out .entry) in
         ⌜ r ≡ clearanceAnswer u surfaces first second «first_frame» «last_frame» out .refusal ⌝ }
     ensures { λ _. let u = universeOf axes bits «frame_bits» in
-        let surfaces = surfacesOf (now (rows .entry)) in
+        let surfaces = surfacesOf (now (rows .entry)) (now (balls .entry)) in
         let first = now (first .entry) in
         let second = now (second .entry) in
         let out = now (out .entry) in
         ⌜ now (answer .exit)
         ≡ clearanceArray (clearanceAnswer u surfaces first second «first_frame» «last_frame» out) ⌝ }
     ensures { λ _. let u = universeOf axes bits «frame_bits» in
-        let surfaces = surfacesOf (now (rows .entry)) in
+        let surfaces = surfacesOf (now (rows .entry)) (now (balls .entry)) in
         let first = now (first .entry) in
         let second = now (second .entry) in
         ⌜ now (out .exit)
@@ -77,6 +78,7 @@ pub extern "C" fn durbizhan_verdict(
     let found = convert::verdict_of_two(
         universe,
         rows,
+        balls,
         first,
         second,
         first_frame,

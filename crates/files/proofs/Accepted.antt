@@ -1,5 +1,5 @@
--- What a caller of `read_scene` knows by its contract: the number is sceneRefusal; where it is 0, every check accepts the scene's rows and words, so
--- that no further refusal is needed, and the lent arrays are long enough for them.
+-- What a caller of `read_scene` knows by its contract: the number is sceneRefusal; where it is 0, every check accepts the scene's rows, balls and words,
+-- so that no further refusal is needed, and the lent arrays are long enough for them.
 use Prim.Native.Nat.{ℕ, _*_, _/_, _≤_}
 use native.Mathlib.Omega.{arith}
 use native.Mathlib.Decide.{ℕ-discrete}
@@ -16,40 +16,49 @@ use Rattle.universe.specs.Voxel.{windowRefusal}
 use Rattle.universe.proofs.Lent.{written}
 use Rattle.bintree.proofs.Answers.{is-refused, is-done, number-of}
 use Rattle.csg.specs.Halfspace.{mostRows, rowLength, rowCount, rowsRefusal}
+use Rattle.csg.specs.Ball.{mostBalls, ballLength, ballCount, ballsRefusal}
 use Rattle.csg.specs.Words.{treeRefusal}
 use Rattle.files.specs.declared.Scene.{Scene}
 use Rattle.files.specs.Scenes.{isScene, sceneHeaderOf, noSceneHeader}
-use Rattle.files.specs.Scenes.{sceneHeader, rowsOf, firstWordsOf, secondWordsOf, namedBy, sceneRefusal, refusedScene, sceneAnswer}
-use Rattle.files.specs.Scenes.{rowsAfter, firstWordsAfter, secondWordsAfter}
+use Rattle.files.specs.Scenes.{sceneHeader, rowsOf, ballsOf, firstWordsOf, secondWordsOf, namedBy, sceneRefusal, refusedScene, sceneAnswer}
+use Rattle.files.specs.Scenes.{rowsAfter, ballsAfter, firstWordsAfter, secondWordsAfter}
 use Rattle.files.proofs.Numbers.{front-is}
-use Rattle.files.proofs.Scenes.{scene-accepts, header-rows-few}
+use Rattle.files.proofs.Scenes.{scene-accepts, header-rows-few, header-balls-few}
 
--- a scene with its rows and words that every check accepts
-pub record Ready (s : Scene) (numbers : List ℤ) (first second : List ℕ) : Type 0 where
+-- a scene with its rows, balls and words that every check accepts
+pub record Ready (s : Scene) (numbers spheres : List ℤ) (first second : List ℕ) : Type 0 where
   pub universe : universeRefusal (s .universe) ≡ 0
   pub rows : rowsRefusal (s .universe) numbers ≡ 0
+  pub balls : ballsRefusal (s .universe) spheres ≡ 0
   pub counted : rowCount numbers ≡ s .counts .rows
+  pub balls-counted : ballCount spheres ≡ s .counts .balls
   pub tree : treeRefusal (namedBy (s .counts)) first ≡ 0
   pub other : treeRefusal (namedBy (s .counts)) second ≡ 0
   pub window : windowRefusal (s .universe) (s .window .first) (s .window .last) ≡ 0
   pub few-rows : s .counts .rows ≤ mostRows
+  pub few-balls : s .counts .balls ≤ mostBalls
 
 -- what the header tells of is ready
 abbrev HeaderReady : List ℕ → Scene → Type 0
-HeaderReady bytes s = Ready s (rowsOf bytes (sceneHeader bytes)) (firstWordsOf bytes (sceneHeader bytes)) (secondWordsOf bytes (sceneHeader bytes))
+HeaderReady bytes s =
+    let h = sceneHeader bytes in Ready s (rowsOf bytes h) (ballsOf bytes h) (firstWordsOf bytes h) (secondWordsOf bytes h)
 
 header-ready : (bytes : List ℕ) → sceneRefusal bytes ≡ 0 → HeaderReady bytes (sceneHeader bytes .scene)
 header-ready bytes z =
     let a = scene-accepts bytes z in
     let n = sceneHeader bytes .scene .counts .rows in
+    let m = sceneHeader bytes .scene .counts .balls in
     record {
       universe = a .universe;
       rows = a .rows;
+      balls = a .balls;
       counted = ap (λ (k : ℕ). k / rowLength) (listed-length (rowLength * n) _) ∙ omega arith;
+      balls-counted = ap (λ (k : ℕ). k / ballLength) (listed-length (ballLength * m) _) ∙ omega arith;
       tree = a .first;
       other = a .second;
       window = a .window;
       few-rows = header-rows-few bytes refl z;
+      few-balls = header-balls-few bytes refl z;
     }
 
 -- so many numbers, or words, stand at the front of a lent array
@@ -99,6 +108,9 @@ module _ (bytes : List ℕ) {s : Scene} (e : s ≡ sceneAnswer bytes) where
 
     pub rows-held : (before : List ℤ) {now : List ℤ} → now ≡ rowsAfter bytes before → Held (rowLength * s .counts .rows) now
     rows-held before q = rw answer-scene (front-of _ _ before q)
+
+    pub balls-held : (before : List ℤ) {now : List ℤ} → now ≡ ballsAfter bytes before → Held (ballLength * s .counts .balls) now
+    balls-held before q = rw answer-scene (front-of _ _ before q)
 
     pub first-held : (before : List ℕ) {now : List ℕ} → now ≡ firstWordsAfter bytes before → Held (s .counts .first) now
     first-held before q = rw answer-scene (front-of _ _ before q)

@@ -24,11 +24,12 @@ use Rattle.lemmas.proofs.Grid.{listed-length, listed-next}
 use Rattle.lemmas.proofs.Machine.{read-call}
 use Rattle.universe.specs.declared.Universe.{Universe}
 use Rattle.universe.specs.Universe.{equalBits}
-use Rattle.files.specs.Numbers.{fromBits, u64At, versionOf, universeSaid, hasHeader}
+use Rattle.csg.specs.Ball.{mostPlaces, ballLength}
+use Rattle.files.specs.Numbers.{fromBits, u16At, u64At, shortBytes, ballNumber, versionOf, universeSaid, hasHeader}
 
--- ---- 64 bits as a whole number
+-- ---- 64 bits as a whole number, and 16
 
-pub bits-low : (n : ℕ) → n < 2 ^ 64 → toZ w64 n ≡ fromBits n
+pub bits-low : (n : ℕ) → n < 2 ^ 64 → toZ w64 n ≡ fromBits 64 n
 unfolding fromBits
 bits-low n h = rw (lt-ltb n (2 ^ 64) h)
 
@@ -48,13 +49,42 @@ module _ (n : ℕ) (high : 2 ^ 63 ≤ n) (fits : n < 2 ^ 64) where
   pub bits-fit : SFits w64 (negsuc 0 -ℤ toZ w64 (2 ^ 64 - 1 - n))
   bits-fit = rw below (record { sfits = omega arith })
 
-  pub bits-high : toZ w64 (ofZ w64 (negsuc 0 -ℤ toZ w64 (2 ^ 64 - 1 - n))) ≡ fromBits n
+  pub bits-high : toZ w64 (ofZ w64 (negsuc 0 -ℤ toZ w64 (2 ^ 64 - 1 - n))) ≡ fromBits 64 n
   bits-high = toZ-ofZ w64 _ bits-fit ∙ below ∙ at-high
     where
-      at-high : negsuc (2 ^ 64 - suc n) ≡ fromBits n
+      at-high : negsuc (2 ^ 64 - suc n) ≡ fromBits 64 n
       at-high = rw (sym (bits-low n fits), le-ltb n (2 ^ 63) high)
 
-pub ruleset bits-laws = (needs, bits-low, bits-fit, bits-high)
+-- 16 bits are below 2^16, and what they lack of it is how far a negative number is below 0
+module _ (n : ℕ) (fits : n < 2 ^ 16) where
+  pub short-read : toZ w64 n ≡ pos n
+  short-read = toZ-pos w64 n (omega arith)
+
+  pub short-low : n < 2 ^ 15 → toZ w64 n ≡ fromBits 16 n
+  unfolding fromBits
+  short-low h = rw (lt-ltb n (2 ^ 15) h) short-read
+
+  pub short-fit : SFits w64 (toZ w64 n -ℤ pos (2 ^ 16))
+  short-fit = rw (short-read, lt-ltb n (2 ^ 16) fits) (record { sfits = omega arith })
+
+  pub short-high : 2 ^ 15 ≤ n → toZ w64 (ofZ w64 (toZ w64 n -ℤ pos (2 ^ 16))) ≡ fromBits 16 n
+  unfolding fromBits
+  short-high h = toZ-ofZ w64 _ short-fit ∙ rw (short-read, le-ltb n (2 ^ 15) h)
+
+pub ruleset bits-laws = (needs, bits-low, bits-fit, bits-high, short-low, short-fit, short-high)
+
+-- ---- the numbers of balls
+
+module _ (bytes : List ℕ) (at i : ℕ) {bits : ℕ} (e : bits ≡ u16At bytes (at + shortBytes * i)) where
+  pub radius-number : bits < 2 ^ 16 → i % ballLength ≡ mostPlaces → toZ w64 bits ≡ ballNumber bytes at i
+  unfolding ballNumber
+  radius-number l t = short-read bits l ∙ rw (← e, eq-eqb (i % ballLength) mostPlaces t)
+
+  pub centre-number : {z : ℤ} → (i % ballLength ≡ mostPlaces → ⊥) → z ≡ fromBits 16 bits → z ≡ ballNumber bytes at i
+  unfolding ballNumber
+  centre-number n g = g ∙ rw (← e, ne-eqb (i % ballLength) mostPlaces n)
+
+pub ruleset ball-laws = (needs, radius-number, centre-number)
 
 -- ---- i of the n places at the front of a list are filled with what a rule gives
 
@@ -87,11 +117,15 @@ module _ {A : Type 0} {n : ℕ} {f : ℕ → A} {before : List A} {i : ℕ} {now
   filling-kept = s .kept
 
 -- a number of eight bytes as the machine stores it
-pub number-read : (bytes : List ℕ) (at : ℕ) {bits : ℕ} {z : ℤ} → mag z < 2 ^ 63 → z ≡ fromBits bits → bits ≡ u64At bytes at →
-    toZ w64 (ofZ w64 z) ≡ fromBits (u64At bytes at)
-number-read bytes at l e f = read-call l (e ∙ ap fromBits f)
+pub number-read : (bytes : List ℕ) (at : ℕ) {bits : ℕ} {z : ℤ} → mag z < 2 ^ 63 → z ≡ fromBits 64 bits → bits ≡ u64At bytes at →
+    toZ w64 (ofZ w64 z) ≡ fromBits 64 (u64At bytes at)
+number-read bytes at l e f = read-call l (e ∙ ap (fromBits 64) f)
 
-pub ruleset filling-laws = (needs, filling-start, filling-next, filling-end, filling-kept, number-read)
+-- and a number of a ball
+pub ball-read : (bytes : List ℕ) (at i : ℕ) {z : ℤ} → mag z < 2 ^ 63 → z ≡ ballNumber bytes at i → toZ w64 (ofZ w64 z) ≡ ballNumber bytes at i
+ball-read bytes at i l e = read-call l e
+
+pub ruleset filling-laws = (needs, filling-start, filling-next, filling-end, filling-kept, number-read, ball-read)
 
 -- what a list that was filled so holds at its front
 module _ {A : Type 0} (n : ℕ) (f : ℕ → A) (rest : List A) {now : List A} (e : now ≡ listed n f ++ rest) where

@@ -1,5 +1,5 @@
 -- Rule 7.1: numbers in bytes, the lowest byte first, and with what a file begins; past the end of the bytes stands 0.
-use Prim.Native.Nat.{ℕ, _+_, _*_, _/_, _%_, _^_}
+use Prim.Native.Nat.{ℕ, _+_, _*_, _-_, _/_, _%_, _^_}
 use mathlib.Core.Bool.{Bool, cond, _&&_}
 use mathlib.Core.List.{List, [], _∷_}
 use lib.Dec.{ltb, leb, eqb}
@@ -9,6 +9,7 @@ use Rattle.lemmas.specs.Sums.{every}
 use Rattle.lemmas.specs.Grid.{listed}
 use Rattle.universe.specs.declared.Universe.{Universe}
 use Rattle.universe.specs.Universe.{equalBits}
+use Rattle.csg.specs.Ball.{mostPlaces, ballLength}
 
 -- an unsigned number at a place: its lower half comes first
 abbrev pub u16At : List ℕ → ℕ → ℕ
@@ -20,9 +21,9 @@ u32At bytes at = u16At bytes at + 65_536 * u16At bytes (at + 2)
 abbrev pub u64At : List ℕ → ℕ → ℕ
 u64At bytes at = u32At bytes at + 4_294_967_296 * u32At bytes (at + 4)
 
--- 64 bits as a whole number: two's complement
-unfoldable pub fromBits : ℕ → ℤ
-fromBits n = cond (ltb n (2 ^ 63)) (pos n) (pos n -ℤ pos (2 ^ 64))
+-- so many bits as a whole number: two's complement
+unfoldable pub fromBits : ℕ → ℕ → ℤ
+fromBits width n = cond (ltb n (2 ^ (width - 1))) (pos n) (pos n -ℤ pos (2 ^ width))
 
 -- the bytes of a number i64, and of a word u16; and n of them, one after the other
 abbrev pub numberBytes : ℕ
@@ -32,10 +33,23 @@ abbrev pub wordBytes : ℕ
 wordBytes = 2
 
 abbrev pub i64sAt : List ℕ → ℕ → ℕ → List ℤ
-i64sAt bytes at n = listed n (λ i. fromBits (u64At bytes (at + numberBytes * i)))
+i64sAt bytes at n = listed n (λ i. fromBits 64 (u64At bytes (at + numberBytes * i)))
 
 abbrev pub u16sAt : List ℕ → ℕ → ℕ → List ℕ
 u16sAt bytes at n = listed n (λ i. u16At bytes (at + wordBytes * i))
+
+-- rule 7.6: the bytes of a ball's number; those of balls one after the other, of which the last of each is its radius,
+-- unsigned; and n balls
+abbrev pub shortBytes : ℕ
+shortBytes = 2
+
+unfoldable pub ballNumber : List ℕ → ℕ → ℕ → ℤ
+ballNumber bytes at i =
+    let bits = u16At bytes (at + shortBytes * i) in
+    cond (eqb (i % ballLength) mostPlaces) (pos bits) (fromBits 16 bits)
+
+abbrev pub ballsAt : List ℕ → ℕ → ℕ → List ℤ
+ballsAt bytes at n = listed (ballLength * n) (ballNumber bytes at)
 
 -- the bytes of an unsigned number below 2^16, and of one below 2^32
 abbrev pub u16Bytes : ℕ → List ℕ

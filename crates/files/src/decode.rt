@@ -3,17 +3,22 @@ ghost use mathlib.Core.Path.{_≡_};
 ghost use mathlib.Core.List.{_++_};
 ghost use Prim.Native.Nat.{_+_, _*_, _≤_, _<_};
 ghost use lib.ListN.{length, getD, drop};
-ghost use Rattle.files.specs.Numbers.{u16At, u32At, u64At, fromBits, i64sAt, u16sAt};
-ghost use Rattle.files.specs.Numbers.{numberBytes, wordBytes, versionOf, universeSaid, hasHeader};
+ghost use Rattle.csg.specs.Ball.{ballLength};
+ghost use Rattle.files.specs.Numbers.{u16At, u32At, u64At, fromBits, i64sAt, u16sAt, ballNumber, ballsAt};
+ghost use Rattle.files.specs.Numbers.{numberBytes, wordBytes, shortBytes, versionOf, universeSaid, hasHeader};
+use csg::BALL_LENGTH;
+use csg::MOST_PLACES;
 use universe::Universe;
 
 // The version of a file that has no frame bits.
 pub const FIRST_VERSION: u64 = 1;
 
-// The bytes of a number, and of a word.
+// The bytes of a number, of a word, and of a number of a ball.
 pub(crate) const NUMBER_BYTES: usize = 8;
 
 pub(crate) const WORD_BYTES: usize = 2;
+
+pub(crate) const SHORT_BYTES: usize = 2;
 
 // Whether bytes are as long as a header of so many bytes, and begin with its mark.
 pub(crate) fn has_header(bytes: &[u8], header: usize, mark: &[u8]) -> bool
@@ -92,12 +97,34 @@ fn u64_at(bytes: &[u8], at: usize) -> u64
 
 // 64 bits as a whole number: from 2^63 on they are those of a negative one.
 fn from_bits(bits: u64) -> i64
-    ensures { λ r. ⌜ r ≡ fromBits bits ⌝ }
+    ensures { λ r. ⌜ r ≡ fromBits 64 bits ⌝ }
 {
     if bits < 9_223_372_036_854_775_808 {
         return bits as i64;
     }
     -1 - (18_446_744_073_709_551_615 - bits) as i64
+}
+
+// 16 bits as a whole number: from 2^15 on they are those of a negative one.
+fn from_short_bits(bits: u16) -> i64
+    ensures { λ r. ⌜ r ≡ fromBits 16 bits ⌝ }
+{
+    if bits < 32_768 {
+        return bits as i64;
+    }
+    bits as i64 - 65_536
+}
+
+// Number i of balls that begin at `at`: the last of each ball is its radius, which is unsigned.
+fn ball_number(bytes: &[u8], at: usize, i: usize) -> i64
+    requires { ⌜ at + shortBytes * (i + 1) ≤ length (now bytes) ⌝ }
+    ensures { λ r. ⌜ r ≡ ballNumber (now (bytes .entry)) at i ⌝ }
+{
+    let bits = u16_at(bytes, at + SHORT_BYTES * i);
+    if i % BALL_LENGTH == MOST_PLACES {
+        return bits as i64;
+    }
+    from_short_bits(bits)
 }
 
 // Reads `count` numbers of eight bytes that begin at `at` into the front of `out`.
@@ -113,7 +140,22 @@ pub(crate) fn read_numbers(bytes: &[u8], at: usize, count: usize, out: &mut [i64
     }
 }
 
-// Reads `count` numbers of two bytes that begin at `at` into the front of `out`.
+// Reads the numbers of `count` balls that begin at `at` into the front of `out`.
+pub(crate) fn read_balls(bytes: &[u8], at: usize, count: usize, out: &mut [i64])
+    requires { ⌜ at + shortBytes * (ballLength * count) ≤ length (now bytes) ⌝ }
+    requires { ⌜ ballLength * count ≤ length (now out) ⌝ }
+    ensures { λ _. let rest = drop (ballLength * count) (now (out .entry)) in
+        ⌜ now (out .exit) ≡ ballsAt (now (bytes .entry)) at count ++ rest ⌝ }
+{
+    let numbers = BALL_LENGTH * count;
+    let mut i: usize = 0;
+    while i < numbers {
+        out[i] = ball_number(bytes, at, i);
+        i += 1;
+    }
+}
+
+// Reads `count` words that begin at `at` into the front of `out`.
 pub(crate) fn read_words(bytes: &[u8], at: usize, count: usize, out: &mut [u16])
     requires { ⌜ at + wordBytes * count ≤ length (now bytes) ⌝ }
     requires { ⌜ count ≤ length (now out) ⌝ }

@@ -4,6 +4,7 @@ mod scene_file;
 mod shape_file;
 
 pub use decode::FIRST_VERSION;
+pub use scene_file::MOST_BALL_NUMBERS;
 pub use scene_file::MOST_NUMBERS;
 pub use scene_file::read_scene;
 pub use shape_file::read_shape;
@@ -14,9 +15,10 @@ ghost use Rattle.files.specs.Shapes.{refusedShape, shortShape};
 use universe::Universe;
 use universe::refusals;
 
-// How many rows a scene has, and how many words each of its trees.
+// How many rows and balls a scene has, and how many words each of its trees.
 pub struct Counts {
     pub rows: u64,
+    pub balls: u64,
     pub first: u64,
     pub second: u64,
 }
@@ -50,6 +52,7 @@ impl Scene {
             },
             counts: Counts {
                 rows: 0,
+                balls: 0,
                 first: 0,
                 second: 0,
             },
@@ -61,6 +64,7 @@ impl Scene {
 // Where the parts of a scene file begin.
 pub struct Places {
     pub rows: usize,
+    pub balls: usize,
     pub first: usize,
     pub second: usize,
 }

@@ -1,14 +1,16 @@
-// Scene files: the header, the refusal, and the rows and words into lent arrays.
+// Scene files: the header, the refusal, and the rows, the balls and the words into lent arrays.
 ghost use mathlib.Core.Path.{_≡_};
 ghost use Prim.Native.Nat.{_+_, _*_, _≤_};
 ghost use lib.Dec.{eqb};
 ghost use lib.ListN.{length};
 ghost use Rattle.csg.specs.Halfspace.{rowLength, rowsRefusal};
+ghost use Rattle.csg.specs.Ball.{ballsRefusal};
 ghost use Rattle.csg.specs.Words.{treeRefusal};
-ghost use Rattle.files.specs.Numbers.{i64sAt, u16sAt, wordBytes};
-ghost use Rattle.files.specs.Scenes.{sceneHeaderLength, rowBytes, sceneLength, hasVersion, isScene};
-ghost use Rattle.files.specs.Scenes.{sceneHeaderOf, sceneHeader, sceneRefusal};
-ghost use Rattle.files.specs.Scenes.{sceneAnswer, rowsAfter, firstWordsAfter, secondWordsAfter};
+ghost use Rattle.files.specs.Numbers.{i64sAt, u16sAt, ballsAt, wordBytes};
+ghost use Rattle.files.specs.Scenes.{ballsSaid, rowBytes, ballBytes, rowsPlace, wordsPlace};
+ghost use Rattle.files.specs.Scenes.{sceneLength, hasVersion, isScene};
+ghost use Rattle.files.specs.Scenes.{sceneHeaderOf, sceneHeader, namedBy, sceneRefusal};
+ghost use Rattle.files.specs.Scenes.{sceneAnswer, rowsAfter, ballsAfter, firstWordsAfter, secondWordsAfter};
 use crate::Counts;
 use crate::Places;
 use crate::Scene;
@@ -16,64 +18,107 @@ use crate::SceneHeader;
 use crate::Window;
 use crate::decode::FIRST_VERSION;
 use crate::decode::NUMBER_BYTES;
+use crate::decode::SHORT_BYTES;
 use crate::decode::WORD_BYTES;
 use crate::decode::byte_at;
 use crate::decode::has_header;
+use crate::decode::read_balls;
 use crate::decode::read_numbers;
 use crate::decode::read_words;
 use crate::decode::u16_at;
 use crate::decode::universe_said;
 use crate::decode::version_of;
+use csg::BALL_LENGTH;
+use csg::MOST_BALLS;
 use csg::MOST_ROWS;
 use csg::MOST_WORDS;
 use csg::ROW_LENGTH;
+use csg::check_balls;
 use csg::check_rows;
 use csg::check_tree;
 use universe::Universe;
 use universe::refusals;
 
-// The numbers of all rows of a scene.
+// The numbers of all rows of a scene, and of all its balls.
 pub const MOST_NUMBERS: usize = MOST_ROWS * ROW_LENGTH;
+
+pub const MOST_BALL_NUMBERS: usize = MOST_BALLS * BALL_LENGTH;
 
 // With what a scene file begins.
 const MARK: [u8; 3] = [b'H', b'S', b'C'];
 
-// The version that has frame bits.
-const VERSION: u64 = 2;
+// The version that has frame bits, and the one that has balls too.
+const FRAME_VERSION: u64 = 2;
 
-// The length of a scene file's header, and of a row.
+const BALL_VERSION: u64 = 3;
+
+// The length of a scene file's header, of one that counts balls, of a row and of a ball.
 const HEADER_LENGTH: usize = 18;
+
+const BALL_HEADER_LENGTH: usize = 20;
 
 const ROW_BYTES: usize = NUMBER_BYTES * ROW_LENGTH;
 
+const BALL_BYTES: usize = SHORT_BYTES * BALL_LENGTH;
+
+// Where the rows begin, which is the length of the header.
+fn rows_place(bytes: &[u8]) -> usize
+    requires { ⌜ 18 ≤ length (now bytes) ⌝ }
+    ensures { λ r. ⌜ r ≡ rowsPlace (now (bytes .entry)) ⌝ }
+{
+    if version_of(bytes) == BALL_VERSION {
+        return BALL_HEADER_LENGTH;
+    }
+    HEADER_LENGTH
+}
+
+// How many balls there are.
+fn balls_said(bytes: &[u8]) -> u16
+    requires { ⌜ rowsPlace (now bytes) ≤ length (now bytes) ⌝ }
+    ensures { λ r. ⌜ r ≡ ballsSaid (now (bytes .entry)) ⌝ }
+{
+    if version_of(bytes) == BALL_VERSION {
+        return u16_at(bytes, HEADER_LENGTH);
+    }
+    0
+}
+
 // Whether the bytes are as long as their header says.
 fn is_whole(bytes: &[u8]) -> bool
-    requires { ⌜ sceneHeaderLength ≤ length (now bytes) ⌝ }
+    requires { ⌜ rowsPlace (now bytes) ≤ length (now bytes) ⌝ }
     ensures { λ r. ⌜ r ≡ eqb (length (now (bytes .entry))) (sceneLength (now (bytes .entry))) ⌝ }
 {
+    let header = rows_place(bytes);
     let rows = u16_at(bytes, 8) as usize;
+    let balls = balls_said(bytes) as usize;
     let first = u16_at(bytes, 10) as usize;
     let second = u16_at(bytes, 12) as usize;
-    bytes.len() == HEADER_LENGTH + ROW_BYTES * rows + WORD_BYTES * (first + second)
+    bytes.len() == header + ROW_BYTES * rows + BALL_BYTES * balls + WORD_BYTES * (first + second)
 }
 
 // Whether the version is read: the first one has a byte 0 where frame bits stand.
 fn has_version(bytes: &[u8]) -> bool
-    requires { ⌜ sceneHeaderLength ≤ length (now bytes) ⌝ }
+    requires { ⌜ rowsPlace (now bytes) ≤ length (now bytes) ⌝ }
     ensures { λ r. ⌜ r ≡ hasVersion (now (bytes .entry)) ⌝ }
 {
     let version = version_of(bytes);
     if version == FIRST_VERSION {
         return byte_at(bytes, 7) == 0;
     }
-    version == VERSION
+    if version == FRAME_VERSION {
+        return true;
+    }
+    version == BALL_VERSION
 }
 
 // Whether the bytes are a scene file by mark, version, zero byte and length.
 fn is_scene(bytes: &[u8]) -> bool
     ensures { λ r. ⌜ r ≡ isScene (now (bytes .entry)) ⌝ }
 {
-    if !has_header(bytes, HEADER_LENGTH, &MARK) {
+    if bytes.len() < HEADER_LENGTH {
+        return false;
+    }
+    if !has_header(bytes, rows_place(bytes), &MARK) {
         return false;
     }
     if !has_version(bytes) {
@@ -84,12 +129,15 @@ fn is_scene(bytes: &[u8]) -> bool
 
 // What the header of a scene file says.
 fn header_of(bytes: &[u8]) -> SceneHeader
-    requires { ⌜ sceneHeaderLength ≤ length (now bytes) ⌝ }
+    requires { ⌜ rowsPlace (now bytes) ≤ length (now bytes) ⌝ }
     ensures { λ r. ⌜ r ≡ sceneHeaderOf (now (bytes .entry)) ⌝ }
 {
+    let header = rows_place(bytes);
     let rows = u16_at(bytes, 8) as u64;
+    let balls = balls_said(bytes) as u64;
     let first = u16_at(bytes, 10) as u64;
-    let after_rows = HEADER_LENGTH + ROW_BYTES * rows as usize;
+    let after_rows = header + ROW_BYTES * rows as usize;
+    let after_balls = after_rows + BALL_BYTES * balls as usize;
     SceneHeader {
         scene: Scene {
             refusal: 0,
@@ -97,6 +145,7 @@ fn header_of(bytes: &[u8]) -> SceneHeader
             universe: universe_said(bytes),
             counts: Counts {
                 rows: rows,
+                balls: balls,
                 first: first,
                 second: u16_at(bytes, 12) as u64,
             },
@@ -106,9 +155,10 @@ fn header_of(bytes: &[u8]) -> SceneHeader
             },
         },
         places: Places {
-            rows: HEADER_LENGTH,
-            first: after_rows,
-            second: after_rows + WORD_BYTES * first as usize,
+            rows: header,
+            balls: after_rows,
+            first: after_balls,
+            second: after_balls + WORD_BYTES * first as usize,
         },
     }
 }
@@ -124,6 +174,7 @@ fn scene_header(bytes: &[u8]) -> SceneHeader
         scene: Scene::refused(refusals::BAD_FILE),
         places: Places {
             rows: 0,
+            balls: 0,
             first: 0,
             second: 0,
         },
@@ -144,17 +195,31 @@ fn rows_refusal(universe: Universe, bytes: &[u8], at: usize, count: usize) -> u6
     check_rows(universe, &rows[..length])
 }
 
+// 3 where the balls of a scene are refused, else 0.
+fn balls_refusal(universe: Universe, bytes: &[u8], at: usize, count: usize) -> u64
+    requires { ⌜ at + ballBytes * count ≤ length (now bytes) ⌝ }
+    ensures { λ r. ⌜ r ≡ ballsRefusal universe (ballsAt (now (bytes .entry)) at count) ⌝ }
+{
+    if MOST_BALLS < count {
+        return refusals::BAD_ROWS;
+    }
+    let mut balls = [0i64; MOST_BALL_NUMBERS];
+    let length = BALL_LENGTH * count;
+    read_balls(bytes, at, count, &mut balls);
+    check_balls(universe, &balls[..length])
+}
+
 // 4 or 5 where the words of a tree are refused, else 0.
-fn words_refusal(rows: u64, bytes: &[u8], at: usize, count: usize) -> u64
+fn words_refusal(counts: Counts, bytes: &[u8], at: usize, count: usize) -> u64
     requires { ⌜ at + wordBytes * count ≤ length (now bytes) ⌝ }
-    ensures { λ r. ⌜ r ≡ treeRefusal (record { halfspaces = rows }) (u16sAt (now (bytes .entry)) at count) ⌝ }
+    ensures { λ r. ⌜ r ≡ treeRefusal (namedBy counts) (u16sAt (now (bytes .entry)) at count) ⌝ }
 {
     if MOST_WORDS < count {
         return refusals::OVERFULL_TREE;
     }
     let mut words = [0u16; MOST_WORDS];
     read_words(bytes, at, count, &mut words);
-    check_tree(rows, &words[..count])
+    check_tree(counts.rows, counts.balls, &words[..count])
 }
 
 // The number that refuses a scene with this header, or 0.
@@ -176,11 +241,15 @@ fn scene_refusal(bytes: &[u8], header: SceneHeader) -> u64
     if rows != 0 {
         return rows;
     }
-    let first = words_refusal(counts.rows, bytes, places.first, counts.first as usize);
+    let balls = balls_refusal(scene.universe, bytes, places.balls, counts.balls as usize);
+    if balls != 0 {
+        return balls;
+    }
+    let first = words_refusal(counts, bytes, places.first, counts.first as usize);
     if first != 0 {
         return first;
     }
-    let second = words_refusal(counts.rows, bytes, places.second, counts.second as usize);
+    let second = words_refusal(counts, bytes, places.second, counts.second as usize);
     if second != 0 {
         return second;
     }
@@ -188,16 +257,18 @@ fn scene_refusal(bytes: &[u8], header: SceneHeader) -> u64
     scene.universe.window_refusal(window.first, window.last)
 }
 
-// Reads a scene: its rows and the words of its two trees go to the front of the lent arrays; where it is refused,
-// nothing does.
+// Reads a scene: its rows, its balls and the words of its two trees go to the front of the lent arrays; where it is
+// refused, nothing does.
 pub fn read_scene(
     bytes: &[u8],
     rows: &mut [i64; MOST_NUMBERS],
+    balls: &mut [i64; MOST_BALL_NUMBERS],
     first: &mut [u16; MOST_WORDS],
     second: &mut [u16; MOST_WORDS],
 ) -> Scene
     ensures { λ r. ⌜ r ≡ sceneAnswer (now (bytes .entry)) ⌝ }
     ensures { λ _. ⌜ now (rows .exit) ≡ rowsAfter (now (bytes .entry)) (now (rows .entry)) ⌝ }
+    ensures { λ _. ⌜ now (balls .exit) ≡ ballsAfter (now (bytes .entry)) (now (balls .entry)) ⌝ }
     ensures { λ _. ⌜ now (first .exit) ≡ firstWordsAfter (now (bytes .entry)) (now (first .entry)) ⌝ }
     ensures { λ _. ⌜ now (second .exit) ≡ secondWordsAfter (now (bytes .entry)) (now (second .entry)) ⌝ }
 {
@@ -210,6 +281,7 @@ pub fn read_scene(
     let counts = scene.counts;
     let places = header.places;
     read_numbers(bytes, places.rows, ROW_LENGTH * counts.rows as usize, rows);
+    read_balls(bytes, places.balls, counts.balls as usize, balls);
     read_words(bytes, places.first, counts.first as usize, first);
     read_words(bytes, places.second, counts.second as usize, second);
     scene

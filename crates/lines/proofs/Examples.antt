@@ -2,10 +2,15 @@
 use mathlib.Core.Path.{_≡_, refl}
 use mathlib.Core.List.{List, [], _∷_, _++_}
 use Prim.Native.Nat.{ℕ}
-use Rattle.universe.specs.Universe.{equalBits}
+use Rattle.lemmas.specs.Sums.{sum, product}
+use Rattle.universe.specs.Rounds.{round, rounds}
+use Rattle.universe.specs.Universe.{equalBits, universeRefusal, bitsAlong, levels, order, axisAt, halvings, blocksAlong}
+use Rattle.universe.specs.Room.{blocksAt, innerBlocksAt, levelCount, room, roomAnswer}
 use Rattle.bintree.specs.declared.Verdict.the-variants.{Clear, Hit}
+use Rattle.convert.specs.Answers.{doneClearance}
 use Rattle.lines.specs.Decimal.{digits, decimal}
 use Rattle.lines.specs.Lines.{bitsOf, text, refusedLine, shortLine, universeLine, countsLine, verdictLine}
+use Rattle.lines.specs.Program.{clearanceLines}
 
 abbrev computed : List (List ℕ)
 computed =
@@ -20,6 +25,8 @@ computed =
     ∷ universeLine 2 (record { axes = 4; bits = 6; «frame_bits» = 11 })
     ∷ universeLine 2 (equalBits 1 10)
     ∷ universeLine 2 (record { axes = 2; bits = 2; «frame_bits» = 0 })
+    ∷ universeLine 3 (record { axes = 4; bits = 6; «frame_bits» = 11 })
+    ∷ universeLine 3 (equalBits 2 2)
     ∷ verdictLine Clear
     ∷ []
 
@@ -36,8 +43,24 @@ expected =
     ∷ text "axes 4 bits 6 frame 11\n"
     ∷ text "axes 1 bits 0 frame 10\n"
     ∷ text "axes 2 bits 2 frame 0\n"
+    ∷ text "axes 4 bits 6 frame 11\n"
+    ∷ text "axes 2 bits 2 frame 2\n"
     ∷ text "clear\n"
     ∷ []
+
+-- a scene of version 3 in 16 voxels: line 2 counts no ball word among the leaves, and its room is that of all blocks where there is one
+abbrev withBalls : ℕ → ℕ → List ℕ
+withBalls leaves balls = clearanceLines 3 (equalBits 2 2) leaves balls (doneClearance Clear 3)
+
+pub room-with-balls :
+    withBalls 0 1 ++ withBalls 1 2 ++ withBalls 1 0 ++ withBalls 0 0
+    ≡ text "axes 2 bits 2 frame 2\nleaves 0 raw 3 room 31\nclear\n"
+    ++ text "axes 2 bits 2 frame 2\nleaves 1 raw 3 room 31\nclear\n"
+    ++ text "axes 2 bits 2 frame 2\nleaves 1 raw 3 room 23\nclear\n"
+    ++ text "axes 2 bits 2 frame 2\nleaves 0 raw 3 room 1\nclear\n"
+unfolding sum product decimal digits bitsOf equalBits universeRefusal round rounds bitsAlong levels order axisAt halvings blocksAlong blocksAt innerBlocksAt
+    levelCount room roomAnswer clearanceLines
+room-with-balls = refl
 
 pub lines-are : computed ≡ expected
 unfolding decimal digits bitsOf equalBits

@@ -13,40 +13,43 @@ use Rattle.universe.specs.Refusals.{badFile, noRoom}
 use Rattle.universe.specs.Universe.{equalBits}
 use Rattle.universe.specs.Room.{roomAnswer}
 use Rattle.csg.specs.Halfspace.{mostRows, rowLength}
+use Rattle.csg.specs.Ball.{mostBalls, ballLength}
 use Rattle.csg.specs.Surfaces.{Surfaces, surfacesOf}
-use Rattle.csg.specs.Words.{mostWords, halfspaceWords}
+use Rattle.csg.specs.Words.{mostWords, halfspaceWords, ballWords}
 use Rattle.convert.specs.declared.verdict.Clearance.{Clearance}
 use Rattle.convert.specs.Answers.{clearanceAnswer}
 use Rattle.files.specs.declared.Scene.{Scene}
 use Rattle.files.specs.Numbers.{versionOf}
-use Rattle.files.specs.Scenes.{sceneAnswer, rowsAfter, firstWordsAfter, secondWordsAfter}
+use Rattle.files.specs.Scenes.{sceneAnswer, rowsAfter, ballsAfter, firstWordsAfter, secondWordsAfter}
 use Rattle.files.proofs.Accepted.{answer-said}
 use Rattle.lines.specs.Lines.{text, labelled, bitsOf, refusedLine, shortLine, universeLine, countsLine, verdictLine}
 use Rattle.lines.specs.Program.{mostSceneBytes, lentSymbols, clearanceLines, judgedLines, sceneLines, programLines}
 
 -- ---- what the conversion answers
-module _ (version : ℕ) (u : Universe) (leaves : ℕ) (c : Clearance) where
-  pub short-lines : c .refusal ≡ noRoom → shortLine (c .length) ≡ clearanceLines version u leaves c
+module _ (version : ℕ) (u : Universe) (leaves balls : ℕ) (c : Clearance) where
+  pub short-lines : c .refusal ≡ noRoom → shortLine (c .length) ≡ clearanceLines version u leaves balls c
   unfolding clearanceLines
   short-lines e = rw (eq-eqb (c .refusal) noRoom e)
 
-  pub refused-lines : (c .refusal ≡ noRoom → ⊥) → (c .refusal ≡ 0 → ⊥) → refusedLine (c .refusal) ≡ clearanceLines version u leaves c
+  pub refused-lines : (c .refusal ≡ noRoom → ⊥) → (c .refusal ≡ 0 → ⊥) → refusedLine (c .refusal) ≡ clearanceLines version u leaves balls c
   unfolding clearanceLines
   refused-lines f g = rw (ne-eqb (c .refusal) noRoom f, ne-eqb (c .refusal) 0 g)
 
-  pub three-lines : {room : RoomAnswer} → (c .refusal ≡ noRoom → ⊥) → c .refusal ≡ 0 → room ≡ roomAnswer u leaves
-      → universeLine version u ++ countsLine leaves (c .length) (room .symbols) ++ verdictLine (c .verdict) ≡ clearanceLines version u leaves c
+  pub three-lines : {room : RoomAnswer} → (c .refusal ≡ noRoom → ⊥) → c .refusal ≡ 0 → room ≡ roomAnswer u leaves balls
+      → universeLine version u ++ countsLine leaves (c .length) (room .symbols) ++ verdictLine (c .verdict) ≡ clearanceLines version u leaves balls c
   unfolding clearanceLines
   three-lines f e q = rw (ne-eqb (c .refusal) noRoom f, eq-eqb (c .refusal) 0 e, q)
 
 -- ---- a scene that was read
-pub judged-lines : (s : Scene) (surfaces : Surfaces) (first second : List ℕ) {c : Clearance} {a b : ℕ}
+pub judged-lines : (s : Scene) (surfaces : Surfaces) (first second : List ℕ) {c : Clearance} {a b m n : ℕ}
     → c ≡ clearanceAnswer (s .universe) surfaces first second (s .window .first) (s .window .last) (replicate lentSymbols 0)
     → a ≡ halfspaceWords first
     → b ≡ halfspaceWords second
-    → clearanceLines (s .version) (s .universe) (a + b) c ≡ judgedLines s surfaces first second
+    → m ≡ ballWords first
+    → n ≡ ballWords second
+    → clearanceLines (s .version) (s .universe) (a + b) (m + n) c ≡ judgedLines s surfaces first second
 unfolding judgedLines
-judged-lines s surfaces first second e f g = rw (e, f, g)
+judged-lines s surfaces first second e f g h k = rw (e, f, g, h, k)
 
 -- ---- a scene
 module _ (bytes : List ℕ) {s : Scene} (e : s ≡ sceneAnswer bytes) where
@@ -57,14 +60,16 @@ module _ (bytes : List ℕ) {s : Scene} (e : s ≡ sceneAnswer bytes) where
   unfolding sceneLines
   unread-lines n = rw (ne-eqb (sceneAnswer bytes .refusal) 0 (λ z. n (sym number ∙ z)), number)
 
-  pub read-lines : s .refusal ≡ 0 → {rows : List ℤ} {first second : List ℕ}
+  pub read-lines : s .refusal ≡ 0 → {rows balls : List ℤ} {first second : List ℕ}
       → rows ≡ rowsAfter bytes (replicate (mostRows * rowLength) (pos 0))
+      → balls ≡ ballsAfter bytes (replicate (mostBalls * ballLength) (pos 0))
       → first ≡ firstWordsAfter bytes (replicate mostWords 0)
       → second ≡ secondWordsAfter bytes (replicate mostWords 0)
-      → judgedLines s (surfacesOf (take (rowLength * s .counts .rows) rows)) (take (s .counts .first) first) (take (s .counts .second) second)
+      → judgedLines s (surfacesOf (take (rowLength * s .counts .rows) rows) (take (ballLength * s .counts .balls) balls)) (take (s .counts .first) first)
+      (take (s .counts .second) second)
       ≡ sceneLines bytes
   unfolding sceneLines
-  read-lines z p q r = rw (eq-eqb (sceneAnswer bytes .refusal) 0 (number ∙ z), p, q, r, e)
+  read-lines z p b q r = rw (eq-eqb (sceneAnswer bytes .refusal) 0 (number ∙ z), p, b, q, r, e)
 
 -- ---- line 1 of a scene that was read says the bytes of its file
 

@@ -39,7 +39,7 @@ bitsOf version u =
 abbrev pub universeLine : ℕ → Universe → List ℕ
 universeLine version u = labelled "axes " (u .axes) ++ bitsOf version u ++ text "\n"
 
--- line 2: N (rule 3.6), the raw expression's length, and room (rule 4.7)
+-- line 2: N (rule 3.6), the raw expression's length, and room (rules 4.7 and 4.14)
 abbrev pub countsLine : ℕ → ℕ → ℕ → List ℕ
 countsLine leaves raw room = labelled "leaves " leaves ++ labelled " raw " raw ++ labelled " room " room ++ text "\n"
 

@@ -21,15 +21,17 @@ pub const MOST_SCENE_BYTES: usize = 65_536;
 // The symbols lent to the conversion.
 const LENT: usize = 32_768;
 
-// The lines of what the conversion answers of a scene of a version, with so many leaves.
+// The lines of what the conversion answers of a scene of a version, with so many words that name a halfspace and so
+// many that name a ball.
 fn write_clearance(
     version: u64,
     universe: Universe,
     leaves: u64,
+    balls: u64,
     clearance: Clearance,
     out: &mut [u8; MOST_BYTES],
 ) -> usize
-    ensures { λ r. let lines = clearanceLines version universe leaves clearance in
+    ensures { λ r. let lines = clearanceLines version universe leaves balls clearance in
         ⌜ Appended mostBytes (now (out .entry)) 0 lines (now (out .exit)) r ⌝ }
 {
     if clearance.refusal == NO_ROOM {
@@ -38,7 +40,7 @@ fn write_clearance(
     if clearance.refusal != 0 {
         return write_refused(clearance.refusal, out);
     }
-    let room = universe.room(leaves);
+    let room = universe.room(leaves, balls);
     let verdict = clearance.verdict;
     write_three(
         version,
@@ -51,15 +53,16 @@ fn write_clearance(
     )
 }
 
-// The lines of a scene that was read, with its rows and the words of its two trees.
+// The lines of a scene that was read, with its rows, its balls and the words of its two trees.
 fn write_judged(
     scene: Scene,
     rows: &[i64],
+    balls: &[i64],
     first: &[u16],
     second: &[u16],
     out: &mut [u8; MOST_BYTES],
 ) -> usize
-    ensures { λ r. let surfaces = surfacesOf (now (rows .entry)) in
+    ensures { λ r. let surfaces = surfacesOf (now (rows .entry)) (now (balls .entry)) in
         let lines = judgedLines scene surfaces (now (first .entry)) (now (second .entry)) in
         ⌜ Appended mostBytes (now (out .entry)) 0 lines (now (out .exit)) r ⌝ }
 {
@@ -68,6 +71,7 @@ fn write_judged(
     let clearance = convert::verdict_of_two(
         scene.universe,
         rows,
+        balls,
         first,
         second,
         window.first,
@@ -75,7 +79,15 @@ fn write_judged(
         &mut symbols,
     );
     let leaves = csg::halfspace_words(first) + csg::halfspace_words(second);
-    write_clearance(scene.version, scene.universe, leaves, clearance, out)
+    let ball_words = csg::ball_words(first) + csg::ball_words(second);
+    write_clearance(
+        scene.version,
+        scene.universe,
+        leaves,
+        ball_words,
+        clearance,
+        out,
+    )
 }
 
 // The lines of a scene.
@@ -83,19 +95,22 @@ fn write_scene(bytes: &[u8], out: &mut [u8; MOST_BYTES]) -> usize
     ensures { λ r. ⌜ Appended mostBytes (now (out .entry)) 0 (sceneLines (now (bytes .entry))) (now (out .exit)) r ⌝ }
 {
     let mut rows = [0i64; files::MOST_NUMBERS];
+    let mut balls = [0i64; files::MOST_BALL_NUMBERS];
     let mut first = [0u16; csg::MOST_WORDS];
     let mut second = [0u16; csg::MOST_WORDS];
-    let scene = files::read_scene(bytes, &mut rows, &mut first, &mut second);
+    let scene = files::read_scene(bytes, &mut rows, &mut balls, &mut first, &mut second);
     if scene.refusal != 0 {
         return write_refused(scene.refusal, out);
     }
     let counts = scene.counts;
-    let numbers = csg::ROW_LENGTH * counts.rows as usize;
+    let row_numbers = csg::ROW_LENGTH * counts.rows as usize;
+    let ball_numbers = csg::BALL_LENGTH * counts.balls as usize;
     let first_words = counts.first as usize;
     let second_words = counts.second as usize;
     write_judged(
         scene,
-        &rows[..numbers],
+        &rows[..row_numbers],
+        &balls[..ball_numbers],
         &first[..first_words],
         &second[..second_words],
         out,

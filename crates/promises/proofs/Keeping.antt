@@ -69,20 +69,21 @@ length-told before out written z = go (decLe (length written) (length out))
 
 -- ---- symbols that show colours, and fit
 
-pub record Showing (u : Universe) (leaves : ℕ) (colours : List ℕ → Colour) (written : List ℕ) : Type 0 where
+pub record Showing (u : Universe) (leaves balls : ℕ) (colours : List ℕ → Colour) (written : List ℕ) : Type 0 where
   pub accepted : universeRefusal u ≡ 0
   pub shape : Shape
   pub reads : expression u written ≡ read shape
   pub shows : (v : List ℕ) → voxelRefusal u v ≡ 0 → colourAt u shape v ≡ colours v
-  pub fits : length written ≤ room u leaves
+  pub fits : length written ≤ room u leaves balls
 
-room-told : (u : Universe) (leaves : ℕ) → universeRefusal u ≡ 0 → roomAnswer u leaves .symbols ≡ room u leaves
+room-told : (u : Universe) (leaves balls : ℕ) → universeRefusal u ≡ 0 → roomAnswer u leaves balls .symbols ≡ room u leaves balls
 unfolding roomAnswer
-room-told u leaves ok = rw (eq-eqb (universeRefusal u) 0 ok)
+room-told u leaves balls ok = rw (eq-eqb (universeRefusal u) 0 ok)
 
-module _ (u : Universe) (before leaves : ℕ) (colours : List ℕ → Colour) (out written : List ℕ) (shown : before ≡ 0 → Showing u leaves colours written) where
+module _ (u : Universe) (before leaves balls : ℕ) (colours : List ℕ → Colour) (out written : List ℕ)
+    (shown : before ≡ 0 → Showing u leaves balls colours written) where
   abbrev Keeps : Written → List ℕ → Type 0
-  Keeps answer left = Promised u before leaves colours out answer left
+  Keeps answer left = Promised u before leaves balls colours out answer left
 
   refused : (before ≡ 0 → ⊥) → Keeps (refusedWriting before) out
   refused n = record { kept = λ h. refl; behind = λ z. refl; coloured = λ z. absurd (n z); suffices = λ z. absurd (n z) }
@@ -94,7 +95,7 @@ module _ (u : Universe) (before leaves : ℕ) (colours : List ℕ → Colour) (o
         kept = λ f. refl;
         behind = λ f. refl;
         coloured = λ f. absurd (omega arith);
-        suffices = λ f g. absurd (omega (arith, s .fits, room-told u leaves (s .accepted)));
+        suffices = λ f g. absurd (omega (arith, s .fits, room-told u leaves balls (s .accepted)));
       }
 
   done : before ≡ 0 → Keeps (doneWriting (length written)) (written ++ drop (length written) out)

@@ -22,12 +22,13 @@ use Rattle.bintree.proofs.Answers.{written-refused}
 use Rattle.bintree.proofs.Shape.{length-symbols}
 use Rattle.bintree.proofs.Merging.{merged-size}
 use Rattle.csg.specs.Halfspace.{rowsRefusal}
+use Rattle.csg.specs.Ball.{ballsRefusal}
 use Rattle.csg.specs.Surfaces.{Surfaces, named}
-use Rattle.csg.specs.Tree.{Tree, leaves}
-use Rattle.csg.specs.Words.{treeRefusal, treeOf, halfspaceWords}
+use Rattle.csg.specs.Tree.{Tree, countLeaves, leaves, ballLeaves}
+use Rattle.csg.specs.Words.{treeRefusal, treeOf, halfspaceWords, ballWords}
 use Rattle.csg.specs.Marks.{treeColour, intersectionColour}
 use Rattle.csg.specs.Raw.{raw, both, blocksExamined}
-use Rattle.csg.proofs.Words.{tree-leaves}
+use Rattle.csg.proofs.Words.{tree-leaves, tree-balls}
 use Rattle.demands.specs.Verdicts.{Judges}
 use Rattle.demands.proofs.Theorems.{demand-2, demand-3, verdict-of-trees}
 use Rattle.demands.proofs.Colours.{both-colour}
@@ -41,9 +42,9 @@ use Rattle.promises.proofs.Keeping.{first-accepts, Showing, keeps, leng
 
 -- ---- the symbols of a tree show its colours, and fit
 
-module _ (u : Universe) (surfaces : Surfaces) (t : Tree) (n : ℕ) (ok : universeRefusal u ≡ 0) (e : leaves t ≡ n) (colours : List ℕ → Colour)
-    (same : (v : List ℕ) → treeColour surfaces u t v ≡ colours v) where
-  raw-showing : Showing u n colours (symbols (raw u surfaces t))
+module _ (u : Universe) (surfaces : Surfaces) (t : Tree) (n m : ℕ) (ok : universeRefusal u ≡ 0) (e : leaves t ≡ n) (g : ballLeaves t ≡ m)
+    (colours : List ℕ → Colour) (same : (v : List ℕ) → treeColour surfaces u t v ≡ colours v) where
+  raw-showing : Showing u n m colours (symbols (raw u surfaces t))
   raw-showing =
       let shown = demand-2 u ok surfaces t .raw-shows in
       record {
@@ -51,10 +52,10 @@ module _ (u : Universe) (surfaces : Surfaces) (t : Tree) (n : ℕ) (ok : univers
         shape = raw u surfaces t;
         reads = shown .reads;
         shows = λ v w. shown .colours v w ∙ same v;
-        fits = rw e at (demand-3 u ok surfaces t .raw-fits);
+        fits = rw (e, g) at (demand-3 u ok surfaces t .raw-fits);
       }
 
-  merged-showing : Showing u n colours (symbols (merged (raw u surfaces t)))
+  merged-showing : Showing u n m colours (symbols (merged (raw u surfaces t)))
   merged-showing =
       let shown = demand-2 u ok surfaces t .merged-shows in
       record {
@@ -62,7 +63,7 @@ module _ (u : Universe) (surfaces : Surfaces) (t : Tree) (n : ℕ) (ok : univers
         shape = merged (raw u surfaces t);
         reads = shown .reads;
         shows = λ v w. shown .colours v w ∙ same v;
-        fits = rw e at (demand-3 u ok surfaces t .merged-fits);
+        fits = rw (e, g) at (demand-3 u ok surfaces t .merged-fits);
       }
 
   merged-shorter : length (symbols (merged (raw u surfaces t))) ≤ length (symbols (raw u surfaces t))
@@ -82,24 +83,29 @@ module _ (u : Universe) (surfaces : Surfaces) (words : List ℕ) (out : List ℕ
     pub checks : (universeRefusal u ≡ 0) × (treeRefusal (named surfaces) words ≡ 0)
     unfolding oneTreeChecks
     checks =
-        let third = treeRefusal (named surfaces) words in
-        let second = rowsRefusal u (surfaces .rows) in
-        let a = first-accepts (universeRefusal u) (second ∷ third ∷ []) z in
-        let b = first-accepts second (third ∷ []) (a .1) in
-        (a .0, first-accepts third [] (b .1) .0)
+        let fourth = treeRefusal (named surfaces) words in
+        let balls = ballsRefusal u (surfaces .balls) in
+        let rows = rowsRefusal u (surfaces .rows) in
+        let a = first-accepts (universeRefusal u) (rows ∷ balls ∷ fourth ∷ []) z in
+        let b = first-accepts rows (balls ∷ fourth ∷ []) (a .1) in
+        let c = first-accepts balls (fourth ∷ []) (b .1) in
+        (a .0, first-accepts fourth [] (c .1) .0)
 
     few : leaves tree ≡ halfspaceWords words
     few = tree-leaves (named surfaces) words (checks .1)
 
-  pub raw-of-one : Promised u (oneTreeRefusal u surfaces words) (halfspaceWords words) colours out
+    few-balls : ballLeaves tree ≡ ballWords words
+    few-balls = tree-balls (named surfaces) words (checks .1)
+
+  pub raw-of-one : Promised u (oneTreeRefusal u surfaces words) (halfspaceWords words) (ballWords words) colours out
       (rawOfOneAnswer u surfaces words out) (rawOfOneBuffer u surfaces words out)
   unfolding rawOfOneAnswer rawOfOneBuffer rawOfOne
-  raw-of-one = keeps u _ _ colours out _ (λ z. raw-showing u surfaces tree _ (checks z .0) (few z) colours (λ v. refl))
+  raw-of-one = keeps u _ _ _ colours out _ (λ z. raw-showing u surfaces tree _ _ (checks z .0) (few z) (few-balls z) colours (λ v. refl))
 
-  pub merged-of-one : Promised u (oneTreeRefusal u surfaces words) (halfspaceWords words) colours out
+  pub merged-of-one : Promised u (oneTreeRefusal u surfaces words) (halfspaceWords words) (ballWords words) colours out
       (mergedOfOneAnswer u surfaces words out) (mergedOfOneBuffer u surfaces words out)
   unfolding mergedOfOneAnswer mergedOfOneBuffer mergedOfOne
-  merged-of-one = keeps u _ _ colours out _ (λ z. merged-showing u surfaces tree _ (checks z .0) (few z) colours (λ v. refl))
+  merged-of-one = keeps u _ _ _ colours out _ (λ z. merged-showing u surfaces tree _ _ (checks z .0) (few z) (few-balls z) colours (λ v. refl))
 
   -- the raw length, written or needed, is the number of blocks examined, and the merged one is at most that
   pub raw-of-one-blocks : oneTreeRefusal u surfaces words ≡ 0 → rawOfOneAnswer u surfaces words out .length ≡ blocksExamined u surfaces tree
@@ -114,7 +120,7 @@ module _ (u : Universe) (surfaces : Surfaces) (words : List ℕ) (out : List ℕ
       omega (
         arith,
         length-told _ out (mergedOfOne u surfaces words) z,
-        merged-shorter u surfaces tree _ (checks z .0) (few z) colours (λ v. refl),
+        merged-shorter u surfaces tree _ _ (checks z .0) (few z) (few-balls z) colours (λ v. refl),
         demand-3 u (checks z .0) surfaces tree .raw-counts,
       )
 
@@ -168,40 +174,49 @@ module _ (u : Universe) (surfaces : Surfaces) (first second : List ℕ) where
   abbrev words : ℕ
   words = halfspaceWords first + halfspaceWords second
 
+  abbrev balls : ℕ
+  balls = ballWords first + ballWords second
+
   module _ (z : twoTreesRefusal u surfaces first second ≡ 0) where
     pub accepts : (universeRefusal u ≡ 0) × ((treeRefusal (named surfaces) first ≡ 0) × (treeRefusal (named surfaces) second ≡ 0))
     unfolding twoTreesChecks
     accepts =
-        let fourth = treeRefusal (named surfaces) second in
-        let third = treeRefusal (named surfaces) first in
+        let fifth = treeRefusal (named surfaces) second in
+        let fourth = treeRefusal (named surfaces) first in
+        let third = ballsRefusal u (surfaces .balls) in
         let rows = rowsRefusal u (surfaces .rows) in
-        let a = first-accepts (universeRefusal u) (rows ∷ third ∷ fourth ∷ []) z in
-        let b = first-accepts rows (third ∷ fourth ∷ []) (a .1) in
-        let c = first-accepts third (fourth ∷ []) (b .1) in
-        (a .0, (c .0, first-accepts fourth [] (c .1) .0))
+        let a = first-accepts (universeRefusal u) (rows ∷ third ∷ fourth ∷ fifth ∷ []) z in
+        let b = first-accepts rows (third ∷ fourth ∷ fifth ∷ []) (a .1) in
+        let c = first-accepts third (fourth ∷ fifth ∷ []) (b .1) in
+        let d = first-accepts fourth (fifth ∷ []) (c .1) in
+        (a .0, (d .0, first-accepts fifth [] (d .1) .0))
 
     few-both : leaves (both tree₁ tree₂) ≡ words
-    unfolding leaves
+    unfolding countLeaves
     few-both = ap₂ _+_ (tree-leaves (named surfaces) first (accepts .1 .0)) (tree-leaves (named surfaces) second (accepts .1 .1))
 
-    raw-shown : Showing u words shared (rawOfTwo u surfaces first second)
-    unfolding rawOfTwo
-    raw-shown = raw-showing u surfaces (both tree₁ tree₂) words (accepts .0) few-both shared (both-colour surfaces u tree₁ tree₂)
+    balls-both : ballLeaves (both tree₁ tree₂) ≡ balls
+    unfolding countLeaves
+    balls-both = ap₂ _+_ (tree-balls (named surfaces) first (accepts .1 .0)) (tree-balls (named surfaces) second (accepts .1 .1))
 
-    merged-shown : Showing u words shared (mergedOfTwo u surfaces first second)
+    raw-shown : Showing u words balls shared (rawOfTwo u surfaces first second)
+    unfolding rawOfTwo
+    raw-shown = raw-showing u surfaces (both tree₁ tree₂) words balls (accepts .0) few-both balls-both shared (both-colour surfaces u tree₁ tree₂)
+
+    merged-shown : Showing u words balls shared (mergedOfTwo u surfaces first second)
     unfolding mergedOfTwo
-    merged-shown = merged-showing u surfaces (both tree₁ tree₂) words (accepts .0) few-both shared (both-colour surfaces u tree₁ tree₂)
+    merged-shown = merged-showing u surfaces (both tree₁ tree₂) words balls (accepts .0) few-both balls-both shared (both-colour surfaces u tree₁ tree₂)
 
   module _ (out : List ℕ) where
-    pub raw-of-two : Promised u (twoTreesRefusal u surfaces first second) words shared out
+    pub raw-of-two : Promised u (twoTreesRefusal u surfaces first second) words balls shared out
         (rawOfTwoAnswer u surfaces first second out) (rawOfTwoBuffer u surfaces first second out)
     unfolding rawOfTwoAnswer rawOfTwoBuffer
-    raw-of-two = keeps u _ words shared out (rawOfTwo u surfaces first second) raw-shown
+    raw-of-two = keeps u _ words balls shared out (rawOfTwo u surfaces first second) raw-shown
 
-    pub merged-of-two : Promised u (twoTreesRefusal u surfaces first second) words shared out
+    pub merged-of-two : Promised u (twoTreesRefusal u surfaces first second) words balls shared out
         (mergedOfTwoAnswer u surfaces first second out) (mergedOfTwoBuffer u surfaces first second out)
     unfolding mergedOfTwoAnswer mergedOfTwoBuffer
-    merged-of-two = keeps u _ words shared out (mergedOfTwo u surfaces first second) merged-shown
+    merged-of-two = keeps u _ words balls shared out (mergedOfTwo u surfaces first second) merged-shown
 
     -- the raw length, written or needed, is the number of blocks examined, and the merged one is at most that
     pub raw-of-two-blocks : twoTreesRefusal u surfaces first second ≡ 0 →
@@ -218,7 +233,7 @@ module _ (u : Universe) (surfaces : Surfaces) (first second : List ℕ) where
         omega (
           arith,
           length-told _ out (mergedOfTwo u surfaces first second) z,
-          merged-shorter u surfaces (both tree₁ tree₂) words (accepts z .0) (few-both z) shared (both-colour surfaces u tree₁ tree₂),
+          merged-shorter u surfaces (both tree₁ tree₂) words balls (accepts z .0) (few-both z) (balls-both z) shared (both-colour surfaces u tree₁ tree₂),
           demand-3 u (accepts z .0) surfaces (both tree₁ tree₂) .raw-counts,
         )
 
@@ -238,12 +253,12 @@ module _ (u : Universe) (surfaces : Surfaces) (first second : List ℕ) where
       written = writtenAnswer (clearanceRefusal u surfaces first second from to) out (rawOfTwo u surfaces first second)
 
       -- of the room lent, all that is promised of the raw conversion
-      pub verdict-of-two : Promised u (clearanceRefusal u surfaces first second from to) words shared out
+      pub verdict-of-two : Promised u (clearanceRefusal u surfaces first second from to) words balls shared out
           (record { refusal = given .refusal; length = given .length }) (clearanceBuffer u surfaces first second from to out)
       unfolding clearanceAnswer clearanceBuffer
       verdict-of-two =
           rw (← as-written written (verdict u (raw u surfaces (both tree₁ tree₂)) from to))
-          (keeps u _ words shared out (rawOfTwo u surfaces first second) (λ z. raw-shown (window-accepted z .0)))
+          (keeps u _ words balls shared out (rawOfTwo u surfaces first second) (λ z. raw-shown (window-accepted z .0)))
 
       -- Hit exactly if some voxel of the window is black in both trees, with the first and the last frame of such a voxel and their number
       pub verdict-says : given .refusal ≡ 0 → Judges u shared from to (given .verdict)

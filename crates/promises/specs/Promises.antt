@@ -12,9 +12,9 @@ use Rattle.bintree.specs.declared.Written.{Written}
 use Rattle.bintree.specs.Parts.{doneColour, colourAnswer}
 
 -- The call lent `out` answered `answer` and left `left` there. `before` is the number of its checks before 6, `leaves`
--- the halfspace words of its trees, `colours` the colour that each voxel is to have.
+-- and `balls` the halfspace words and the ball words of its trees, `colours` the colour that each voxel is to have.
 pub record Promised
-    (u : Universe) (before leaves : ℕ) (colours : List ℕ → Colour)
+    (u : Universe) (before leaves balls : ℕ) (colours : List ℕ → Colour)
     (out : List ℕ) (answer : Written) (left : List ℕ) : Type 0 where
   -- whatever is refused, the room is as it was; and what is behind the symbols is, too
   pub kept : (answer .refusal ≡ 0 → ⊥) → left ≡ out
@@ -23,4 +23,4 @@ pub record Promised
   pub coloured : answer .refusal ≡ 0 → (v : List ℕ) → voxelRefusal u v ≡ 0
       → colourAnswer u (take (answer .length) left) v ≡ doneColour (colours v)
   -- a call that its checks before 6 accept is not refused where as much room is lent as the room question answers
-  pub suffices : before ≡ 0 → roomAnswer u leaves .symbols ≤ length out → answer .refusal ≡ 0
+  pub suffices : before ≡ 0 → roomAnswer u leaves balls .symbols ≤ length out → answer .refusal ≡ 0

@@ -3,28 +3,31 @@ use mathlib.Core.Path.{refl}
 use borrow.Fn.World.{World}
 use Rattle.export.proofs as export
 use Rattle.told_apart.specs.Answers.{TellsApart}
-use Rattle.told_apart.proofs.Alike.{same, one, two, three, five, behind}
+use Rattle.told_apart.proofs.Alike.{same, one, two, three, six, behind}
 
 pub durbizhan-room : (w : World) → TellsApart w export.conversions.durbizhan_room.ended export.conversions.durbizhan_room.clauses
-durbizhan-room w _ _ = ((tt, refl), λ _ _ _ _ _. two w (λ p q. (same (p .0) (q .0), λ i. behind 4 (same (p .1) (q .1) i, tt))))
+durbizhan-room w _ _ = ((tt, refl), λ _ _ _ _ _. two w (λ p q. (same (p .0) (q .0), λ i. behind 5 (same (p .1) (q .1) i, tt))))
 
 pub durbizhan-leaves : (w : World) → TellsApart w export.conversions.durbizhan_leaves.ended export.conversions.durbizhan_leaves.clauses
 durbizhan-leaves w _ _ = ((tt, refl), λ _ _ _ _ _. one w (λ p q. (same p q, refl)))
 
+pub durbizhan-balls : (w : World) → TellsApart w export.conversions.durbizhan_balls.ended export.conversions.durbizhan_balls.clauses
+durbizhan-balls w _ _ = ((tt, refl), λ _ _ _ _ _. one w (λ p q. (same p q, refl)))
+
 pub durbizhan-raw-one : (w : World) → TellsApart w export.conversions.durbizhan_raw_one.ended export.conversions.durbizhan_raw_one.clauses
-durbizhan-raw-one w _ _ = ((tt, refl), λ _ _ _ _ _. three w (λ p q. (same (p .0) (q .0), λ i. behind 5 (same (p .2) (q .2) i, (same (p .1) (q .1) i, tt)))))
+durbizhan-raw-one w _ _ = ((tt, refl), λ _ _ _ _ _. three w (λ p q. (same (p .0) (q .0), λ i. behind 6 (same (p .2) (q .2) i, (same (p .1) (q .1) i, tt)))))
 
 pub durbizhan-raw-two : (w : World) → TellsApart w export.conversions.durbizhan_raw_two.ended export.conversions.durbizhan_raw_two.clauses
-durbizhan-raw-two w _ _ = ((tt, refl), λ _ _ _ _ _. three w (λ p q. (same (p .0) (q .0), λ i. behind 6 (same (p .2) (q .2) i, (same (p .1) (q .1) i, tt)))))
+durbizhan-raw-two w _ _ = ((tt, refl), λ _ _ _ _ _. three w (λ p q. (same (p .0) (q .0), λ i. behind 7 (same (p .2) (q .2) i, (same (p .1) (q .1) i, tt)))))
 
 pub durbizhan-merged-one : (w : World) → TellsApart w export.conversions.durbizhan_merged_one.ended export.conversions.durbizhan_merged_one.clauses
-durbizhan-merged-one w _ _ = ((tt, refl), λ _ _ _ _ _. three w (λ p q. (same (p .0) (q .0), λ i. behind 5 (same (p .2) (q .2) i, (same (p .1) (q .1) i, tt)))))
+durbizhan-merged-one w _ _ = ((tt, refl), λ _ _ _ _ _. three w (λ p q. (same (p .0) (q .0), λ i. behind 6 (same (p .2) (q .2) i, (same (p .1) (q .1) i, tt)))))
 
 pub durbizhan-merged-two : (w : World) → TellsApart w export.conversions.durbizhan_merged_two.ended export.conversions.durbizhan_merged_two.clauses
-durbizhan-merged-two w _ _ = ((tt, refl), λ _ _ _ _ _. three w (λ p q. (same (p .0) (q .0), λ i. behind 6 (same (p .2) (q .2) i, (same (p .1) (q .1) i, tt)))))
+durbizhan-merged-two w _ _ = ((tt, refl), λ _ _ _ _ _. three w (λ p q. (same (p .0) (q .0), λ i. behind 7 (same (p .2) (q .2) i, (same (p .1) (q .1) i, tt)))))
 
 pub durbizhan-verdict : (w : World) → TellsApart w export.verdicts.durbizhan_verdict.ended export.verdicts.durbizhan_verdict.clauses
-durbizhan-verdict w _ _ = ((tt, refl), λ _ _ _ _ _. three w (λ p q. (same (p .0) (q .0), λ i. behind 8 (same (p .2) (q .2) i, (same (p .1) (q .1) i, tt)))))
+durbizhan-verdict w _ _ = ((tt, refl), λ _ _ _ _ _. three w (λ p q. (same (p .0) (q .0), λ i. behind 9 (same (p .2) (q .2) i, (same (p .1) (q .1) i, tt)))))
 
 pub durbizhan-numbers : (w : World) → TellsApart w export.verdicts.durbizhan_numbers.ended export.verdicts.durbizhan_numbers.clauses
 durbizhan-numbers w _ _ = ((tt, refl), λ _ _ _ _ _. two w (λ p q. (same (p .0) (q .0), λ i. behind 6 (same (p .1) (q .1) i, tt))))
@@ -35,12 +38,13 @@ durbizhan-report w _ _ = ((tt, refl), λ _ _ _ _ _. three w (λ p q. (same (p .0
 pub durbizhan-scene : (w : World) → TellsApart w export.documents.durbizhan_scene.ended export.documents.durbizhan_scene.clauses
 durbizhan-scene w _ _ = (
   (tt, refl),
-  λ _ _ _ _ _. five w (λ p q.
+  λ _ _ _ _ _. six w (λ p q.
       let answer = same (p .1) (q .1) in
       let rows = same (p .2) (q .2) in
-      let first = same (p .3) (q .3) in
-      let second = same (p .4) (q .4) in
-      (same (p .0) (q .0), λ i. (tt, (rows i, (first i, (second i, (answer i, tt))))))),
+      let balls = same (p .3) (q .3) in
+      let first = same (p .4) (q .4) in
+      let second = same (p .5) (q .5) in
+      (same (p .0) (q .0), λ i. (tt, (rows i, (balls i, (first i, (second i, (answer i, tt)))))))),
 )
 
 pub durbizhan-lines : (w : World) → TellsApart w export.documents.durbizhan_lines.ended export.documents.durbizhan_lines.clauses

@@ -20,7 +20,7 @@ use Rattle.lemmas.proofs.Sums.{top, product-cong, product-mono, product-positiv
 use Rattle.universe.specs.declared.Universe.{Universe}
 use Rattle.universe.specs.Universe.{mostAxes, mostFrameBits, mostLevels, longestSide, universeRefusal, levels, axisAt, halvings, blocksAlong}
 use Rattle.universe.specs.Questions.{levelsAnswer, axesLeft}
-use Rattle.universe.specs.Room.{blocksAt, innerBlocksAt, levelCount, room, roomAnswer, FewBlocks}
+use Rattle.universe.specs.Room.{blocksAt, innerBlocksAt, countOf, levelCount, room, roomAnswer, FewBlocks}
 use Rattle.universe.proofs.Universes.{accepted, levels-few, bits-few, axis-below, halvings-most}
 use Rattle.universe.proofs.Universes.{blocks-positive, blocks-first, blocks-doubled, blocks-kept}
 use Rattle.universe.proofs.Questions.{levels-told, axes-left-at}
@@ -83,18 +83,18 @@ product-fits axes blocks less axis found f h e =
 -- ---- level by level
 
 -- with so many levels left: the blocks along each axis, and what the levels above count
-pub record Counted (u : Universe) (leaves : ℕ) (axes blocks : List ℕ) (found left : ℕ) : Type 0 where
+pub record Counted (u : Universe) (leaves balls : ℕ) (axes blocks : List ℕ) (found left : ℕ) : Type 0 where
   pub good : universeRefusal u ≡ 0
   pub within : left ≤ levels u
   pub order : axes ≡ axesLeft u
   pub long : length blocks ≡ mostAxes
   pub along : (i : ℕ) → i < u .axes → getD blocks i 0 ≡ blocksAlong u (levels u - left) i
-  pub so-far : found ≡ sum (levels u - left) (levelCount u leaves)
+  pub so-far : found ≡ sum (levels u - left) (levelCount u leaves balls)
 
-pub counted-first : (u : Universe) (leaves : ℕ) {axes : List ℕ} {left : ℕ} → universeRefusal u ≡ 0 → axes ≡ axesLeft u → left ≡ levelsAnswer u
-    → Counted u leaves axes (replicate mostAxes 1) 0 left
+pub counted-first : (u : Universe) (leaves balls : ℕ) {axes : List ℕ} {left : ℕ} → universeRefusal u ≡ 0 → axes ≡ axesLeft u → left ≡ levelsAnswer u
+    → Counted u leaves balls axes (replicate mostAxes 1) 0 left
 unfolding sum
-counted-first u leaves {axes} {left} e f g =
+counted-first u leaves balls {axes} {left} e f g =
     let all : left ≡ levels u = levels-told u refl e g in
     let none : levels u - left ≡ 0 = omega arith in
     record {
@@ -107,12 +107,13 @@ counted-first u leaves {axes} {left} e f g =
     }
 
 -- what is found is below room
-found-few : {u : Universe} {leaves : ℕ} {axes blocks : List ℕ} {found left : ℕ} → Counted u leaves axes blocks found left → 1 + 2 * found < 2 ^ suc mostLevels
+found-few : {u : Universe} {leaves balls : ℕ} {axes blocks : List ℕ} {found left : ℕ} → Counted u leaves balls axes blocks found left →
+    1 + 2 * found < 2 ^ suc mostLevels
 unfolding room
-found-few {u} {leaves} {axes} {blocks} {found} {left} s =
-    omega (arith, s .so-far, sum-longer (levels u - left) (levels u) (levelCount u leaves) (omega arith), room-small u (s .good) leaves)
+found-few {u} {leaves} {balls} {axes} {blocks} {found} {left} s =
+    omega (arith, s .so-far, sum-longer (levels u - left) (levels u) (levelCount u leaves balls) (omega arith), room-small u (s .good) leaves balls)
 
-module _ {u : Universe} {leaves : ℕ} {axes blocks : List ℕ} {found left : ℕ} (s : Counted u leaves axes blocks found left) where
+module _ {u : Universe} {leaves balls : ℕ} {axes blocks : List ℕ} {found left : ℕ} (s : Counted u leaves balls axes blocks found left) where
   abbrev level : ℕ
   level = levels u - left
 
@@ -141,7 +142,7 @@ module _ {u : Universe} {leaves : ℕ} {axes blocks : List ℕ} {found left : �
   room-fits = omega (arith, found-few s)
 
   -- after the last level it is room
-  pub found-all : left ≤ 0 → 1 + 2 * found ≡ room u leaves
+  pub found-all : left ≤ 0 → 1 + 2 * found ≡ room u leaves balls
   unfolding room
   found-all h = let last : levels u - left ≡ levels u = omega arith in omega (arith, rw last at (s .so-far))
 
@@ -193,15 +194,15 @@ module _ {u : Universe} {leaves : ℕ} {axes blocks : List ℕ} {found left : �
     inner-less =
         rw (a, b) (product-less (u .axes) (λ i. getD blocks i 0 - 0) (λ i. getD blocks i 0 - 1) axes-some (λ i h. omega (arith, blocks-few .some i h)))
 
-    count-is : {count : ℕ} → count ≡ min all (leaves * (all - inner)) → count ≡ levelCount u leaves level
+    count-is : {count : ℕ} → count ≡ countOf leaves balls all inner → count ≡ levelCount u leaves balls level
     unfolding levelCount blocksAt innerBlocksAt
     count-is c =
         let every : all ≡ blocksAt u level = a ∙ product-cong (u .axes) _ _ (λ i h. omega (arith, s .along i h)) in
         let some : inner ≡ innerBlocksAt u level = b ∙ product-cong (u .axes) _ _ (λ i h. omega (arith, s .along i h)) in
-        c ∙ ap₂ (λ (x y : ℕ). min x (leaves * (x - y))) every some
+        c ∙ ap₂ (countOf leaves balls) every some
 
-    pub counted-next : {count : ℕ} → count ≡ min all (leaves * (all - inner)) → (h : 0 < left)
-        → Counted u leaves axes (set blocks (getD axes (left - 1) 0) (getD blocks (getD axes (left - 1) 0) 0 * 2)) (found + count) (left - 1)
+    pub counted-next : {count : ℕ} → count ≡ countOf leaves balls all inner → (h : 0 < left)
+        → Counted u leaves balls axes (set blocks (getD axes (left - 1) 0) (getD blocks (getD axes (left - 1) 0) 0 * 2)) (found + count) (left - 1)
     unfolding sum
     counted-next {count} c h = record {
       good = s .good;
@@ -212,7 +213,7 @@ module _ {u : Universe} {leaves : ℕ} {axes blocks : List ℕ} {found left : �
       so-far = rw (next-level h) (omega (arith, s .so-far, count-is c));
     }
 
-    pub more-fits : {count : ℕ} → count ≡ min all (leaves * (all - inner)) → 0 < left → Fits w64 (found + count)
+    pub more-fits : {count : ℕ} → count ≡ countOf leaves balls all inner → 0 < left → Fits w64 (found + count)
     more-fits c h = omega (arith, found-few (counted-next c h))
 
 -- all that `room_accepted` asks
@@ -236,12 +237,12 @@ pub ruleset counting = (
 
 -- ---- the answer
 
-pub answer-refused : (u : Universe) (leaves : ℕ) {refusal : ℕ} → refusal ≡ universeRefusal u → (refusal ≡ 0 → ⊥)
-    → record { refusal = refusal; symbols = 0 } ≡ roomAnswer u leaves
+pub answer-refused : (u : Universe) (leaves balls : ℕ) {refusal : ℕ} → refusal ≡ universeRefusal u → (refusal ≡ 0 → ⊥)
+    → record { refusal = refusal; symbols = 0 } ≡ roomAnswer u leaves balls
 unfolding roomAnswer
-answer-refused u leaves e n = rw (e, ne-eqb (universeRefusal u) 0 (λ z. n (e ∙ z)))
+answer-refused u leaves balls e n = rw (e, ne-eqb (universeRefusal u) 0 (λ z. n (e ∙ z)))
 
-pub answer-room : (u : Universe) (leaves : ℕ) {symbols : ℕ} → universeRefusal u ≡ 0 → symbols ≡ room u leaves
-    → record { refusal = 0; symbols = symbols } ≡ roomAnswer u leaves
+pub answer-room : (u : Universe) (leaves balls : ℕ) {symbols : ℕ} → universeRefusal u ≡ 0 → symbols ≡ room u leaves balls
+    → record { refusal = 0; symbols = symbols } ≡ roomAnswer u leaves balls
 unfolding roomAnswer
-answer-room u leaves e r = rw (r, eq-eqb (universeRefusal u) 0 e)
+answer-room u leaves balls e r = rw (r, eq-eqb (universeRefusal u) 0 e)

@@ -1,4 +1,4 @@
--- Rule 4.7: room, by the number of words that name a halfspace.
+-- Rules 4.7 and 4.14: room, by the number of words that name a halfspace and of those that name a ball.
 use Prim.Native.Nat.{ℕ, _+_, _*_, _-_, _≤_, _<_, min}
 use mathlib.Core.Bool.{cond}
 use mathlib.Core.List.{List}
@@ -16,19 +16,23 @@ blocksAt u l = product (u .axes) (blocksAlong u l)
 unfoldable pub innerBlocksAt : Universe → ℕ → ℕ
 innerBlocksAt u l = product (u .axes) (λ i. blocksAlong u l i - 1)
 
--- what the level counts: all its blocks or, if that is less, N times those that touch a low face
-unfoldable pub levelCount : Universe → ℕ → ℕ → ℕ
-levelCount u leaves l = min (blocksAt u l) (leaves * (blocksAt u l - innerBlocksAt u l))
+-- what a level counts of its blocks, so many of which are inner ones: all or, if that is less, N times those that touch
+-- a low face; with a ball word, all
+abbrev pub countOf : ℕ → ℕ → ℕ → ℕ → ℕ
+countOf leaves balls blocks inner = cond (eqb balls 0) (min blocks (leaves * (blocks - inner))) blocks
+
+unfoldable pub levelCount : Universe → ℕ → ℕ → ℕ → ℕ
+levelCount u leaves balls l = countOf leaves balls (blocksAt u l) (innerBlocksAt u l)
 
 -- one more than twice the sum over the levels above L
-unfoldable pub room : Universe → ℕ → ℕ
-room u leaves = 1 + 2 * sum (levels u) (levelCount u leaves)
+unfoldable pub room : Universe → ℕ → ℕ → ℕ
+room u leaves balls = 1 + 2 * sum (levels u) (levelCount u leaves balls)
 
 -- what the room question answers: 0 and room, or the universe's refusal and zero
-unfoldable pub roomAnswer : Universe → ℕ → RoomAnswer
-roomAnswer u leaves =
+unfoldable pub roomAnswer : Universe → ℕ → ℕ → RoomAnswer
+roomAnswer u leaves balls =
     cond (eqb (universeRefusal u) 0)
-    (record { refusal = 0; symbols = room u leaves })
+    (record { refusal = 0; symbols = room u leaves balls })
     (record { refusal = universeRefusal u; symbols = 0 })
 
 -- what the code asks where it multiplies: few axes, and along each some blocks, no more than the longest side has units

@@ -39,6 +39,13 @@ offsetLimit = 1_099_511_627_776
 abbrev pub coefficientLimit : ℕ
 coefficientLimit = 16_777_216
 
+-- rule 2.6: how large a ball's centre numbers may be, and how large its radius
+abbrev pub centreLimit : ℕ
+centreLimit = 1_024
+
+abbrev pub radiusLimit : ℕ
+radiusLimit = 1_024
+
 -- rule 1.1: the bits that so many axes may have; one axis has frame bits alone
 abbrev pub mostBitsOf : ℕ → ℕ
 mostBitsOf axes = cond (eqb axes 1) 0 mostBits

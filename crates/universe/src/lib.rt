@@ -55,6 +55,11 @@ impl Universe {
 
     pub const COEFFICIENT_LIMIT: i64 = 16_777_216;
 
+    // The size of a ball's centre numbers at the most, and its radius (rule 2.6).
+    pub const CENTRE_LIMIT: i64 = 1_024;
+
+    pub const RADIUS_LIMIT: i64 = 1_024;
+
     // The bits that so many axes may have.
     fn most_bits_of(axes: u64) -> u64
         ensures { λ r. ⌜ r ≡ mostBitsOf axes ⌝ }

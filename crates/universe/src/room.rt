@@ -1,11 +1,11 @@
 // The room question: how many symbols an expression takes at the most.
 use crate::Universe;
 ghost use mathlib.Core.Path.{_≡_};
-ghost use Prim.Native.Nat.{_*_, _-_, _≤_, _<_, min};
+ghost use Prim.Native.Nat.{_-_, _≤_, _<_};
 ghost use lib.ListN.{getD};
 ghost use Rattle.lemmas.specs.Sums.{product};
 ghost use Rattle.universe.specs.Universe.{universeRefusal};
-ghost use Rattle.universe.specs.Room.{room, roomAnswer, FewBlocks};
+ghost use Rattle.universe.specs.Room.{countOf, room, roomAnswer, FewBlocks};
 
 // What the room question answers: 0 and room in symbols, or 2 and 0.
 pub struct RoomAnswer {
@@ -28,12 +28,15 @@ fn product_less(axes: usize, blocks: [u64; Universe::MOST_AXES as usize], less: 
     found
 }
 
-// The smaller of all blocks of a level and of the leaves times the blocks that are not inner ones. Their product is not
-// formed where it exceeds all.
-fn level_count(leaves: u64, all: u64, inner: u64) -> u64
+// All blocks of a level, or without balls the leaves times the blocks that are not inner ones, if that is less. Their
+// product is not formed where it exceeds all.
+fn level_count(leaves: u64, balls: u64, all: u64, inner: u64) -> u64
     requires { ⌜ inner < all ⌝ }
-    ensures { λ r. ⌜ r ≡ min all (leaves * (all - inner)) ⌝ }
+    ensures { λ r. ⌜ r ≡ countOf leaves balls all inner ⌝ }
 {
+    if balls != 0 {
+        return all;
+    }
     let outer = all - inner;
     if all / outer < leaves {
         return all;
@@ -42,9 +45,9 @@ fn level_count(leaves: u64, all: u64, inner: u64) -> u64
 }
 
 // Room in a universe that is not refused, level by level: the blocks along each axis are doubled in turn.
-fn room_accepted(universe: Universe, leaves: u64) -> u64
+fn room_accepted(universe: Universe, leaves: u64, balls: u64) -> u64
     requires { ⌜ universeRefusal universe ≡ 0 ⌝ }
-    ensures { λ r. ⌜ r ≡ room universe leaves ⌝ }
+    ensures { λ r. ⌜ r ≡ room universe leaves balls ⌝ }
 {
     let axes = universe.axes_left();
     let mut blocks = [1u64; Universe::MOST_AXES as usize];
@@ -53,7 +56,7 @@ fn room_accepted(universe: Universe, leaves: u64) -> u64
     while 0 < left {
         let all = product_less(universe.axes as usize, blocks, 0);
         let inner = product_less(universe.axes as usize, blocks, 1);
-        sum += level_count(leaves, all, inner);
+        sum += level_count(leaves, balls, all, inner);
         left -= 1;
         blocks[axes[left]] *= 2;
     }
@@ -61,9 +64,10 @@ fn room_accepted(universe: Universe, leaves: u64) -> u64
 }
 
 impl Universe {
-    // How many symbols an expression takes at the most, for so many words that name a halfspace (rule 4.7).
-    pub fn room(self, leaves: u64) -> RoomAnswer
-        ensures { λ r. ⌜ r ≡ roomAnswer self leaves ⌝ }
+    // How many symbols an expression takes at the most, for so many words that name a halfspace and so many that name a
+    // ball (rules 4.7 and 4.14).
+    pub fn room(self, leaves: u64, balls: u64) -> RoomAnswer
+        ensures { λ r. ⌜ r ≡ roomAnswer self leaves balls ⌝ }
     {
         let refusal = self.refusal();
         if refusal != 0 {
@@ -74,7 +78,7 @@ impl Universe {
         }
         RoomAnswer {
             refusal: 0,
-            symbols: room_accepted(self, leaves),
+            symbols: room_accepted(self, leaves, balls),
         }
     }
 }

@@ -1,5 +1,5 @@
-// The universe asked through the entry points: a line for each answer to its questions, for each block with its halves, and
-// for room.
+// The universe asked through the entry points: a line for each answer to its questions, for each block with its halves,
+// and for room.
 use libc::STDOUT_FILENO;
 use universe::Block;
 use universe::Universe;
@@ -21,13 +21,13 @@ fn number(n: u64) {
     io::print_decimal(STDOUT_FILENO, n);
 }
 
-// Room for so many leaves.
-fn room_for(axes: u64, bits: u64, frame_bits: u64, leaves: u64) {
+// Room for so many leaves and so many ball words.
+fn room_for(axes: u64, bits: u64, frame_bits: u64, leaves: u64, balls: u64) {
     let answer = Universe {
         axes: axes,
         bits: bits,
         frame_bits: frame_bits,
-    }.room(leaves);
+    }.room(leaves, balls);
     say(b"room ");
     number(answer.refusal);
     say(b" ");
@@ -179,22 +179,29 @@ fn blocks() {
 
 // Room at both sides of what is refused, and for the most leaves.
 fn rooms() {
-    room_for(2, 2, 2, 1);
-    room_for(2, 2, 2, 2);
-    room_for(2, 1, 1, 1);
-    room_for(4, 10, 10, 0);
-    room_for(4, 0, 0, 9);
-    room_for(4, 10, 10, 18_446_744_073_709_551_615);
-    room_for(5, 10, 10, 1);
-    room_for(4, 11, 11, 1);
-    room_for(0, 0, 0, 1);
-    room_for(4, 10, 12, 18_446_744_073_709_551_615);
-    room_for(4, 10, 13, 1);
-    room_for(2, 0, 2, 1);
-    room_for(3, 1, 2, 1);
-    room_for(3, 2, 1, 1);
-    room_for(1, 0, 12, 1);
-    room_for(1, 1, 1, 1);
+    room_for(2, 2, 2, 1, 0);
+    room_for(2, 2, 2, 2, 0);
+    room_for(2, 1, 1, 1, 0);
+    room_for(4, 10, 10, 0, 0);
+    room_for(4, 0, 0, 9, 0);
+    room_for(4, 10, 10, 18_446_744_073_709_551_615, 0);
+    room_for(5, 10, 10, 1, 0);
+    room_for(4, 11, 11, 1, 0);
+    room_for(0, 0, 0, 1, 0);
+    room_for(4, 10, 12, 18_446_744_073_709_551_615, 0);
+    room_for(4, 10, 13, 1, 0);
+    room_for(2, 0, 2, 1, 0);
+    room_for(3, 1, 2, 1, 0);
+    room_for(3, 2, 1, 1, 0);
+    room_for(1, 0, 12, 1, 0);
+    room_for(1, 1, 1, 1, 0);
+    room_for(2, 2, 2, 0, 1);
+    room_for(2, 2, 2, 1, 1);
+    room_for(3, 1, 2, 1, 64);
+    room_for(1, 0, 12, 0, 1);
+    room_for(4, 0, 0, 9, 1);
+    room_for(4, 10, 12, 0, 18_446_744_073_709_551_615);
+    room_for(5, 10, 10, 1, 1);
 }
 
 fn main() {

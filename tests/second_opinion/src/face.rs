@@ -1,33 +1,38 @@
 //! The C face of the library (crate `export`), and safe wrappers with the parameters of `plain`'s entry points.
 //! A slice is a pointer and a length; an array is a pointer. Each function returns the refusal number, but for
-//! `durbizhan_leaves` and `durbizhan_lines`, which return a count.
+//! `durbizhan_leaves`, `durbizhan_balls` and `durbizhan_lines`, which return a count.
 
 mod c {
     extern "C" {
-        pub fn durbizhan_room(axes: u64, bits: u64, frame_bits: u64, leaves: u64, answer: *mut [u64; 1]) -> u64;
+        pub fn durbizhan_room(
+            axes: u64, bits: u64, frame_bits: u64, leaves: u64, balls: u64, answer: *mut [u64; 1],
+        ) -> u64;
         pub fn durbizhan_leaves(words: *const u16, words_count: usize) -> u64;
+        pub fn durbizhan_balls(words: *const u16, words_count: usize) -> u64;
         pub fn durbizhan_raw_one(
-            axes: u64, bits: u64, frame_bits: u64, rows: *const i64, rows_count: usize, words: *const u16,
-            words_count: usize, out: *mut u8, out_count: usize, answer: *mut [u64; 1],
+            axes: u64, bits: u64, frame_bits: u64, rows: *const i64, rows_count: usize, balls: *const i64,
+            balls_count: usize, words: *const u16, words_count: usize, out: *mut u8, out_count: usize,
+            answer: *mut [u64; 1],
         ) -> u64;
         pub fn durbizhan_raw_two(
-            axes: u64, bits: u64, frame_bits: u64, rows: *const i64, rows_count: usize, first: *const u16,
-            first_count: usize, second: *const u16, second_count: usize, out: *mut u8, out_count: usize,
-            answer: *mut [u64; 1],
+            axes: u64, bits: u64, frame_bits: u64, rows: *const i64, rows_count: usize, balls: *const i64,
+            balls_count: usize, first: *const u16, first_count: usize, second: *const u16, second_count: usize,
+            out: *mut u8, out_count: usize, answer: *mut [u64; 1],
         ) -> u64;
         pub fn durbizhan_merged_one(
-            axes: u64, bits: u64, frame_bits: u64, rows: *const i64, rows_count: usize, words: *const u16,
-            words_count: usize, out: *mut u8, out_count: usize, answer: *mut [u64; 1],
-        ) -> u64;
-        pub fn durbizhan_merged_two(
-            axes: u64, bits: u64, frame_bits: u64, rows: *const i64, rows_count: usize, first: *const u16,
-            first_count: usize, second: *const u16, second_count: usize, out: *mut u8, out_count: usize,
+            axes: u64, bits: u64, frame_bits: u64, rows: *const i64, rows_count: usize, balls: *const i64,
+            balls_count: usize, words: *const u16, words_count: usize, out: *mut u8, out_count: usize,
             answer: *mut [u64; 1],
         ) -> u64;
+        pub fn durbizhan_merged_two(
+            axes: u64, bits: u64, frame_bits: u64, rows: *const i64, rows_count: usize, balls: *const i64,
+            balls_count: usize, first: *const u16, first_count: usize, second: *const u16, second_count: usize,
+            out: *mut u8, out_count: usize, answer: *mut [u64; 1],
+        ) -> u64;
         pub fn durbizhan_verdict(
-            axes: u64, bits: u64, frame_bits: u64, rows: *const i64, rows_count: usize, first: *const u16,
-            first_count: usize, second: *const u16, second_count: usize, first_frame: u64, last_frame: u64,
-            out: *mut u8, out_count: usize, answer: *mut [u64; 5],
+            axes: u64, bits: u64, frame_bits: u64, rows: *const i64, rows_count: usize, balls: *const i64,
+            balls_count: usize, first: *const u16, first_count: usize, second: *const u16, second_count: usize,
+            first_frame: u64, last_frame: u64, out: *mut u8, out_count: usize, answer: *mut [u64; 5],
         ) -> u64;
         pub fn durbizhan_well_formed(
             axes: u64, bits: u64, frame_bits: u64, expression: *const u8, expression_count: usize,
@@ -53,8 +58,8 @@ mod c {
             out_count: usize, answer: *mut [u64; 2],
         ) -> u64;
         pub fn durbizhan_scene(
-            bytes: *const u8, bytes_count: usize, rows: *mut [i64; 1280], first: *mut [u16; 255],
-            second: *mut [u16; 255], answer: *mut [u64; 9],
+            bytes: *const u8, bytes_count: usize, rows: *mut [i64; 1280], balls: *mut [i64; 256],
+            first: *mut [u16; 255], second: *mut [u16; 255], answer: *mut [u64; 10],
         ) -> u64;
         pub fn durbizhan_lines(scene: *const u8, scene_count: usize, out: *mut [u8; 256]) -> u64;
         pub fn durbizhan_shape_read(
@@ -78,71 +83,79 @@ mod c {
 // SAFETY, for every wrapper below: each pointer comes from a Rust reference together with its own length, lent
 // buffers are unique for the call, and the library keeps none of them.
 
-pub fn room(axes: u64, bits: u64, frame_bits: u64, leaves: u64, answer: &mut [u64; 1]) -> u64 {
-    unsafe { c::durbizhan_room(axes, bits, frame_bits, leaves, answer) }
+pub fn room(axes: u64, bits: u64, frame_bits: u64, leaves: u64, balls: u64, answer: &mut [u64; 1]) -> u64 {
+    unsafe { c::durbizhan_room(axes, bits, frame_bits, leaves, balls, answer) }
 }
 
 pub fn leaves(words: &[u16]) -> u64 {
     unsafe { c::durbizhan_leaves(words.as_ptr(), words.len()) }
 }
 
+pub fn balls(words: &[u16]) -> u64 {
+    unsafe { c::durbizhan_balls(words.as_ptr(), words.len()) }
+}
+
+#[allow(clippy::too_many_arguments)]
 pub fn raw_one(
-    axes: u64, bits: u64, frame_bits: u64, rows: &[i64], words: &[u16], out: &mut [u8], answer: &mut [u64; 1],
+    axes: u64, bits: u64, frame_bits: u64, rows: &[i64], balls: &[i64], words: &[u16], out: &mut [u8],
+    answer: &mut [u64; 1],
 ) -> u64 {
     unsafe {
         c::durbizhan_raw_one(
-            axes, bits, frame_bits, rows.as_ptr(), rows.len(), words.as_ptr(), words.len(), out.as_mut_ptr(), out.len(),
-            answer,
+            axes, bits, frame_bits, rows.as_ptr(), rows.len(), balls.as_ptr(), balls.len(), words.as_ptr(),
+            words.len(), out.as_mut_ptr(), out.len(), answer,
         )
     }
 }
 
 #[allow(clippy::too_many_arguments)]
 pub fn raw_two(
-    axes: u64, bits: u64, frame_bits: u64, rows: &[i64], first: &[u16], second: &[u16], out: &mut [u8],
+    axes: u64, bits: u64, frame_bits: u64, rows: &[i64], balls: &[i64], first: &[u16], second: &[u16], out: &mut [u8],
     answer: &mut [u64; 1],
 ) -> u64 {
     unsafe {
         c::durbizhan_raw_two(
-            axes, bits, frame_bits, rows.as_ptr(), rows.len(), first.as_ptr(), first.len(), second.as_ptr(),
-            second.len(), out.as_mut_ptr(), out.len(), answer,
+            axes, bits, frame_bits, rows.as_ptr(), rows.len(), balls.as_ptr(), balls.len(), first.as_ptr(),
+            first.len(), second.as_ptr(), second.len(), out.as_mut_ptr(), out.len(), answer,
         )
     }
 }
 
+#[allow(clippy::too_many_arguments)]
 pub fn merged_one(
-    axes: u64, bits: u64, frame_bits: u64, rows: &[i64], words: &[u16], out: &mut [u8], answer: &mut [u64; 1],
+    axes: u64, bits: u64, frame_bits: u64, rows: &[i64], balls: &[i64], words: &[u16], out: &mut [u8],
+    answer: &mut [u64; 1],
 ) -> u64 {
     unsafe {
         c::durbizhan_merged_one(
-            axes, bits, frame_bits, rows.as_ptr(), rows.len(), words.as_ptr(), words.len(), out.as_mut_ptr(), out.len(),
-            answer,
+            axes, bits, frame_bits, rows.as_ptr(), rows.len(), balls.as_ptr(), balls.len(), words.as_ptr(),
+            words.len(), out.as_mut_ptr(), out.len(), answer,
         )
     }
 }
 
 #[allow(clippy::too_many_arguments)]
 pub fn merged_two(
-    axes: u64, bits: u64, frame_bits: u64, rows: &[i64], first: &[u16], second: &[u16], out: &mut [u8],
+    axes: u64, bits: u64, frame_bits: u64, rows: &[i64], balls: &[i64], first: &[u16], second: &[u16], out: &mut [u8],
     answer: &mut [u64; 1],
 ) -> u64 {
     unsafe {
         c::durbizhan_merged_two(
-            axes, bits, frame_bits, rows.as_ptr(), rows.len(), first.as_ptr(), first.len(), second.as_ptr(),
-            second.len(), out.as_mut_ptr(), out.len(), answer,
+            axes, bits, frame_bits, rows.as_ptr(), rows.len(), balls.as_ptr(), balls.len(), first.as_ptr(),
+            first.len(), second.as_ptr(), second.len(), out.as_mut_ptr(), out.len(), answer,
         )
     }
 }
 
 #[allow(clippy::too_many_arguments)]
 pub fn verdict(
-    axes: u64, bits: u64, frame_bits: u64, rows: &[i64], first: &[u16], second: &[u16], first_frame: u64,
-    last_frame: u64, out: &mut [u8], answer: &mut [u64; 5],
+    axes: u64, bits: u64, frame_bits: u64, rows: &[i64], balls: &[i64], first: &[u16], second: &[u16],
+    first_frame: u64, last_frame: u64, out: &mut [u8], answer: &mut [u64; 5],
 ) -> u64 {
     unsafe {
         c::durbizhan_verdict(
-            axes, bits, frame_bits, rows.as_ptr(), rows.len(), first.as_ptr(), first.len(), second.as_ptr(),
-            second.len(), first_frame, last_frame, out.as_mut_ptr(), out.len(), answer,
+            axes, bits, frame_bits, rows.as_ptr(), rows.len(), balls.as_ptr(), balls.len(), first.as_ptr(),
+            first.len(), second.as_ptr(), second.len(), first_frame, last_frame, out.as_mut_ptr(), out.len(), answer,
         )
     }
 }
@@ -198,9 +211,10 @@ pub fn merge(axes: u64, bits: u64, frame_bits: u64, expression: &[u8], out: &mut
 }
 
 pub fn scene(
-    bytes: &[u8], rows: &mut [i64; 1280], first: &mut [u16; 255], second: &mut [u16; 255], answer: &mut [u64; 9],
+    bytes: &[u8], rows: &mut [i64; 1280], balls: &mut [i64; 256], first: &mut [u16; 255], second: &mut [u16; 255],
+    answer: &mut [u64; 10],
 ) -> u64 {
-    unsafe { c::durbizhan_scene(bytes.as_ptr(), bytes.len(), rows, first, second, answer) }
+    unsafe { c::durbizhan_scene(bytes.as_ptr(), bytes.len(), rows, balls, first, second, answer) }
 }
 
 pub fn lines(scene: &[u8], out: &mut [u8; 256]) -> u64 {

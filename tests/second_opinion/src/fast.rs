@@ -1,7 +1,7 @@
 //! A plain fast converter: it evaluates the full tree in every block, with slices and no allocation per block.
 //! The benchmark measures the library against it; the unit tests hold it to the slow one of `plain`.
 
-use crate::plain::{room_of, run_checked, Answer, Tree, Universe};
+use crate::plain::{room_of, run_checked, Answer, Surface, Tree, Universe};
 
 /// A mark as two bits; 0 is undecided.
 const BLACK: u8 = 1;
@@ -9,8 +9,10 @@ const WHITE: u8 = 2;
 
 #[derive(Clone, Copy)]
 enum Word {
-    Leaf([i64; 5]),
-    Reversed([i64; 5]),
+    Halfspace([i64; 5]),
+    HalfspaceReversed([i64; 5]),
+    Ball([i64; 4]),
+    BallReversed([i64; 4]),
     Colour(u8),
     Union,
     Intersection,
@@ -27,8 +29,10 @@ fn flatten(tree: &Tree, words: &mut Vec<Word>) {
     match tree {
         Tree::White => words.push(Word::Colour(WHITE)),
         Tree::Black => words.push(Word::Colour(BLACK)),
-        Tree::Halfspace(row) => words.push(Word::Leaf(*row)),
-        Tree::Reversed(row) => words.push(Word::Reversed(*row)),
+        Tree::Leaf(Surface::Halfspace(row)) => words.push(Word::Halfspace(*row)),
+        Tree::Reversed(Surface::Halfspace(row)) => words.push(Word::HalfspaceReversed(*row)),
+        Tree::Leaf(Surface::Ball(ball)) => words.push(Word::Ball(*ball)),
+        Tree::Reversed(Surface::Ball(ball)) => words.push(Word::BallReversed(*ball)),
         Tree::Union(a, b) => {
             flatten(a, words);
             flatten(b, words);
@@ -51,17 +55,25 @@ fn opposite(mark: u8) -> u8 {
 
 /// Takes the marks of a postfix tree together. At most 33 shapes are pending: 32, and the first of two trees.
 #[inline(always)]
-fn fold(words: &[Word], leaf: impl Fn(&[i64; 5]) -> u8) -> u8 {
+fn fold(words: &[Word], halfspace: impl Fn(&[i64; 5]) -> u8, ball: impl Fn(&[i64; 4]) -> u8) -> u8 {
     let mut stack = [0u8; 64];
     let mut top = 0usize;
     for word in words {
         match word {
-            Word::Leaf(row) => {
-                stack[top & 63] = leaf(row);
+            Word::Halfspace(row) => {
+                stack[top & 63] = halfspace(row);
                 top += 1;
             }
-            Word::Reversed(row) => {
-                stack[top & 63] = opposite(leaf(row));
+            Word::HalfspaceReversed(row) => {
+                stack[top & 63] = opposite(halfspace(row));
+                top += 1;
+            }
+            Word::Ball(numbers) => {
+                stack[top & 63] = ball(numbers);
+                top += 1;
+            }
+            Word::BallReversed(numbers) => {
+                stack[top & 63] = opposite(ball(numbers));
                 top += 1;
             }
             Word::Colour(mark) => {
@@ -85,7 +97,7 @@ fn fold(words: &[Word], leaf: impl Fn(&[i64; 5]) -> u8) -> u8 {
 
 #[inline(always)]
 fn mark_over<const D: usize>(words: &[Word], low: &[i64; D], size: &[i64; D]) -> u8 {
-    fold(words, |row| {
+    let halfspace = |row: &[i64; 5]| {
         let (mut min, mut max) = (row[0], row[0]);
         for axis in 0..D {
             let near = row[axis + 1] * low[axis];
@@ -100,22 +112,47 @@ fn mark_over<const D: usize>(words: &[Word], low: &[i64; D], size: &[i64; D]) ->
         } else {
             0
         }
-    })
+    };
+    let ball = |ball: &[i64; 4]| {
+        let (mut min, mut max) = (ball[3] * ball[3], ball[3] * ball[3]);
+        for axis in 0..D - 1 {
+            // the block begins so far above the centre, and ends so far above it
+            let begins = low[axis] - ball[axis];
+            let ends = begins + size[axis];
+            let (near, far) = (begins.max(-ends).max(0), ends.max(-begins));
+            min -= far * far;
+            max -= near * near;
+        }
+        if min >= 0 {
+            BLACK
+        } else if max < 0 {
+            WHITE
+        } else {
+            0
+        }
+    };
+    fold(words, halfspace, ball)
 }
 
 #[inline(always)]
 fn mark_at_centre<const D: usize>(words: &[Word], low: &[i64; D]) -> u8 {
-    fold(words, |row| {
+    let colour = |black: bool| if black { BLACK } else { WHITE };
+    let halfspace = |row: &[i64; 5]| {
         let mut sum = 2 * row[0];
         for axis in 0..D {
             sum += row[axis + 1] * (2 * low[axis] + 1);
         }
-        if sum >= 0 {
-            BLACK
-        } else {
-            WHITE
+        colour(sum >= 0)
+    };
+    let ball = |ball: &[i64; 4]| {
+        let mut rest = 4 * ball[3] * ball[3];
+        for axis in 0..D - 1 {
+            let apart = 2 * (low[axis] - ball[axis]) + 1;
+            rest -= apart * apart;
         }
-    })
+        colour(rest >= 0)
+    };
+    fold(words, halfspace, ball)
 }
 
 /// What becomes of the blocks examined.
@@ -266,8 +303,10 @@ impl<const D: usize> Sink<D> for Judging {
 
 impl Run {
     /// Checks and makes ready. The refusals are those of the conversions.
-    pub fn checked(axes: u64, bits: u64, frame_bits: u64, rows: &[i64], trees: &[&[u16]]) -> Answer<Run> {
-        let (universe, read) = run_checked(axes, bits, frame_bits, rows, trees)?;
+    pub fn checked(
+        axes: u64, bits: u64, frame_bits: u64, rows: &[i64], balls: &[i64], trees: &[&[u16]],
+    ) -> Answer<Run> {
+        let (universe, read) = run_checked(axes, bits, frame_bits, rows, balls, trees)?;
         let mut words = Vec::new();
         for tree in &read {
             flatten(tree, &mut words);
@@ -275,8 +314,10 @@ impl Run {
         if read.len() == 2 {
             words.push(Word::Intersection);
         }
-        let leaves = words.iter().filter(|word| matches!(word, Word::Leaf(_) | Word::Reversed(_))).count() as u64;
-        let room = room_of(&universe, leaves);
+        let count = |counted: fn(&&Word) -> bool| words.iter().filter(counted).count() as u64;
+        let leaves = count(|word| matches!(word, Word::Halfspace(_) | Word::HalfspaceReversed(_)));
+        let ball_words = count(|word| matches!(word, Word::Ball(_) | Word::BallReversed(_)));
+        let room = room_of(&universe, leaves, ball_words);
         Ok(Run { universe, words, room })
     }
 

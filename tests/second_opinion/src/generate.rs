@@ -2,7 +2,7 @@
 //! both sides; what is damaged is damaged in one place or two, so that every refusal number is hit often and the
 //! order of the refusals shows. Whether a damaged thing is refused is for `plain` to say, not for this file.
 
-use crate::plain::{self, scene_bytes, shape_bytes, Scene, AXIS_LIMIT, FREE_LIMIT};
+use crate::plain::{self, scene_bytes, shape_bytes, Scene, AXIS_LIMIT, CENTRE_LIMIT, FREE_LIMIT, RADIUS_LIMIT};
 use crate::plain::{MOST_AXES, MOST_BITS, MOST_FRAME_BITS, MOST_LEVELS};
 
 /// xorshift64*.
@@ -238,18 +238,128 @@ pub fn damage_rows(random: &mut Random, axes: u64, rows: &mut Vec<i64>) {
     }
 }
 
+// ----------------------------------------------------------------------------------------------------- balls
+
+/// A ball that is in order for the universe. Blocks are touched in one point, from outside or from inside, where a
+/// place with whole coordinates is as far from the centre as the radius is long: along an axis, or by 3, 4 and 5.
+fn ball(random: &mut Random, universe: [u64; 3]) -> [i64; 4] {
+    let places = universe[0] as usize - 1;
+    let side = if places == 0 { 1 } else { side(universe, 0) };
+    let mut ball = [0; 4];
+    for number in &mut ball[..places] {
+        *number = random.between(-1, side + 1);
+    }
+    let along = random.place(places.max(1));
+    match random.below(100) {
+        // a point, and the ball about it
+        0..=11 => ball[3] = random.pick(&[0, 0, 0, 1]),
+        // outside, and as large as the way to a place
+        12..=29 if places > 0 => {
+            let radius = random.between(1, side + 1);
+            ball[along] += random.pick(&[radius, -radius]);
+            ball[3] = radius;
+        }
+        30..=41 if places > 1 => {
+            let scale = random.between(1, side / 4 + 1);
+            let other = (along + 1) % places;
+            ball[along] += random.pick(&[3, -3]) * scale;
+            ball[other] += random.pick(&[4, -4]) * scale;
+            ball[3] = 5 * scale;
+        }
+        // a centre, a radius or both at their limits
+        42..=53 if places > 0 => {
+            ball[along] = random.pick(&[CENTRE_LIMIT, -CENTRE_LIMIT, CENTRE_LIMIT - 1, 1 - CENTRE_LIMIT]);
+            ball[3] = (ball[along].abs() - random.between(-side - 1, side + 1)).clamp(0, RADIUS_LIMIT);
+        }
+        54..=57 => ball[3] = random.pick(&[RADIUS_LIMIT, RADIUS_LIMIT - 1]),
+        58 | 59 => {
+            for number in &mut ball[..places] {
+                *number = random.pick(&[CENTRE_LIMIT, -CENTRE_LIMIT]);
+            }
+            ball[3] = random.pick(&[0, RADIUS_LIMIT]);
+        }
+        // of the universe's size, or a small part of it
+        60..=84 => ball[3] = random.between(0, side + 1),
+        _ => ball[3] = random.between(0, side / 4 + 1),
+    }
+    for number in &mut ball[..places] {
+        *number = (*number).clamp(-CENTRE_LIMIT, CENTRE_LIMIT);
+    }
+    ball[3] = ball[3].min(RADIUS_LIMIT);
+    ball
+}
+
+/// Balls that are in order for the universe; half of the time there are none.
+pub fn balls(random: &mut Random, universe: [u64; 3]) -> Vec<i64> {
+    let count = match random.below(100) {
+        0..=49 => 0,
+        50..=92 => 1 + random.below(4),
+        93..=97 => 5 + random.below(20),
+        _ => random.pick(&[63, 64, 64]),
+    };
+    (0..count).flat_map(|_| ball(random, universe)).collect()
+}
+
+/// Damages balls in one place.
+pub fn damage_balls(random: &mut Random, axes: u64, balls: &mut Vec<i64>) {
+    match random.below(10) {
+        0 => balls.truncate(balls.len().saturating_sub(1 + random.place(3))),
+        1 => balls.extend(std::iter::repeat(0).take(1 + random.place(3))),
+        2 => balls.resize(random.pick(&[64, 65, 65, 65, 66, 100]) * 4 + random.pick(&[0, 0, 1]), 0),
+        kind => {
+            if balls.len() < 4 {
+                *balls = vec![0; 4];
+            }
+            let base = random.place(balls.len() / 4) * 4;
+            let places = axes as usize - 1;
+            let (column, number) = match kind {
+                // a centre number that is not used
+                3 | 4 if places < 3 => {
+                    (places + random.place(3 - places), random.pick(&[1, -1, 2, CENTRE_LIMIT, -CENTRE_LIMIT, i64::MIN]))
+                }
+                5 | 6 => {
+                    let past = RADIUS_LIMIT + 1;
+                    (3, random.pick(&[-1, -1, -1, past, past, past, -RADIUS_LIMIT, i64::MIN, 1 << 32]))
+                }
+                _ => {
+                    let past = random.pick(&[CENTRE_LIMIT + 1, -CENTRE_LIMIT - 1]);
+                    let far = [past, past, past, i64::MIN, i64::MAX, 32_767, -32_768, (1 << 32) + 1, -(1 << 16)];
+                    (random.place(3), random.pick(&far))
+                }
+            };
+            balls[base + column] = number;
+        }
+    }
+}
+
 // ----------------------------------------------------------------------------------------------------- trees
 
-fn leaf(random: &mut Random, count: usize) -> u16 {
-    if count == 0 || random.chance(6) {
+/// How many rows and how many balls there are for words to name.
+#[derive(Clone, Copy, Debug)]
+pub struct Named {
+    pub rows: usize,
+    pub balls: usize,
+}
+
+impl Named {
+    pub fn of(rows: &[i64], balls: &[i64]) -> Named {
+        Named { rows: rows.len() / 5, balls: balls.len() / 4 }
+    }
+}
+
+fn leaf(random: &mut Random, named: Named) -> u16 {
+    let [rows, balls] = [named.rows.min(256), named.balls.min(64)];
+    if rows + balls == 0 || random.chance(6) {
         random.pick(&[0, 1])
+    } else if balls > 0 && (rows == 0 || random.chance(50)) {
+        512 + random.place(balls) as u16
     } else {
-        256 + random.place(count.min(256)) as u16
+        256 + random.place(rows) as u16
     }
 }
 
 /// A postfix tree of so many leaves, with at most so many pending.
-fn tree_of(random: &mut Random, count: usize, leaves: usize, most: usize, minus: u64) -> Vec<u16> {
+fn tree_of(random: &mut Random, named: Named, leaves: usize, most: usize, minus: u64) -> Vec<u16> {
     let mut words = Vec::new();
     let (mut left, mut pending) = (leaves, 0);
     let eager = random.pick(&[30, 50, 70, 100]);
@@ -257,7 +367,7 @@ fn tree_of(random: &mut Random, count: usize, leaves: usize, most: usize, minus:
     while left > 0 || pending > 1 {
         let push = left > 0 && (pending < 2 || (pending < most && random.chance(eager)));
         if push {
-            words.push(leaf(random, count));
+            words.push(leaf(random, named));
             left -= 1;
             pending += 1;
         } else {
@@ -269,8 +379,8 @@ fn tree_of(random: &mut Random, count: usize, leaves: usize, most: usize, minus:
     words
 }
 
-/// A tree that is in order over so many rows: 1 to 255 words, at most 32 pending.
-pub fn tree(random: &mut Random, count: usize) -> Vec<u16> {
+/// A tree that is in order over so many rows and balls: 1 to 255 words, at most 32 pending.
+pub fn tree(random: &mut Random, named: Named) -> Vec<u16> {
     let minus = random.pick(&[0, 15, 33, 80]);
     let leaves = match random.below(100) {
         0..=14 => 1,
@@ -280,13 +390,19 @@ pub fn tree(random: &mut Random, count: usize) -> Vec<u16> {
         _ => 128,
     };
     let most = random.pick(&[2, 3, 8, 31, 32, 32]);
-    tree_of(random, count, leaves, most, minus)
+    tree_of(random, named, leaves, most, minus)
 }
 
 /// Damages a tree in one place.
-pub fn damage_tree(random: &mut Random, count: usize, words: &mut Vec<u16>) {
-    let unknown = random.pick(&[5, 6, 7, 128, 254, 255, 512, 513, 767, 768, 65535, 0x8100]);
-    let past = 256 + (count + random.pick(&[0, 0, 1, 5])).min(255) as u16;
+pub fn damage_tree(random: &mut Random, named: Named, words: &mut Vec<u16>) {
+    let unknown = random.pick(&[5, 6, 7, 128, 254, 255, 576, 576, 577, 640, 767, 768, 65535, 0x8100]);
+    // behind the last row, or behind the last ball: of 64 balls that is 576
+    let further = random.pick(&[0, 0, 1, 5]);
+    let past = if random.chance(50) {
+        256 + (named.rows + further).min(255) as u16
+    } else {
+        512 + (named.balls + further).min(64) as u16
+    };
     match random.below(16) {
         0 => words.clear(),
         1 => {
@@ -303,7 +419,7 @@ pub fn damage_tree(random: &mut Random, count: usize, words: &mut Vec<u16>) {
             words[place] = if (2..=4).contains(&words[place]) { 1 } else { random.pick(&[2, 3, 4]) };
         }
         4 => words.insert(0, random.pick(&[2, 3, 4])),
-        5 => words.push(leaf(random, count)),
+        5 => words.push(leaf(random, named)),
         6 => words.push(random.pick(&[2, 3, 4])),
         7 => {
             words.pop();
@@ -315,7 +431,7 @@ pub fn damage_tree(random: &mut Random, count: usize, words: &mut Vec<u16>) {
         // 33 pending, at times with a word that is worse than that
         9 | 10 => {
             let leaves = 33 + random.place(20);
-            *words = tree_of(random, count, leaves, 60, 10);
+            *words = tree_of(random, named, leaves, 60, 10);
             words.sort_by_key(|&word| (2..=4).contains(&word));
             let place = random.pick(&[31, 32, 32, 33]);
             match random.below(5) {
@@ -327,14 +443,14 @@ pub fn damage_tree(random: &mut Random, count: usize, words: &mut Vec<u16>) {
         }
         // exactly 32 pending, and one thing more
         11 => {
-            *words = (0..32).map(|_| leaf(random, count)).collect();
+            *words = (0..32).map(|_| leaf(random, named)).collect();
             words.push(random.pick(&[unknown, past, 0, 1, 2, 3, 4]));
             words.extend((0..random.pick(&[30, 31, 32])).map(|_| 3));
         }
         // 256 words and more, whatever they are
         12 | 13 => {
             let length = random.pick(&[256, 256, 257, 300, 512, 1000]);
-            let good = tree_of(random, count, 129, 8, 20);
+            let good = tree_of(random, named, 129, 8, 20);
             *words = good.into_iter().chain(std::iter::repeat(unknown)).take(length).collect();
             if random.chance(30) {
                 words[0] = unknown;
@@ -342,7 +458,7 @@ pub fn damage_tree(random: &mut Random, count: usize, words: &mut Vec<u16>) {
         }
         // 255 words that are not in order
         14 => {
-            words.resize(255, leaf(random, count));
+            words.resize(255, leaf(random, named));
         }
         _ => {
             let (one, two) = (random.place(words.len()), random.place(words.len()));
@@ -359,9 +475,12 @@ pub fn any_words(random: &mut Random) -> Vec<u16> {
         _ => random.below(600),
     };
     (0..length)
-        .map(|_| match random.below(4) {
-            0 => random.pick(&[0, 1, 2, 3, 4, 5, 254, 255, 256, 257, 510, 511, 512, 513, 767, 768, 65535]),
+        .map(|_| match random.below(5) {
+            0 => random.pick(&[
+                0, 1, 2, 3, 4, 5, 254, 255, 256, 257, 510, 511, 512, 513, 574, 575, 576, 577, 767, 768, 65535,
+            ]),
             1 => random.next() as u16,
+            2 => 512 + random.below(80) as u16,
             _ => 256 + random.below(256) as u16,
         })
         .collect()
@@ -375,26 +494,31 @@ pub use crate::plain::Scene as RunCase;
 /// A run, damaged in no place, in one, or in several.
 pub fn run(random: &mut Random) -> RunCase {
     let universe = universe(random, 5);
-    run_in(random, 2, universe)
+    run_in(random, 3, universe)
 }
 
+/// A run as a scene of a version can say it: balls are of version 3.
 fn run_in(random: &mut Random, version: u64, universe: [u64; 3]) -> RunCase {
     let near = in_range(universe);
     let mut rows = rows(random, near);
-    let count = rows.len() / 5;
-    let (mut first, mut second) = (tree(random, count), tree(random, count));
-    if random.chance(9) {
+    let mut balls = if version < 3 { vec![] } else { balls(random, near) };
+    let named = Named::of(&rows, &balls);
+    let (mut first, mut second) = (tree(random, named), tree(random, named));
+    if random.chance(8) {
         damage_rows(random, near[0], &mut rows);
     }
+    if version >= 3 && random.chance(8) {
+        damage_balls(random, near[0], &mut balls);
+    }
     if random.chance(13) {
-        damage_tree(random, count, &mut first);
+        damage_tree(random, named, &mut first);
     }
     if random.chance(11) {
-        damage_tree(random, count, &mut second);
+        damage_tree(random, named, &mut second);
     }
     let (first_frame, last_frame) = window(random, near[2]);
     let [axes, bits, frame_bits] = universe;
-    RunCase { version, axes, bits, frame_bits, rows, first, second, first_frame, last_frame }
+    RunCase { version, axes, bits, frame_bits, rows, balls, first, second, first_frame, last_frame }
 }
 
 pub fn window(random: &mut Random, frame_bits: u64) -> (u64, u64) {
@@ -632,6 +756,15 @@ pub fn leaf_count(random: &mut Random) -> u64 {
     }
 }
 
+/// How many words name a ball: none half of the time.
+pub fn ball_count(random: &mut Random) -> u64 {
+    if random.chance(50) {
+        0
+    } else {
+        leaf_count(random)
+    }
+}
+
 // ----------------------------------------------------------------------------------------------------- files
 
 fn damage_file(random: &mut Random, header: usize, bytes: &mut Vec<u8>) {
@@ -653,8 +786,8 @@ fn damage_file(random: &mut Random, header: usize, bytes: &mut Vec<u8>) {
         5 => bytes.truncate(random.place(bytes.len() + 1)),
         6 => bytes.truncate(random.place(header + 2)),
         _ => {
-            // a count goes up or down and the rest stays
-            let place = 8 + 2 * random.place(3);
+            // a count goes up or down and the rest stays: in a scene of version 3 that of the balls, too
+            let place = if header == 20 && random.chance(40) { 18 } else { 8 + 2 * random.place(3) };
             if let Some(low) = bytes.get_mut(place) {
                 *low = low.wrapping_add(random.pick(&[1, 255]));
             }
@@ -662,13 +795,13 @@ fn damage_file(random: &mut Random, header: usize, bytes: &mut Vec<u8>) {
     }
 }
 
-/// A version of a file: one that is read, at times another.
-fn version(random: &mut Random) -> u64 {
+/// The bytes of a file, at times with another version in them: one that is not read, or one that says something else.
+fn with_version(random: &mut Random, mut bytes: Vec<u8>) -> Vec<u8> {
     if random.chance(4) {
-        random.pick(&[0, 3, 4, 255, 256, 257, 258, 512, 513, 65_535])
-    } else {
-        random.pick(&[1, 1, 2, 2, 2])
+        let version: u16 = random.pick(&[0, 1, 2, 3, 3, 4, 4, 255, 256, 257, 258, 259, 512, 513, 768, 65_535]);
+        bytes[3..5].copy_from_slice(&version.to_le_bytes());
     }
+    bytes
 }
 
 /// A universe that a file of a version can say, at times out of range.
@@ -698,20 +831,31 @@ fn universe_in_file(random: &mut Random, version: u64, bad: u64) -> [u64; 3] {
 }
 
 pub fn scene_file(random: &mut Random) -> Vec<u8> {
-    let version = version(random);
+    let version = random.pick(&[1, 1, 2, 2, 3, 3, 3, 3]);
     let universe = universe_in_file(random, version, 6);
     let mut scene = run_in(random, version, universe);
-    // a file counts its rows in fives
+    // a file counts its rows in fives and its balls in fours
     scene.rows.truncate(scene.rows.len() / 5 * 5);
+    scene.balls.truncate(scene.balls.len() / 4 * 4);
+    if version < 3 && random.chance(5) {
+        // a ball word where there are no balls
+        let tree = random.pick(&[0, 1]);
+        let words = if tree == 0 { &mut scene.first } else { &mut scene.second };
+        words.insert(0, 512);
+        words.push(2);
+    }
     if random.below(400) == 0 {
         scene.rows.resize(5 * random.pick(&[1000, 2000, 65_535]), 0);
+    }
+    if version == 3 && random.below(200) == 0 {
+        scene.balls.resize(4 * random.pick(&[256, 320, 6000, 65_535]), 0);
     }
     for frame in [&mut scene.first_frame, &mut scene.last_frame] {
         *frame = (*frame).min(65_535);
     }
-    let mut bytes = scene_bytes(&scene);
+    let mut bytes = with_version(random, scene_bytes(&scene));
     if random.chance(25) {
-        damage_file(random, 18, &mut bytes);
+        damage_file(random, if version == 3 { 20 } else { 18 }, &mut bytes);
     }
     bytes
 }
@@ -720,18 +864,22 @@ pub fn scene_file(random: &mut Random) -> Vec<u8> {
 pub fn program_file(random: &mut Random) -> Vec<u8> {
     match random.below(12) {
         0 => {
+            let version = random.pick(&[1, 2, 3]);
+            // 65,536 bytes
+            let (rows, balls, first) = if version == 3 { (1636, 4, 13) } else { (1637, 0, 10) };
             let mut scene = Scene {
-                version: random.pick(&[1, 2]),
+                version,
                 axes: 2,
                 bits: 2,
                 frame_bits: 2,
-                rows: vec![0; 5 * 1637],
-                first: vec![1; 10],
+                rows: vec![0; 5 * rows],
+                balls: vec![0; 4 * balls],
+                first: vec![1; first],
                 second: vec![1; 9],
                 first_frame: 0,
                 last_frame: 0,
             };
-            scene.first.resize(random.pick(&[9, 10, 10, 11]), 1);
+            scene.first.resize(first + random.pick(&[0, 1, 1, 2]) - 1, 1);
             let mut bytes = scene_bytes(&scene);
             if random.chance(30) {
                 bytes.push(0);
@@ -742,18 +890,32 @@ pub fn program_file(random: &mut Random) -> Vec<u8> {
             let axes = 2 + random.below(3);
             let bits = random.pick(&[[9, 10, 10], [5, 6, 7], [3, 4, 5]][axes as usize - 2]);
             let frame_bits = random.pick(&[bits, bits, bits - 1, bits + 1, bits + 2]);
-            let version = if frame_bits == bits { random.pick(&[1, 2]) } else { 2 };
-            let rows: Vec<i64> = (0..4).flat_map(|_| row(random, [axes, bits, frame_bits])).collect();
-            let (first, second) = (tree(random, 4), tree(random, 4));
-            let last_frame = (1 << frame_bits) - 1;
-            scene_bytes(&Scene { version, axes, bits, frame_bits, rows, first, second, first_frame: 0, last_frame })
+            let version = if frame_bits == bits { random.pick(&[1, 2, 3]) } else { random.pick(&[2, 3]) };
+            let universe = [axes, bits, frame_bits];
+            let rows: Vec<i64> = (0..4).flat_map(|_| row(random, universe)).collect();
+            let balls = if version == 3 { ball(random, universe).to_vec() } else { vec![] };
+            let named = Named::of(&rows, &balls);
+            let (first, second) = (tree(random, named), tree(random, named));
+            let (first_frame, last_frame) = (0, (1 << frame_bits) - 1);
+            scene_bytes(&Scene {
+                version,
+                axes,
+                bits,
+                frame_bits,
+                rows,
+                balls,
+                first,
+                second,
+                first_frame,
+                last_frame,
+            })
         }
         _ => scene_file(random),
     }
 }
 
 pub fn shape_file(random: &mut Random) -> Vec<u8> {
-    let version = version(random);
+    let version = random.pick(&[1, 1, 2, 2, 2]);
     let universe = universe_in_file(random, version, 8);
     let levels = levels(in_range(universe));
     let mut symbols = expression(random, levels);
@@ -763,7 +925,7 @@ pub fn shape_file(random: &mut Random) -> Vec<u8> {
     if random.chance(20) {
         damage_expression(random, levels, &mut symbols);
     }
-    let mut bytes = shape_bytes(version, universe, &symbols);
+    let mut bytes = with_version(random, shape_bytes(version, universe, &symbols));
     let header = bytes.len() - symbols.len();
     if random.chance(25) {
         if random.chance(30) {

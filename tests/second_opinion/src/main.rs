@@ -206,7 +206,7 @@ fn text_of(expression: &[u8]) -> String {
 
 /// How many symbols a conversion needs, and the formula's room; nothing where it is too long to be compared.
 fn needed(case: &generate::RunCase, trees: &[&[u16]]) -> Option<(u64, u64)> {
-    match Run::checked(case.axes, case.bits, case.frame_bits, &case.rows, trees) {
+    match Run::checked(case.axes, case.bits, case.frame_bits, &case.rows, &case.balls, trees) {
         Ok(run) => run.blocks_within(MOST_BLOCKS).map(|blocks| (blocks, run.room())),
         Err(_) => Some((5, 5)),
     }
@@ -227,7 +227,7 @@ fn universe_text([axes, bits, frame_bits]: [u64; 3]) -> String {
 
 fn run_text(case: &generate::RunCase, trees: usize, lent: usize) -> String {
     let mut text = universe_text([case.axes, case.bits, case.frame_bits]);
-    let _ = write!(text, "\nrows = {:?}", case.rows);
+    let _ = write!(text, "\nrows = {:?}\nballs = {:?}", case.rows, case.balls);
     let _ = write!(text, "\nfirst = {:?}", case.first);
     if trees == 2 {
         let _ = write!(text, "\nsecond = {:?}", case.second);
@@ -236,15 +236,17 @@ fn run_text(case: &generate::RunCase, trees: usize, lent: usize) -> String {
     text
 }
 
-type RawOne = fn(u64, u64, u64, &[i64], &[u16], &mut [u8], &mut [u64; 1]) -> u64;
-type RawTwo = fn(u64, u64, u64, &[i64], &[u16], &[u16], &mut [u8], &mut [u64; 1]) -> u64;
-type Verdict = fn(u64, u64, u64, &[i64], &[u16], &[u16], u64, u64, &mut [u8], &mut [u64; 5]) -> u64;
+type Room = fn(u64, u64, u64, u64, u64, &mut [u64; 1]) -> u64;
+type RawOne = fn(u64, u64, u64, &[i64], &[i64], &[u16], &mut [u8], &mut [u64; 1]) -> u64;
+type RawTwo = fn(u64, u64, u64, &[i64], &[i64], &[u16], &[u16], &mut [u8], &mut [u64; 1]) -> u64;
+type Verdict = fn(u64, u64, u64, &[i64], &[i64], &[u16], &[u16], u64, u64, &mut [u8], &mut [u64; 5]) -> u64;
 type Numbers = fn(u64, u64, u64, &[u8], u64, u64, &mut [u64; 5]) -> u64;
 type Report = fn(u64, u64, u64, &[u8], u64, u64, &mut [u64], &mut [u64; 2]) -> u64;
 type Colour = fn(u64, u64, u64, &[u8], u64, u64, u64, u64, &mut [u64; 1]) -> u64;
 type Part = fn(u64, u64, u64, &[u8], &[u8], &mut [u64; 2]) -> u64;
 type Rewrite<const N: usize> = fn(u64, u64, u64, &[u8], &mut [u8], &mut [u64; N]) -> u64;
-type SceneRead = fn(&[u8], &mut [i64; 1280], &mut [u16; 255], &mut [u16; 255], &mut [u64; 9]) -> u64;
+type SceneRead =
+    fn(&[u8], &mut [i64; 1280], &mut [i64; 256], &mut [u16; 255], &mut [u16; 255], &mut [u64; 10]) -> u64;
 type ShapeRead = fn(&[u8], &mut [u8], &mut [u64; 4]) -> u64;
 type BoxRows = fn([f64; 3], [f64; 3], [f64; 3], &mut [i64; 30]) -> u64;
 type CutRow = fn([f64; 3], f64, [f64; 3], &mut [i64; 5]) -> u64;
@@ -256,20 +258,24 @@ fn rooms(line: &mut Line, random: &mut Random) {
     } else {
         generate::universe(random, 50)
     };
-    let leaves = generate::leaf_count(random);
-    let [plain, library] = [plain::room as fn(u64, u64, u64, u64, &mut [u64; 1]) -> u64, face::room].map(|room| {
+    let (leaves, balls) = (generate::leaf_count(random), generate::ball_count(random));
+    let [plain, library] = [plain::room as Room, face::room].map(|room| {
         let mut answer = longs(1);
-        let number = room(axes, bits, frame_bits, leaves, answer.array());
+        let number = room(axes, bits, frame_bits, leaves, balls, answer.array());
         Outcome { number, contents: vec![("answer", answer.into())] }
     });
-    line.compare(plain, library, || format!("{}\nleaves = {leaves}", universe_text([axes, bits, frame_bits])));
+    line.compare(plain, library, || {
+        format!("{}\nleaves = {leaves}\nballs = {balls}", universe_text([axes, bits, frame_bits]))
+    });
 }
 
-fn leaves(line: &mut Line, random: &mut Random) {
+/// How many words are of a kind.
+fn counts(line: &mut Line, random: &mut Random, plain: fn(&[u16]) -> u64, library: fn(&[u16]) -> u64) {
     let words = generate::any_words(random);
-    let (plain, library) = (plain::leaves(&words), face::leaves(&words));
-    let outcome = |count| Outcome { number: ACCEPTED, contents: vec![("count", Contents::Count(count))] };
-    line.compare(outcome(plain), outcome(library), || format!("words = {words:?}"));
+    let [plain, library] = [plain, library].map(|count| {
+        Outcome { number: ACCEPTED, contents: vec![("count", Contents::Count(count(&words)))] }
+    });
+    line.compare(plain, library, || format!("words = {words:?}"));
 }
 
 fn one_tree(line: &mut Line, random: &mut Random, plain: RawOne, library: RawOne, merged: bool) {
@@ -278,13 +284,14 @@ fn one_tree(line: &mut Line, random: &mut Random, plain: RawOne, library: RawOne
     let mut need = [blocks];
     if merged && blocks > 1 {
         // the room is chosen around the merged length
-        plain(case.axes, case.bits, case.frame_bits, &case.rows, &case.first, &mut [], &mut need);
+        plain(case.axes, case.bits, case.frame_bits, &case.rows, &case.balls, &case.first, &mut [], &mut need);
     }
     let lent = lent_for(random, need[0], formula);
     let [plain, library] = [plain, library].map(|convert| {
         let (mut out, mut answer) = (bytes(lent), longs(1));
+        let (rows, balls, words) = (&case.rows, &case.balls, &case.first);
         let number =
-            convert(case.axes, case.bits, case.frame_bits, &case.rows, &case.first, out.lent(), answer.array());
+            convert(case.axes, case.bits, case.frame_bits, rows, balls, words, out.lent(), answer.array());
         Outcome { number, contents: vec![("answer", answer.into()), ("out", out.into())] }
     });
     line.compare(plain, library, || run_text(&case, 1, lent));
@@ -295,17 +302,25 @@ fn two_trees(line: &mut Line, random: &mut Random, plain: RawTwo, library: RawTw
     let Some((blocks, formula)) = needed(&case, &[&case.first, &case.second]) else { return };
     let mut need = [blocks];
     if merged && blocks > 1 {
-        plain(case.axes, case.bits, case.frame_bits, &case.rows, &case.first, &case.second, &mut [], &mut need);
+        need[0] = length_of(plain, &case);
     }
     let lent = lent_for(random, need[0], formula);
     compare_two_trees(line, &case, lent, plain, library);
+}
+
+/// How many symbols a conversion of two trees needs.
+fn length_of(convert: RawTwo, case: &generate::RunCase) -> u64 {
+    let (rows, balls, mut need) = (&case.rows, &case.balls, [0]);
+    convert(case.axes, case.bits, case.frame_bits, rows, balls, &case.first, &case.second, &mut [], &mut need);
+    need[0]
 }
 
 fn compare_two_trees(line: &mut Line, case: &generate::RunCase, lent: usize, plain: RawTwo, library: RawTwo) {
     let [plain, library] = [plain, library].map(|convert| {
         let (mut out, mut answer) = (bytes(lent), longs(1));
         let number = convert(
-            case.axes, case.bits, case.frame_bits, &case.rows, &case.first, &case.second, out.lent(), answer.array(),
+            case.axes, case.bits, case.frame_bits, &case.rows, &case.balls, &case.first, &case.second, out.lent(),
+            answer.array(),
         );
         Outcome { number, contents: vec![("answer", answer.into()), ("out", out.into())] }
     });
@@ -323,8 +338,8 @@ fn compare_verdicts(line: &mut Line, case: &generate::RunCase, lent: usize) {
     let [plain, library] = [plain::verdict as Verdict, face::verdict].map(|judge| {
         let (mut out, mut answer) = (bytes(lent), longs(5));
         let number = judge(
-            case.axes, case.bits, case.frame_bits, &case.rows, &case.first, &case.second, case.first_frame,
-            case.last_frame, out.lent(), answer.array(),
+            case.axes, case.bits, case.frame_bits, &case.rows, &case.balls, &case.first, &case.second,
+            case.first_frame, case.last_frame, out.lent(), answer.array(),
         );
         Outcome { number, contents: vec![("answer", answer.into()), ("out", out.into())] }
     });
@@ -342,7 +357,8 @@ fn long_run(
     loop {
         let case = generate::run(random);
         let trees: [&[u16]; 2] = [&case.first, &case.second];
-        let Ok(run) = Run::checked(case.axes, case.bits, case.frame_bits, &case.rows, &trees) else { continue };
+        let run = Run::checked(case.axes, case.bits, case.frame_bits, &case.rows, &case.balls, &trees);
+        let Ok(run) = run else { continue };
         match run.blocks_within(LONG_BLOCKS[2]) {
             Some(blocks) if least < blocks => {
                 let around = match random.below(4) {
@@ -358,11 +374,7 @@ fn long_run(
 }
 
 fn long_two_trees(line: &mut Line, random: &mut Random, plain: RawTwo, library: RawTwo) {
-    let (case, lent) = long_run(line, random, |case, _| {
-        let mut need = [0];
-        plain(case.axes, case.bits, case.frame_bits, &case.rows, &case.first, &case.second, &mut [], &mut need);
-        need[0]
-    });
+    let (case, lent) = long_run(line, random, |case, _| length_of(plain, case));
     compare_two_trees(line, &case, lent, plain, library);
 }
 
@@ -449,12 +461,13 @@ fn rewriting<const N: usize>(line: &mut Line, random: &mut Random, plain: Rewrit
 fn scenes(line: &mut Line, random: &mut Random) {
     let file = generate::scene_file(random);
     let [plain, library] = [plain::scene as SceneRead, face::scene].map(|read| {
-        let (mut rows, mut first, mut second) = (rows_lent(1280), words_lent(255), words_lent(255));
-        let mut answer = longs(9);
-        let number = read(&file, rows.array(), first.array(), second.array(), answer.array());
+        let (mut rows, mut balls, mut answer) = (rows_lent(1280), rows_lent(256), longs(10));
+        let (mut first, mut second) = (words_lent(255), words_lent(255));
+        let number =
+            read(&file, rows.array(), balls.array(), first.array(), second.array(), answer.array());
+        let surfaces = [("answer", answer.into()), ("rows", rows.into()), ("balls", balls.into())];
         let trees = [("first", first.into()), ("second", second.into())];
-        let contents = [("answer", answer.into()), ("rows", rows.into())].into_iter().chain(trees).collect();
-        Outcome { number, contents }
+        Outcome { number, contents: surfaces.into_iter().chain(trees).collect() }
     });
     line.compare(plain, library, || format!("bytes = {file:?}"));
 }
@@ -463,7 +476,8 @@ fn scenes(line: &mut Line, random: &mut Random) {
 fn program_case(random: &mut Random) -> Option<(Vec<u8>, String, u64)> {
     let file = generate::program_file(random);
     if let Ok(scene) = plain::scene_checked(&file) {
-        let run = Run::checked(scene.axes, scene.bits, scene.frame_bits, &scene.rows, &[&scene.first, &scene.second]);
+        let trees: [&[u16]; 2] = [&scene.first, &scene.second];
+        let run = Run::checked(scene.axes, scene.bits, scene.frame_bits, &scene.rows, &scene.balls, &trees);
         if run.is_ok_and(|run| run.blocks_within(LONG_BLOCKS[2]).is_none()) {
             return None;
         }
@@ -559,7 +573,8 @@ type Compare = fn(&mut Line, &mut Random);
 /// Name, share of the rounds in a thousand, the numbers to refuse with in their order, comparison.
 const ENTRY_POINTS: &[(&str, u64, &[u64], Compare)] = &[
     ("durbizhan_room", 1000, &[BAD_UNIVERSE], rooms),
-    ("durbizhan_leaves", 1000, &[], leaves),
+    ("durbizhan_leaves", 1000, &[], |l, r| counts(l, r, plain::leaves, face::leaves)),
+    ("durbizhan_balls", 1000, &[], |l, r| counts(l, r, plain::balls, face::balls)),
     ("durbizhan_raw_one", 1000, CONVERSION, |l, r| one_tree(l, r, plain::raw_one, face::raw_one, false)),
     ("durbizhan_raw_two", 1000, CONVERSION, |l, r| two_trees(l, r, plain::raw_two, face::raw_two, false)),
     ("durbizhan_merged_one", 1000, CONVERSION, |l, r| one_tree(l, r, plain::merged_one, face::merged_one, true)),

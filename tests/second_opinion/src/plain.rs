@@ -94,6 +94,11 @@ impl Universe {
         1 << self.bits_along(axis)
     }
 
+    /// How many axes are of places: all but the last, which counts frames.
+    pub fn place_axes(&self) -> usize {
+        self.axes - 1
+    }
+
     pub fn frames(&self) -> u64 {
         1 << self.frame_bits
     }
@@ -178,15 +183,21 @@ impl Block {
     }
 }
 
-// --------------------------------------------------------------------------------------- halfspaces and trees
+// -------------------------------------------------------------------------------- halfspaces, balls and trees
 
 pub const MOST_ROWS: usize = 256;
 pub const MOST_WORDS: usize = 255;
 pub const MOST_PENDING: usize = 32;
 pub const FREE_LIMIT: i64 = 1_099_511_627_776;
 pub const AXIS_LIMIT: i64 = 16_777_216;
+pub const MOST_BALLS: usize = 64;
+pub const CENTRE_LIMIT: i64 = 1_024;
+pub const RADIUS_LIMIT: i64 = 1_024;
 
 pub type Row = [i64; 5];
+
+/// Three centre numbers and the radius.
+pub type Ball = [i64; 4];
 
 pub fn rows_checked(universe: &Universe, numbers: &[i64]) -> Answer<Vec<Row>> {
     if numbers.len() % 5 != 0 || numbers.len() / 5 > MOST_ROWS {
@@ -209,22 +220,64 @@ pub fn rows_checked(universe: &Universe, numbers: &[i64]) -> Answer<Vec<Row>> {
     Ok(rows)
 }
 
+/// Balls by rules 2.6 and 2.10. The place axes are all but the last; the numbers of any other are 0.
+pub fn balls_checked(universe: &Universe, numbers: &[i64]) -> Answer<Vec<Ball>> {
+    if numbers.len() % 4 != 0 || numbers.len() / 4 > MOST_BALLS {
+        return refused(BAD_ROWS);
+    }
+    let mut balls = Vec::new();
+    for four in numbers.chunks(4) {
+        for (axis, &number) in four[..3].iter().enumerate() {
+            let limit = if axis < universe.place_axes() { CENTRE_LIMIT } else { 0 };
+            if number < -limit || number > limit {
+                return refused(BAD_ROWS);
+            }
+        }
+        if four[3] < 0 || four[3] > RADIUS_LIMIT {
+            return refused(BAD_ROWS);
+        }
+        balls.push([four[0], four[1], four[2], four[3]]);
+    }
+    Ok(balls)
+}
+
+/// What a word can name.
+#[derive(Clone, Copy, Debug, PartialEq)]
+pub enum Surface {
+    Halfspace(Row),
+    Ball(Ball),
+}
+
 #[derive(Clone, Debug, PartialEq)]
 pub enum Tree {
     White,
     Black,
-    Halfspace(Row),
-    /// A halfspace reversed: decided exactly where the halfspace is, and of the opposite colour there and at every
-    /// centre.
-    Reversed(Row),
+    Leaf(Surface),
+    /// A surface reversed: decided exactly where the surface is, and of the opposite colour there and at every centre.
+    Reversed(Surface),
     Union(Box<Tree>, Box<Tree>),
     Intersection(Box<Tree>, Box<Tree>),
     Minus(Box<Tree>, Box<Tree>),
 }
 
-use Tree::{Halfspace, Intersection, Minus, Reversed, Union};
+use Tree::{Intersection, Leaf, Minus, Reversed, Union};
 
-pub fn tree_checked(rows: &[Row], words: &[u16]) -> Answer<Tree> {
+/// What a word pushes, where it is one that does; a row or a ball that is not there is refused.
+fn pushed(rows: &[Row], balls: &[Ball], word: u16) -> Answer<Option<Tree>> {
+    let leaf = match word {
+        0 => Some(Tree::White),
+        1 => Some(Tree::Black),
+        256..=511 => rows.get(word as usize - 256).map(|row| Leaf(Surface::Halfspace(*row))),
+        512..=575 => balls.get(word as usize - 512).map(|ball| Leaf(Surface::Ball(*ball))),
+        _ => return Ok(None),
+    };
+    match leaf {
+        None => refused(BAD_TREE),
+        leaf => Ok(leaf),
+    }
+}
+
+pub fn tree_checked(rows: &[Row], balls: &[Ball], words: &[u16]) -> Answer<Tree> {
     if words.is_empty() {
         return refused(BAD_TREE);
     }
@@ -233,22 +286,14 @@ pub fn tree_checked(rows: &[Row], words: &[u16]) -> Answer<Tree> {
     }
     let mut pending: Vec<Tree> = Vec::new();
     for &word in words {
-        match word {
-            0 | 1 | 256..=511 => {
-                let leaf = match word {
-                    0 => Tree::White,
-                    1 => Tree::Black,
-                    _ => match rows.get(word as usize - 256) {
-                        Some(row) => Halfspace(*row),
-                        None => return refused(BAD_TREE),
-                    },
-                };
+        match (pushed(rows, balls, word)?, word) {
+            (Some(leaf), _) => {
                 if pending.len() == MOST_PENDING {
                     return refused(OVERFULL_TREE);
                 }
                 pending.push(leaf);
             }
-            2 | 3 | 4 => {
+            (None, 2 | 3 | 4) => {
                 if pending.len() < 2 {
                     return refused(BAD_TREE);
                 }
@@ -274,8 +319,8 @@ pub fn reversed(tree: Tree) -> Tree {
     match tree {
         Tree::White => Tree::Black,
         Tree::Black => Tree::White,
-        Halfspace(row) => Reversed(row),
-        Reversed(row) => Halfspace(row),
+        Leaf(surface) => Reversed(surface),
+        Reversed(surface) => Leaf(surface),
         Union(a, b) => Intersection(Box::new(reversed(*a)), Box::new(reversed(*b))),
         Intersection(a, b) => Union(Box::new(reversed(*a)), Box::new(reversed(*b))),
         Minus(a, b) => Union(Box::new(reversed(*a)), b),
@@ -345,13 +390,48 @@ fn halfspace_mark(universe: &Universe, row: &Row, block: &Block) -> Mark {
     }
 }
 
+/// The least and the greatest, over all points of a block, of the radius squared less the distance squared: each place
+/// axis gives what is farthest from the centre along it and what is nearest.
+pub fn ball_extremes(universe: &Universe, ball: &Ball, block: &Block) -> (i64, i64) {
+    let (mut farthest, mut nearest) = (0, 0);
+    for axis in 0..universe.place_axes() {
+        let (low, high, centre) = (block.low[axis], block.low[axis] + block.size[axis], ball[axis]);
+        let ends = [(low - centre).abs(), (high - centre).abs()];
+        let far = ends[0].max(ends[1]);
+        let near = if low <= centre && centre <= high { 0 } else { ends[0].min(ends[1]) };
+        farthest += far * far;
+        nearest += near * near;
+    }
+    let square = ball[3] * ball[3];
+    (square - farthest, square - nearest)
+}
+
+/// The mark of a ball over a block. It is WHITE where the greatest is negative: 0 is not enough.
+fn ball_mark(universe: &Universe, ball: &Ball, block: &Block) -> Mark {
+    let (least, greatest) = ball_extremes(universe, ball, block);
+    if least >= 0 {
+        Mark::Black
+    } else if greatest < 0 {
+        Mark::White
+    } else {
+        Mark::Undecided
+    }
+}
+
+fn surface_mark(universe: &Universe, surface: &Surface, block: &Block) -> Mark {
+    match surface {
+        Surface::Halfspace(row) => halfspace_mark(universe, row, block),
+        Surface::Ball(ball) => ball_mark(universe, ball, block),
+    }
+}
+
 /// The mark of a tree with no MINUS over a block.
 pub fn mark(universe: &Universe, tree: &Tree, block: &Block) -> Mark {
     match tree {
         Tree::White => Mark::White,
         Tree::Black => Mark::Black,
-        Halfspace(row) => halfspace_mark(universe, row, block),
-        Reversed(row) => halfspace_mark(universe, row, block).opposite(),
+        Leaf(surface) => surface_mark(universe, surface, block),
+        Reversed(surface) => surface_mark(universe, surface, block).opposite(),
         Union(a, b) => match (mark(universe, a, block), mark(universe, b, block)) {
             (Mark::Black, _) | (_, Mark::Black) => Mark::Black,
             (Mark::White, Mark::White) => Mark::White,
@@ -372,13 +452,26 @@ fn halfspace_black(row: &Row, axes: usize, voxel: &[i64; 4]) -> bool {
     2 * row[0] + sum >= 0
 }
 
+/// Whether a ball is BLACK at a voxel's centre: in halves, so that all is whole.
+fn ball_black(ball: &Ball, axes: usize, voxel: &[i64; 4]) -> bool {
+    let sum: i64 = (0..axes - 1).map(|axis| (2 * voxel[axis] + 1 - 2 * ball[axis]).pow(2)).sum();
+    4 * ball[3] * ball[3] >= sum
+}
+
+fn surface_black(surface: &Surface, axes: usize, voxel: &[i64; 4]) -> bool {
+    match surface {
+        Surface::Halfspace(row) => halfspace_black(row, axes, voxel),
+        Surface::Ball(ball) => ball_black(ball, axes, voxel),
+    }
+}
+
 /// Whether a tree with no MINUS is BLACK at a voxel's centre.
 pub fn black_at_centre(tree: &Tree, axes: usize, voxel: &[i64; 4]) -> bool {
     match tree {
         Tree::White => false,
         Tree::Black => true,
-        Halfspace(row) => halfspace_black(row, axes, voxel),
-        Reversed(row) => !halfspace_black(row, axes, voxel),
+        Leaf(surface) => surface_black(surface, axes, voxel),
+        Reversed(surface) => !surface_black(surface, axes, voxel),
         Union(a, b) => black_at_centre(a, axes, voxel) || black_at_centre(b, axes, voxel),
         Intersection(a, b) => black_at_centre(a, axes, voxel) && black_at_centre(b, axes, voxel),
         Minus(..) => unreachable!("no MINUS is left"),
@@ -617,7 +710,14 @@ pub fn halfspace_words(words: &[u16]) -> u64 {
     words.iter().filter(|&&word| (256..=511).contains(&word)).count() as u64
 }
 
-pub fn room_of(universe: &Universe, leaves: u64) -> u64 {
+/// The number of ball words.
+pub fn ball_words(words: &[u16]) -> u64 {
+    words.iter().filter(|&&word| (512..=575).contains(&word)).count() as u64
+}
+
+/// Room for so many halfspace words and so many ball words: with one of these each level counts all its blocks
+/// (rule 4.14).
+pub fn room_of(universe: &Universe, leaves: u64, balls: u64) -> u64 {
     let mut sum: u128 = 0;
     for level in 0..universe.levels() {
         // the blocks along each axis at this level
@@ -628,7 +728,7 @@ pub fn room_of(universe: &Universe, leaves: u64) -> u64 {
         let along = &along[..universe.axes];
         let all: u128 = along.iter().product();
         let inner: u128 = along.iter().map(|n| n - 1).product();
-        sum += all.min(leaves as u128 * (all - inner));
+        sum += if balls > 0 { all } else { all.min(leaves as u128 * (all - inner)) };
     }
     u64::try_from(1 + 2 * sum).expect("at most 2^43 - 1")
 }
@@ -819,6 +919,7 @@ pub struct Scene {
     pub bits: u64,
     pub frame_bits: u64,
     pub rows: Vec<i64>,
+    pub balls: Vec<i64>,
     pub first: Vec<u16>,
     pub second: Vec<u16>,
     pub first_frame: u64,
@@ -835,24 +936,39 @@ fn universe_in(version: u64, d: u8, k: u8, f: u8) -> [u64; 3] {
     }
 }
 
+/// The numbers of a ball in a file: three i16 and a u16.
+fn ball_at(bytes: &[u8], place: usize) -> [i64; 4] {
+    let [x, y, z] = [0, 2, 4].map(|behind| u16_at(bytes, place + behind) as i16 as i64);
+    [x, y, z, u16_at(bytes, place + 6) as i64]
+}
+
 pub fn scene_checked(bytes: &[u8]) -> Answer<Scene> {
     if bytes.len() < 18 || &bytes[..3] != b"HSC" {
         return refused(BAD_FILE);
     }
     let version = u16_at(bytes, 3) as u64;
-    if version != 2 && (version != 1 || bytes[7] != 0) {
+    let header = match version {
+        1 | 2 => 18,
+        3 => 20,
+        _ => return refused(BAD_FILE),
+    };
+    if (version == 1 && bytes[7] != 0) || bytes.len() < header {
         return refused(BAD_FILE);
     }
     let count = u16_at(bytes, 8) as usize;
     let (one, two) = (u16_at(bytes, 10) as usize, u16_at(bytes, 12) as usize);
-    if bytes.len() != 18 + 40 * count + 2 * (one + two) {
+    let ball_count = if version == 3 { u16_at(bytes, 18) as usize } else { 0 };
+    // where the balls begin, and where the words
+    let (balls_from, words_from) = (header + 40 * count, header + 40 * count + 8 * ball_count);
+    if bytes.len() != words_from + 2 * (one + two) {
         return refused(BAD_FILE);
     }
-    let numbers: Vec<i64> = bytes[18..18 + 40 * count]
+    let numbers: Vec<i64> = bytes[header..balls_from]
         .chunks(8)
         .map(|eight| i64::from_le_bytes(eight.try_into().unwrap()))
         .collect();
-    let words: Vec<u16> = bytes[18 + 40 * count..].chunks(2).map(|pair| u16_at(pair, 0)).collect();
+    let balls: Vec<i64> = (0..ball_count).flat_map(|ball| ball_at(bytes, balls_from + 8 * ball)).collect();
+    let words: Vec<u16> = bytes[words_from..].chunks(2).map(|pair| u16_at(pair, 0)).collect();
     let [axes, bits, frame_bits] = universe_in(version, bytes[5], bytes[6], bytes[7]);
     let scene = Scene {
         version,
@@ -860,15 +976,14 @@ pub fn scene_checked(bytes: &[u8]) -> Answer<Scene> {
         bits,
         frame_bits,
         rows: numbers,
+        balls,
         first: words[..one].to_vec(),
         second: words[one..].to_vec(),
         first_frame: u16_at(bytes, 14) as u64,
         last_frame: u16_at(bytes, 16) as u64,
     };
-    let universe = Universe::checked(axes, bits, frame_bits)?;
-    let rows = rows_checked(&universe, &scene.rows)?;
-    tree_checked(&rows, &scene.first)?;
-    tree_checked(&rows, &scene.second)?;
+    let (universe, _) =
+        run_checked(axes, bits, frame_bits, &scene.rows, &scene.balls, &[&scene.first, &scene.second])?;
     window_checked(&universe, scene.first_frame, scene.last_frame)?;
     Ok(scene)
 }
@@ -881,7 +996,7 @@ fn begun(mark: &[u8; 3], version: u64, [axes, bits, frame_bits]: [u64; 3]) -> Ve
     bytes
 }
 
-/// The bytes of a scene, as they are: nothing is checked.
+/// The bytes of a scene, as they are: nothing is checked. Version 3 alone has its balls.
 pub fn scene_bytes(scene: &Scene) -> Vec<u8> {
     let mut bytes = begun(b"HSC", scene.version, [scene.axes, scene.bits, scene.frame_bits]);
     bytes.push(if scene.version == 1 { 0 } else { scene.frame_bits as u8 });
@@ -891,8 +1006,16 @@ pub fn scene_bytes(scene: &Scene) -> Vec<u8> {
     for frame in [scene.first_frame, scene.last_frame] {
         bytes.extend((frame as u16).to_le_bytes());
     }
+    let balls: &[i64] = if scene.version == 3 { &scene.balls } else { &[] };
+    if scene.version == 3 {
+        bytes.extend(((balls.len() / 4) as u16).to_le_bytes());
+    }
     for number in &scene.rows {
         bytes.extend(number.to_le_bytes());
+    }
+    for number in balls {
+        // of a centre's i16 and a radius' u16 the bytes are the low ones
+        bytes.extend((*number as u16).to_le_bytes());
     }
     for word in scene.first.iter().chain(&scene.second) {
         bytes.extend(word.to_le_bytes());
@@ -913,15 +1036,16 @@ pub fn shape_bytes(version: u64, universe: [u64; 3], symbols: &[u8]) -> Vec<u8> 
 
 // ----------------------------------------------------------------------------------------- the entry points
 
-/// The universe and the trees of a run, with no MINUS left: 2, 3, then tree after tree.
+/// The universe and the trees of a run, with no MINUS left: 2, 3 for the rows, 3 for the balls, then tree after tree.
 pub fn run_checked(
-    axes: u64, bits: u64, frame_bits: u64, rows: &[i64], trees: &[&[u16]],
+    axes: u64, bits: u64, frame_bits: u64, rows: &[i64], balls: &[i64], trees: &[&[u16]],
 ) -> Answer<(Universe, Vec<Tree>)> {
     let universe = Universe::checked(axes, bits, frame_bits)?;
     let rows = rows_checked(&universe, rows)?;
+    let balls = balls_checked(&universe, balls)?;
     let mut read = Vec::new();
     for words in trees {
-        read.push(without_minus(tree_checked(&rows, words)?));
+        read.push(without_minus(tree_checked(&rows, &balls, words)?));
     }
     Ok((universe, read))
 }
@@ -972,58 +1096,69 @@ fn plain_answer<const N: usize>(result: Answer<[u64; N]>, answer: &mut [u64; N])
     }
 }
 
-pub fn room(axes: u64, bits: u64, frame_bits: u64, leaves: u64, answer: &mut [u64; 1]) -> u64 {
-    plain_answer(Universe::checked(axes, bits, frame_bits).map(|universe| [room_of(&universe, leaves)]), answer)
+pub fn room(axes: u64, bits: u64, frame_bits: u64, leaves: u64, balls: u64, answer: &mut [u64; 1]) -> u64 {
+    let universe = Universe::checked(axes, bits, frame_bits);
+    plain_answer(universe.map(|universe| [room_of(&universe, leaves, balls)]), answer)
 }
 
 pub fn leaves(words: &[u16]) -> u64 {
     halfspace_words(words)
 }
 
-fn raw(axes: u64, bits: u64, frame_bits: u64, rows: &[i64], trees: &[&[u16]]) -> Answer<Vec<u8>> {
-    let (universe, trees) = run_checked(axes, bits, frame_bits, rows, trees)?;
+pub fn balls(words: &[u16]) -> u64 {
+    ball_words(words)
+}
+
+fn raw(
+    axes: u64, bits: u64, frame_bits: u64, rows: &[i64], balls: &[i64], trees: &[&[u16]],
+) -> Answer<Vec<u8>> {
+    let (universe, trees) = run_checked(axes, bits, frame_bits, rows, balls, trees)?;
     Ok(raw_of(&universe, &joined(&trees)))
 }
 
+#[allow(clippy::too_many_arguments)]
 pub fn raw_one(
-    axes: u64, bits: u64, frame_bits: u64, rows: &[i64], words: &[u16], out: &mut [u8], answer: &mut [u64; 1],
+    axes: u64, bits: u64, frame_bits: u64, rows: &[i64], balls: &[i64], words: &[u16], out: &mut [u8],
+    answer: &mut [u64; 1],
 ) -> u64 {
-    let raw = raw(axes, bits, frame_bits, rows, &[words]);
+    let raw = raw(axes, bits, frame_bits, rows, balls, &[words]);
     length_answer(raw.and_then(|symbols| delivered(&symbols, out)), answer)
 }
 
 #[allow(clippy::too_many_arguments)]
 pub fn raw_two(
-    axes: u64, bits: u64, frame_bits: u64, rows: &[i64], first: &[u16], second: &[u16], out: &mut [u8],
+    axes: u64, bits: u64, frame_bits: u64, rows: &[i64], balls: &[i64], first: &[u16], second: &[u16], out: &mut [u8],
     answer: &mut [u64; 1],
 ) -> u64 {
-    let raw = raw(axes, bits, frame_bits, rows, &[first, second]);
+    let raw = raw(axes, bits, frame_bits, rows, balls, &[first, second]);
     length_answer(raw.and_then(|symbols| delivered(&symbols, out)), answer)
 }
 
+#[allow(clippy::too_many_arguments)]
 pub fn merged_one(
-    axes: u64, bits: u64, frame_bits: u64, rows: &[i64], words: &[u16], out: &mut [u8], answer: &mut [u64; 1],
+    axes: u64, bits: u64, frame_bits: u64, rows: &[i64], balls: &[i64], words: &[u16], out: &mut [u8],
+    answer: &mut [u64; 1],
 ) -> u64 {
-    let merged = raw(axes, bits, frame_bits, rows, &[words]).map(|symbols| merged_by_replacement(&symbols));
-    length_answer(merged.and_then(|symbols| delivered(&symbols, out)), answer)
+    let raw = raw(axes, bits, frame_bits, rows, balls, &[words]);
+    length_answer(raw.and_then(|symbols| delivered(&merged_by_replacement(&symbols), out)), answer)
 }
 
 #[allow(clippy::too_many_arguments)]
 pub fn merged_two(
-    axes: u64, bits: u64, frame_bits: u64, rows: &[i64], first: &[u16], second: &[u16], out: &mut [u8],
+    axes: u64, bits: u64, frame_bits: u64, rows: &[i64], balls: &[i64], first: &[u16], second: &[u16], out: &mut [u8],
     answer: &mut [u64; 1],
 ) -> u64 {
-    let merged = raw(axes, bits, frame_bits, rows, &[first, second]).map(|symbols| merged_by_replacement(&symbols));
-    length_answer(merged.and_then(|symbols| delivered(&symbols, out)), answer)
+    let raw = raw(axes, bits, frame_bits, rows, balls, &[first, second]);
+    length_answer(raw.and_then(|symbols| delivered(&merged_by_replacement(&symbols), out)), answer)
 }
 
 #[allow(clippy::too_many_arguments)]
 pub fn verdict(
-    axes: u64, bits: u64, frame_bits: u64, rows: &[i64], first: &[u16], second: &[u16], first_frame: u64,
-    last_frame: u64, out: &mut [u8], answer: &mut [u64; 5],
+    axes: u64, bits: u64, frame_bits: u64, rows: &[i64], balls: &[i64], first: &[u16], second: &[u16],
+    first_frame: u64, last_frame: u64, out: &mut [u8], answer: &mut [u64; 5],
 ) -> u64 {
     let mut judge = || -> Answer<(Hit, u64)> {
-        let (universe, trees) = run_checked(axes, bits, frame_bits, rows, &[first, second])?;
+        let (universe, trees) = run_checked(axes, bits, frame_bits, rows, balls, &[first, second])?;
         window_checked(&universe, first_frame, last_frame)?;
         let symbols = raw_of(&universe, &joined(&trees));
         let length = delivered(&symbols, out)?;
@@ -1160,10 +1295,12 @@ pub fn merge(axes: u64, bits: u64, frame_bits: u64, expression: &[u8], out: &mut
 }
 
 pub fn scene(
-    bytes: &[u8], rows: &mut [i64; 1280], first: &mut [u16; 255], second: &mut [u16; 255], answer: &mut [u64; 9],
+    bytes: &[u8], rows: &mut [i64; 1280], balls: &mut [i64; 256], first: &mut [u16; 255], second: &mut [u16; 255],
+    answer: &mut [u64; 10],
 ) -> u64 {
     let result = scene_checked(bytes).map(|scene| {
         rows[..scene.rows.len()].copy_from_slice(&scene.rows);
+        balls[..scene.balls.len()].copy_from_slice(&scene.balls);
         first[..scene.first.len()].copy_from_slice(&scene.first);
         second[..scene.second.len()].copy_from_slice(&scene.second);
         [
@@ -1172,6 +1309,7 @@ pub fn scene(
             scene.bits,
             scene.frame_bits,
             scene.rows.len() as u64 / 5,
+            scene.balls.len() as u64 / 4,
             scene.first.len() as u64,
             scene.second.len() as u64,
             scene.first_frame,
@@ -1274,15 +1412,16 @@ pub fn clearance(bytes: &[u8]) -> String {
     let mut out = vec![0; PROGRAM_SYMBOLS];
     let mut answer = [0; 5];
     let number = verdict(
-        scene.axes, scene.bits, scene.frame_bits, &scene.rows, &scene.first, &scene.second, scene.first_frame,
-        scene.last_frame, &mut out, &mut answer,
+        scene.axes, scene.bits, scene.frame_bits, &scene.rows, &scene.balls, &scene.first, &scene.second,
+        scene.first_frame, scene.last_frame, &mut out, &mut answer,
     );
     if number == NO_ROOM {
         return format!("refused {NO_ROOM} needed {}\n", answer[4]);
     }
     assert_eq!(number, ACCEPTED, "the scene was checked");
     let leaves = halfspace_words(&scene.first) + halfspace_words(&scene.second);
-    let room = room_of(&Universe::checked(scene.axes, scene.bits, scene.frame_bits).unwrap(), leaves);
+    let balls = ball_words(&scene.first) + ball_words(&scene.second);
+    let room = room_of(&Universe::checked(scene.axes, scene.bits, scene.frame_bits).unwrap(), leaves, balls);
     // of version 1 the file's own k, which stands in its byte
     let mut lines = match scene.version {
         1 => format!("axes {} bits {}\n", scene.axes, bytes[6]),

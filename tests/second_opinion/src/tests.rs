@@ -3,8 +3,8 @@
 
 use crate::fast::{plain_merged_fast, plain_numbers_fast, plain_raw_fast, plain_verdict_fast, Run};
 use crate::generate::{self, Random};
+use crate::generate::Named;
 use crate::plain::*;
-use Tree::Halfspace;
 
 fn rows_of(rows: &[[i64; 3]]) -> Vec<i64> {
     rows.iter().flat_map(|row| [row[0], row[1], row[2], 0, 0]).collect()
@@ -13,9 +13,9 @@ fn rows_of(rows: &[[i64; 3]]) -> Vec<i64> {
 fn raw_text(bits: u64, rows: &[i64], words: &[u16]) -> (String, String, u64) {
     let mut out = [0; 1000];
     let mut length = [0];
-    assert_eq!(raw_one(2, bits, bits, rows, words, &mut out, &mut length), ACCEPTED);
+    assert_eq!(raw_one(2, bits, bits, rows, &[], words, &mut out, &mut length), ACCEPTED);
     let raw = String::from_utf8(out[..length[0] as usize].to_vec()).unwrap();
-    assert_eq!(merged_one(2, bits, bits, rows, words, &mut out, &mut length), ACCEPTED);
+    assert_eq!(merged_one(2, bits, bits, rows, &[], words, &mut out, &mut length), ACCEPTED);
     let merged = String::from_utf8(out[..length[0] as usize].to_vec()).unwrap();
     let black = numbers_over([2, bits, bits], raw.as_bytes(), 0, 0);
     assert_eq!(numbers_over([2, bits, bits], merged.as_bytes(), 0, 0), black);
@@ -28,14 +28,26 @@ fn numbers_over([axes, bits, frame_bits]: [u64; 3], expression: &[u8], first: u6
 }
 
 fn room_at(axes: u64, bits: u64, frame_bits: u64, leaves: u64) -> u64 {
+    room_with([axes, bits, frame_bits], leaves, 0)
+}
+
+fn room_with([axes, bits, frame_bits]: [u64; 3], leaves: u64, balls: u64) -> u64 {
     let mut answer = [0];
-    assert_eq!(room(axes, bits, frame_bits, leaves, &mut answer), ACCEPTED);
+    assert_eq!(room(axes, bits, frame_bits, leaves, balls, &mut answer), ACCEPTED);
     answer[0]
 }
 
 fn drawn(universe: [u64; 3]) -> Universe {
     let [axes, bits, frame_bits] = universe;
     Universe::checked(axes, bits, frame_bits).unwrap()
+}
+
+/// Rows, balls and two trees that are in order for the universe.
+fn drawn_run(random: &mut Random, universe: [u64; 3]) -> (Vec<i64>, Vec<i64>, Vec<u16>, Vec<u16>) {
+    let (rows, balls) = (generate::rows(random, universe), generate::balls(random, universe));
+    let named = Named::of(&rows, &balls);
+    let (one, two) = (generate::tree(random, named), generate::tree(random, named));
+    (rows, balls, one, two)
 }
 
 const SCENE_ROWS: [[i64; 3]; 4] = [[0, 1, -1], [1, -1, 1], [-2, 1, 0], [3, -1, 0]];
@@ -46,7 +58,7 @@ const SCENE_RAW: &[u8] = b"(W(((WBW((BWW";
 fn scene_verdict(first: u64, last: u64, lent: usize) -> (u64, [u64; 5], Vec<u8>) {
     let mut out = vec![7; lent];
     let mut answer = [9; 5];
-    let number = verdict(2, 2, 2, &rows_of(&SCENE_ROWS), &ONE, &TWO, first, last, &mut out, &mut answer);
+    let number = verdict(2, 2, 2, &rows_of(&SCENE_ROWS), &[], &ONE, &TWO, first, last, &mut out, &mut answer);
     (number, answer, out)
 }
 
@@ -90,7 +102,7 @@ fn cases_4_and_5_and_10_and_11() {
     assert_eq!(scene_verdict(0, 4, 12).0, OUTSIDE);
     let mut out = [7; 12];
     let mut answer = [9];
-    assert_eq!(raw_two(2, 2, 2, &rows_of(&SCENE_ROWS), &ONE, &TWO, &mut out, &mut answer), NO_ROOM);
+    assert_eq!(raw_two(2, 2, 2, &rows_of(&SCENE_ROWS), &[], &ONE, &TWO, &mut out, &mut answer), NO_ROOM);
     assert_eq!((answer, out), ([13], [7; 12]));
 }
 
@@ -102,7 +114,7 @@ fn cases_6_and_7_and_8() {
                 assert_eq!(room_at(axes, bits, frame_bits, 0), 1);
                 let mut out = [0; 1];
                 let mut answer = [0];
-                assert_eq!(raw_one(axes, bits, frame_bits, &[0; 5], &[256], &mut out, &mut answer), ACCEPTED);
+                assert_eq!(raw_one(axes, bits, frame_bits, &[0; 5], &[], &[256], &mut out, &mut answer), ACCEPTED);
                 assert_eq!(out, *b"B");
             }
         }
@@ -116,11 +128,10 @@ fn cases_6_and_7_and_8() {
     let mut random = Random::new(8);
     for _ in 0..2000 {
         let axes = 1 + random.below(4);
-        let rows = generate::rows(&mut random, [axes, 0, 0]);
-        let words = generate::tree(&mut random, rows.len() / 5);
+        let (rows, balls, words, _) = drawn_run(&mut random, [axes, 0, 0]);
         let mut out = [0; 1];
         let mut answer = [0];
-        assert_eq!(raw_one(axes, 0, 0, &rows, &words, &mut out, &mut answer), ACCEPTED);
+        assert_eq!(raw_one(axes, 0, 0, &rows, &balls, &words, &mut out, &mut answer), ACCEPTED);
         assert_eq!(answer, [1]);
     }
 }
@@ -295,6 +306,7 @@ fn the_program() {
         bits: 2,
         frame_bits: 2,
         rows: rows_of(&SCENE_ROWS),
+        balls: vec![],
         first: ONE.to_vec(),
         second: TWO.to_vec(),
         first_frame: 0,
@@ -312,10 +324,9 @@ fn the_program() {
     assert_eq!(clearance(&vec![0; 65_537]), "refused 1\n");
     // the length needed is the number of blocks, and 32,768 are lent
     let (rows, first, second) = (vec![0, 1024, -1023, 0, 0], vec![256], vec![1]);
-    let (axes, bits, frame_bits) = (2, 10, 10);
-    let steep = Scene { version: 1, axes, bits, frame_bits, rows, first, second, first_frame: 0, last_frame: 1023 };
+    let steep = Scene { bits: 10, frame_bits: 10, rows, first, second, last_frame: 1023, ..scene };
     let text = clearance(&scene_bytes(&steep));
-    let run = Run::checked(2, 10, 10, &steep.rows, &[&steep.first, &steep.second]).unwrap();
+    let run = Run::checked(2, 10, 10, &steep.rows, &[], &[&steep.first, &steep.second]).unwrap();
     let blocks = run.blocks_within(1 << 30).unwrap();
     if blocks > 32_768 {
         assert_eq!(text, format!("refused 6 needed {blocks}\n"));
@@ -326,14 +337,17 @@ fn the_program() {
 
 #[test]
 fn trees_are_refused_in_order() {
-    let rows = [[0i64; 5]; 2];
-    let number = |words: &[u16]| tree_checked(&rows, words).err().map_or(ACCEPTED, |refusal| refusal.number);
+    let (rows, balls) = ([[0; 5]; 2], [[0; 4]; 3]);
+    let number = |words: &[u16]| tree_checked(&rows, &balls, words).err().map_or(ACCEPTED, |refusal| refusal.number);
     assert_eq!(number(&[]), BAD_TREE);
     assert_eq!(number(&[5; 256]), OVERFULL_TREE);
     assert_eq!(number(&[5; 255]), BAD_TREE);
     assert_eq!(number(&[256]), ACCEPTED);
     assert_eq!(number(&[258]), BAD_TREE);
-    assert_eq!(number(&[512]), BAD_TREE);
+    assert_eq!(number(&[514]), ACCEPTED);
+    for word in [515, 575, 576, 577, 768, 65_535] {
+        assert_eq!(number(&[word]), BAD_TREE);
+    }
     assert_eq!(number(&[0, 1]), BAD_TREE);
     assert_eq!(number(&[0, 2]), BAD_TREE);
     let mut words = vec![1u16; 32];
@@ -346,15 +360,19 @@ fn trees_are_refused_in_order() {
     assert_eq!(number(&words), BAD_TREE);
     words[32] = 5;
     assert_eq!(number(&words), BAD_TREE);
-    words[32] = 257;
-    assert_eq!(number(&words), OVERFULL_TREE);
+    words[32] = 515;
+    assert_eq!(number(&words), BAD_TREE);
+    for leaf in [257, 514] {
+        words[32] = leaf;
+        assert_eq!(number(&words), OVERFULL_TREE);
+    }
     words[31] = 5;
     assert_eq!(number(&words), BAD_TREE);
 }
 
 #[test]
 fn reversal_and_minus() {
-    let all_zero = Halfspace([0; 5]);
+    let all_zero = Tree::Leaf(Surface::Halfspace([0; 5]));
     let universe = Universe::checked(2, 2, 2).unwrap();
     assert_eq!(raw_of(&universe, &all_zero), b"B");
     assert_eq!(raw_of(&universe, &reversed(all_zero)), b"W");
@@ -368,9 +386,9 @@ fn reversal_and_minus() {
     for _ in 0..2000 {
         let given = generate::small_universe(&mut random, 6);
         let universe = drawn(given);
-        let rows = generate::rows(&mut random, given);
-        let words = generate::tree(&mut random, rows.len() / 5);
-        let read = tree_checked(&rows_checked(&universe, &rows).unwrap(), &words).unwrap();
+        let (rows, balls, words, _) = drawn_run(&mut random, given);
+        let (rows, balls) = (rows_checked(&universe, &rows).unwrap(), balls_checked(&universe, &balls).unwrap());
+        let read = tree_checked(&rows, &balls, &words).unwrap();
         let opposite = raw_of(&universe, &without_minus(reversed(read.clone())));
         let twice = without_minus(reversed(reversed(read.clone())));
         let itself = Tree::Minus(Box::new(read.clone()), Box::new(read.clone()));
@@ -393,20 +411,19 @@ fn slow_and_fast_agree() {
         let most = if round % 50 == 0 { 12 } else { 8 };
         let given = generate::small_universe(&mut random, most);
         let ([axes, bits, frame_bits], universe) = (given, drawn(given));
-        let rows = generate::rows(&mut random, given);
-        let one = generate::tree(&mut random, rows.len() / 5);
-        let two = generate::tree(&mut random, rows.len() / 5);
+        let (rows, balls, one, two) = drawn_run(&mut random, given);
         let trees: &[&[u16]] = if random.chance(50) { &[&one] } else { &[&one, &two] };
-        let (_, read) = run_checked(axes, bits, frame_bits, &rows, trees).unwrap();
+        let (_, read) = run_checked(axes, bits, frame_bits, &rows, &balls, trees).unwrap();
         let tree = joined(&read);
         let raw = raw_of(&universe, &tree);
-        let run = Run::checked(axes, bits, frame_bits, &rows, trees).unwrap();
+        let run = Run::checked(axes, bits, frame_bits, &rows, &balls, trees).unwrap();
         assert_eq!(blocks_examined(&universe, &tree, &Block::whole(&universe)), raw.len() as u64);
         assert_eq!(run.blocks_within(1 << 20), Some(raw.len() as u64));
         assert_eq!(run.blocks_within(raw.len() as u64 / 2), None);
         assert!(raw.len() as u64 <= run.room());
         let leaves: u64 = trees.iter().map(|words| halfspace_words(words)).sum();
-        assert_eq!(run.room(), room_of(&universe, leaves));
+        let ball_leaves: u64 = trees.iter().map(|words| ball_words(words)).sum();
+        assert_eq!(run.room(), room_of(&universe, leaves, ball_leaves));
         // straight, gathered and too long
         for lent in [run.room() as usize, raw.len(), raw.len() - 1] {
             let mut out = vec![7; lent];
@@ -636,7 +653,7 @@ fn bits_of_their_own() {
     let raw_of_row = |universe: [u64; 3], row: [i64; 5]| {
         let [axes, bits, frame_bits] = universe;
         let (mut out, mut length) = ([0; 200], [0]);
-        assert_eq!(raw_one(axes, bits, frame_bits, &row, &[256], &mut out, &mut length), ACCEPTED);
+        assert_eq!(raw_one(axes, bits, frame_bits, &row, &[], &[256], &mut out, &mut length), ACCEPTED);
         String::from_utf8(out[..length[0] as usize].to_vec()).unwrap()
     };
     // a place of 1 or more
@@ -683,12 +700,12 @@ fn bits_of_their_own() {
 
 /// A scene of both trees BLACK, of a version.
 fn black_scene(version: u64, [axes, bits, frame_bits]: [u64; 3], last_frame: u64) -> Vec<u8> {
-    let (rows, first, second) = (vec![], vec![1], vec![1]);
-    scene_bytes(&Scene { version, axes, bits, frame_bits, rows, first, second, first_frame: 0, last_frame })
+    let (rows, balls, first, second) = (vec![], vec![], vec![1], vec![1]);
+    scene_bytes(&Scene { version, axes, bits, frame_bits, rows, balls, first, second, first_frame: 0, last_frame })
 }
 
 #[test]
-fn scenes_of_both_versions() {
+fn scenes_of_all_versions() {
     let lines = |bytes: &[u8]| clearance(bytes);
     let hit = |first: &str, last, voxels: u64| {
         format!("{first}\nleaves 0 raw 1 room 1\nhit first 0 last {last} voxels {voxels}\n")
@@ -706,7 +723,8 @@ fn scenes_of_both_versions() {
     assert_eq!(lines(&black_scene(2, [1, 0, 12], 4096)), "refused 9\n");
     assert_eq!(lines(&black_scene(2, [1, 1, 12], 0)), "refused 2\n");
     assert_eq!(lines(&black_scene(2, [1, 0, 13], 0)), "refused 2\n");
-    for version in [0, 3, 257, 258] {
+    assert_eq!(lines(&black_scene(3, [2, 2, 2], 3)), hit("axes 2 bits 2 frame 2", 3, 16));
+    for version in [0, 4, 257, 258, 259] {
         assert_eq!(lines(&black_scene(version, [2, 2, 2], 3)), "refused 1\n");
     }
     // the zero byte of version 1
@@ -715,13 +733,213 @@ fn scenes_of_both_versions() {
     assert_eq!(lines(&file), "refused 1\n");
     // what reading tells: version, axes, bits, frame bits, and the counts behind them
     let tell = |file: &[u8]| {
-        let mut fields = [9; 9];
-        assert_eq!(scene(file, &mut [0; 1280], &mut [0; 255], &mut [0; 255], &mut fields), ACCEPTED);
+        let mut fields = [9; 10];
+        assert_eq!(scene(file, &mut [0; 1280], &mut [0; 256], &mut [0; 255], &mut [0; 255], &mut fields), ACCEPTED);
         fields
     };
-    assert_eq!(tell(&black_scene(1, equal_bits(1, 10), 7)), [1, 1, 0, 10, 0, 1, 1, 0, 7]);
-    assert_eq!(tell(&black_scene(1, [2, 3, 3], 7)), [1, 2, 3, 3, 0, 1, 1, 0, 7]);
-    assert_eq!(tell(&black_scene(2, [2, 3, 12], 7)), [2, 2, 3, 12, 0, 1, 1, 0, 7]);
+    assert_eq!(tell(&black_scene(1, equal_bits(1, 10), 7)), [1, 1, 0, 10, 0, 0, 1, 1, 0, 7]);
+    assert_eq!(tell(&black_scene(1, [2, 3, 3], 7)), [1, 2, 3, 3, 0, 0, 1, 1, 0, 7]);
+    assert_eq!(tell(&black_scene(2, [2, 3, 12], 7)), [2, 2, 3, 12, 0, 0, 1, 1, 0, 7]);
+    assert_eq!(tell(&black_scene(3, [2, 3, 12], 7)), [3, 2, 3, 12, 0, 0, 1, 1, 0, 7]);
+}
+
+#[test]
+fn scenes_with_balls() {
+    let file = |version, [axes, bits, frame_bits]: [u64; 3], balls: &[i64], first: &[u16]| {
+        let (rows, balls, first, second) = (vec![], balls.to_vec(), first.to_vec(), vec![1]);
+        scene_bytes(&Scene {
+            version,
+            axes,
+            bits,
+            frame_bits,
+            rows,
+            balls,
+            first,
+            second,
+            first_frame: 0,
+            last_frame: 0,
+        })
+    };
+    let number = |bytes: &[u8]| scene_checked(bytes).err().map_or(ACCEPTED, |refusal| refusal.number);
+    let two = file(3, [3, 2, 2], &[2, -1, 0, 1, -1024, 1024, 0, 1024], &[512, 513, 2]);
+    // header, two balls of 8 bytes, four words
+    assert_eq!(two.len(), 20 + 16 + 8);
+    assert_eq!(two[18..36], [2, 0, 2, 0, 255, 255, 0, 0, 1, 0, 0, 252, 0, 4, 0, 0, 0, 4]);
+    let (mut balls, mut fields) = ([9; 256], [9; 10]);
+    assert_eq!(scene(&two, &mut [0; 1280], &mut balls, &mut [0; 255], &mut [0; 255], &mut fields), ACCEPTED);
+    assert_eq!(fields, [3, 3, 2, 2, 0, 2, 3, 1, 0, 0]);
+    assert_eq!(balls[..9], [2, -1, 0, 1, -1024, 1024, 0, 1024, 9]);
+    // both sides of the header's end, and of the length
+    for length in [17, 18, 19, 20, 43] {
+        assert_eq!(number(&two[..length]), BAD_FILE);
+    }
+    for count in [1, 3] {
+        let mut other = two.clone();
+        other[18] = count;
+        assert_eq!(number(&other), BAD_FILE);
+    }
+    // a ball at its limits and past them, by each of its numbers
+    for ball in [[1024, -1024, 0, 1024], [-1024, 1024, 0, 0]] {
+        assert_eq!(number(&file(3, [3, 2, 2], &ball, &[512])), ACCEPTED);
+    }
+    for ball in [[1025, 0, 0, 0], [0, -1025, 0, 0], [0, 0, 1, 0], [0, 0, -1, 0], [0, 0, 0, 1025], [0, 0, 0, 65_535]] {
+        assert_eq!(number(&file(3, [3, 2, 2], &ball, &[1])), BAD_ROWS);
+    }
+    // 64 balls, 65, and so many that a byte does not hold them
+    assert_eq!(number(&file(3, [3, 2, 2], &[0; 256], &[575])), ACCEPTED);
+    assert_eq!(number(&file(3, [3, 2, 2], &[0; 256], &[576])), BAD_TREE);
+    assert_eq!(number(&file(3, [3, 2, 2], &[0; 260], &[575])), BAD_ROWS);
+    assert_eq!(number(&file(3, [3, 2, 2], &[0; 1024], &[1])), BAD_ROWS);
+    // a ball that is not there, and versions that have none
+    assert_eq!(number(&file(3, [3, 2, 2], &[0; 8], &[514])), BAD_TREE);
+    for version in [1, 2] {
+        assert_eq!(number(&file(version, [3, 2, 2], &[], &[512])), BAD_TREE);
+    }
+    // no place axis
+    assert_eq!(number(&file(3, [1, 0, 2], &[0, 0, 0, 1024], &[512])), ACCEPTED);
+    assert_eq!(number(&file(3, [1, 0, 2], &[1, 0, 0, 0], &[512])), BAD_ROWS);
+    // the lines: N counts no ball, and room counts every block, which are all examined here
+    let head = file(3, [2, 2, 1], &[2, 0, 0, 1], &[512]);
+    assert_eq!(clearance(&head), "axes 2 bits 2 frame 1\nleaves 0 raw 15 room 15\nhit first 0 last 0 voxels 2\n");
+}
+
+/// What a ball alone gives: raw, merged.
+fn ball_text([axes, bits, frame_bits]: [u64; 3], ball: [i64; 4]) -> (String, String) {
+    let (mut out, mut length) = (vec![0; 10_000], [0]);
+    assert_eq!(raw_one(axes, bits, frame_bits, &[], &ball, &[512], &mut out, &mut length), ACCEPTED);
+    let raw = out[..length[0] as usize].to_vec();
+    let merged = merged_by_replacement(&raw);
+    (String::from_utf8(raw).unwrap(), String::from_utf8(merged).unwrap())
+}
+
+#[test]
+fn balls_by_hand() {
+    let text = |universe, ball| ball_text(universe, ball).0;
+    // no place axis: the distance is 0, and so may the radius be
+    assert_eq!(text([1, 0, 3], [0, 0, 0, 0]), "B");
+    assert_eq!(text([2, 0, 0], [0, 0, 0, 0]), "W");
+    assert_eq!(text([2, 0, 0], [0, 0, 0, 1]), "B");
+    // along one axis: places 1 to 3 of four, and no frame bits. The block from 3 to 4 is touched from outside at 3: the
+    // greatest there is 0, which is not WHITE, and its centre is past the radius
+    assert_eq!(text([2, 2, 0], [2, 0, 0, 1]), "((WB(BW");
+    let universe = drawn([2, 2, 0]);
+    let over = |ball, path: &[bool]| {
+        let block = path.iter().fold(Block::whole(&universe), |block, &high| block.half(&universe, high));
+        (ball_extremes(&universe, &ball, &block), mark(&universe, &Tree::Leaf(Surface::Ball(ball)), &block))
+    };
+    let touched = [2, 0, 0, 1];
+    assert_eq!(over(touched, &[true, true]), ((-3, 0), Mark::Undecided));
+    // from inside: the least is 0, which is BLACK
+    assert_eq!(over(touched, &[true, false]), ((0, 1), Mark::Black));
+    assert_eq!(over([1, 0, 0, 1], &[false]), ((0, 1), Mark::Black));
+    // one unit farther it is WHITE
+    assert_eq!(over([1, 0, 0, 1], &[true, true]), ((-8, -3), Mark::White));
+    // a point at a voxel's corner: all that touch it are halved, and no centre is in it
+    assert_eq!(ball_text([2, 2, 0], [1, 0, 0, 0]), ("((WWW".into(), "W".into()));
+    assert_eq!(text([2, 2, 0], [2, 0, 0, 0]), "((WW(WW");
+    // the centre within a block, away from all corners: the nearest point is no corner
+    assert_eq!(ball_extremes(&drawn([3, 2, 0]), &[2, 1, 0, 1], &Block::whole(&drawn([3, 2, 0]))), (-12, 1));
+    assert_ne!(text([3, 2, 0], [2, 1, 0, 1]), "W");
+    // three axes: a voxel's centre is so far from its corner that 4 of its squares are 3, and radius 1 has 4
+    let (_, merged) = ball_text([4, 1, 0], [0, 0, 0, 1]);
+    assert_eq!(merged, "(((BWWW");
+    assert_eq!(ball_text([4, 1, 0], [0, 0, 0, 0]).1, "W");
+    // the frame axis is no place: whatever the frames, the same
+    assert_eq!(ball_text([2, 1, 2], [0, 0, 0, 1]), ("(B((WW(WW".into(), "(BW".into()));
+    // a centre at either limit, and a radius at its own
+    assert_eq!(text([2, 1, 0], [1024, 0, 0, 1024]), "B");
+    assert_eq!(ball_text([2, 1, 0], [1024, 0, 0, 1023]), ("(WB".into(), "(WB".into()));
+    assert_eq!(ball_text([2, 1, 0], [-1024, 0, 0, 1024]), ("(WW".into(), "W".into()));
+    // a ball less itself
+    let (mut out, mut length) = ([0; 100], [0]);
+    for ball in [[1, 0, 0, 1], [2, 0, 0, 0], [3, 0, 0, 2]] {
+        assert_eq!(merged_one(2, 2, 1, &[], &ball, &[512, 512, 4], &mut out, &mut length), ACCEPTED);
+        assert_eq!((length, out[0]), ([1], b'W'));
+    }
+}
+
+#[test]
+fn balls_are_refused_in_order() {
+    let number = |[axes, bits, frame_bits]: [u64; 3], rows: &[i64], balls: &[i64], words: &[u16]| {
+        raw_one(axes, bits, frame_bits, rows, balls, words, &mut [0; 100], &mut [0])
+    };
+    let of = |axes: u64, balls: &[i64]| number([axes, 0, 0], &[], balls, &[1]);
+    for length in [1, 2, 3, 5, 259, 261] {
+        assert_eq!(of(4, &vec![0; length]), BAD_ROWS, "{length} numbers");
+    }
+    assert_eq!((of(4, &[0; 256]), of(4, &[0; 260])), (ACCEPTED, BAD_ROWS));
+    for axes in 1..=4 {
+        for axis in 0..3 {
+            for (size, wanted) in [(1, ACCEPTED), (1024, ACCEPTED), (1025, BAD_ROWS), (1 << 32, BAD_ROWS)] {
+                for number in [size, -size] {
+                    let mut ball = [0; 4];
+                    ball[axis] = number;
+                    let wanted = if (axis as u64) + 1 < axes { wanted } else { BAD_ROWS };
+                    assert_eq!(of(axes, &ball), wanted, "{axes} axes, {ball:?}");
+                }
+            }
+        }
+        for radius in [-1, 0, 1024, 1025, i64::MIN] {
+            let wanted = if (0..=1024).contains(&radius) { ACCEPTED } else { BAD_ROWS };
+            assert_eq!(of(axes, &[0, 0, 0, radius]), wanted, "radius {radius}");
+        }
+    }
+    // behind the universe and the rows, before the trees; the last ball too
+    let (good, bad) = ([0; 5], [0, 0, 0, 0, 0, 0, 0, 1025]);
+    assert_eq!(number([5, 0, 0], &good, &bad, &[9]), BAD_UNIVERSE);
+    assert_eq!(number([4, 0, 0], &good, &bad, &[9; 256]), BAD_ROWS);
+    assert_eq!(number([4, 0, 0], &good, &bad[..4], &[9; 256]), OVERFULL_TREE);
+    assert_eq!(number([4, 0, 0], &good, &bad[..4], &[513]), BAD_TREE);
+}
+
+#[test]
+fn rooms_with_balls() {
+    // with a ball word every block counts: one less than twice two to the levels
+    for universe in [[1, 0, 12], [2, 2, 1], [4, 0, 0], [4, 4, 4], [4, 10, 12]] {
+        let all = (2u64 << generate::levels(universe)) - 1;
+        for leaves in [0, 1, u64::MAX] {
+            for balls in [1, 64, u64::MAX] {
+                assert_eq!(room_with(universe, leaves, balls), all);
+            }
+        }
+        assert_eq!(room_with(universe, 0, 0), 1);
+    }
+    assert_eq!((ball_words(&[511, 512, 575, 576, 512, 4]), halfspace_words(&[511, 512, 575, 576])), (3, 1));
+}
+
+#[test]
+fn balls_over_blocks() {
+    // least and greatest hold for every point of the block that is looked at, in sixths of a unit and less, and are met
+    let mut random = Random::new(21);
+    for _ in 0..3000 {
+        let given = generate::small_universe(&mut random, 9);
+        let universe = drawn(given);
+        let balls = generate::balls(&mut random, given);
+        let Some(&ball) = balls_checked(&universe, &balls).unwrap().first() else { continue };
+        let path = generate::path(&mut random, universe.levels());
+        let block = path.iter().fold(Block::whole(&universe), |block, &turn| block.half(&universe, turn == 1));
+        let (least, greatest) = ball_extremes(&universe, &ball, &block);
+        let parts = 6 * random.pick(&[1, 2, 4]);
+        let mut met = [false; 2];
+        // the squared distance along each axis, in squares of a part, added up over all axes
+        let mut sums = vec![0];
+        for axis in 0..universe.place_axes() {
+            let places = 0..=block.size[axis] * parts;
+            let along: std::collections::BTreeSet<i64> =
+                places.map(|place| ((block.low[axis] - ball[axis]) * parts + place).pow(2)).collect();
+            let ends = [*along.first().unwrap(), *along.last().unwrap()];
+            // the ends and some between them are enough of each axis
+            let some: Vec<i64> = ends.into_iter().chain(along.iter().copied().step_by(along.len() / 5 + 1)).collect();
+            sums = sums.iter().flat_map(|sum| some.iter().map(move |square| sum + square)).collect();
+        }
+        for sum in sums {
+            let value = ball[3] * ball[3] * parts * parts - sum;
+            assert!(least * parts * parts <= value && value <= greatest * parts * parts);
+            met[0] |= value == least * parts * parts;
+            met[1] |= value == greatest * parts * parts;
+        }
+        assert_eq!(met, [true; 2]);
+    }
 }
 
 #[test]
@@ -747,13 +965,84 @@ fn every_kind_is_drawn() {
         });
         let (scene, shape) = (generate::scene_file(&mut random), generate::shape_file(&mut random));
         if let Ok(scene) = scene_checked(&scene) {
-            met.insert(["no scene", "scene 1", "scene 2"][scene.version as usize]);
+            met.insert(["no scene", "scene 1", "scene 2", "scene 3"][scene.version as usize]);
+            met.insert(match (scene.balls.len() / 4, scene.axes) {
+                (0, _) => "no balls",
+                (64, _) => "64 balls",
+                (_, 1) => "balls of no place axis",
+                _ => "balls",
+            });
         }
         if shape_read(&shape, &mut [0; 2000], &mut [0; 4]) == ACCEPTED {
             met.insert(["no shape", "shape 1", "shape 2"][shape[3] as usize]);
         }
     }
-    assert_eq!(met.len(), 16, "{met:?}");
+    assert_eq!(met.len(), 21, "{met:?}");
+}
+
+/// What is wrong with balls that are refused.
+fn wrong_with(balls: &[i64], places: usize) -> &'static str {
+    if balls.len() % 4 != 0 {
+        return "not in fours";
+    }
+    if balls.len() == 260 {
+        return "65 balls";
+    }
+    let wrong = |ball: &[i64]| match ball[3] {
+        -1 => Some("radius -1"),
+        1025 => Some("radius 1,025"),
+        _ if ball[places..3].iter().any(|&number| number != 0) => Some("an unused centre"),
+        _ if ball[..3].contains(&1025) => Some("centre 1,025"),
+        _ if ball[..3].contains(&-1025) => Some("centre -1,025"),
+        _ => None,
+    };
+    balls.chunks(4).find_map(wrong).unwrap_or("past a limit")
+}
+
+/// Of what kind a ball is: its centre, its radius, and what it is over the whole universe.
+fn kinds_of(universe: &Universe, ball: &Ball) -> [&'static str; 3] {
+    let centre = match ball[..3] {
+        [1024, ..] | [_, 1024, _] | [.., 1024] => "centre 1,024",
+        [-1024, ..] | [_, -1024, _] | [.., -1024] => "centre -1,024",
+        _ => "a centre",
+    };
+    let radius = match ball[3] {
+        0 => "radius 0",
+        1024 => "radius 1,024",
+        _ => "a radius",
+    };
+    let over = match ball_extremes(universe, ball, &Block::whole(universe)) {
+        (0, _) => "touched from inside",
+        (1.., _) => "black",
+        (_, 0) => "touched from outside",
+        (_, ..0) => "white",
+        _ => "cut",
+    };
+    [centre, radius, over]
+}
+
+#[test]
+fn every_ball_is_drawn() {
+    let mut random = Random::new(21);
+    let mut met = std::collections::BTreeSet::new();
+    for _ in 0..20_000 {
+        let run = generate::run(&mut random);
+        let Ok(universe) = Universe::checked(run.axes, run.bits, run.frame_bits) else { continue };
+        let places = universe.place_axes();
+        let Ok(balls) = balls_checked(&universe, &run.balls) else {
+            met.insert(wrong_with(&run.balls, places));
+            continue;
+        };
+        met.extend(balls.iter().flat_map(|ball| kinds_of(&universe, ball)));
+        met.insert(["d 1", "d 2", "d 3", "d 4"][places]);
+        met.insert(["no balls", "balls", "64 balls"][(balls.len() + 62) / 63]);
+        let words = [&run.first[..], &run.second].concat();
+        let past = 512 + balls.len() as u16..576;
+        met.extend(words.iter().any(|word| past.contains(word)).then_some("a ball that is not there"));
+        met.extend(words.contains(&575).then_some("word 575"));
+        met.extend(words.contains(&576).then_some("word 576"));
+    }
+    assert_eq!(met.len(), 29, "{met:?}");
 }
 
 #[test]

@@ -13,16 +13,16 @@ use Rattle.csg.proofs.check_tree.Statement.{statement}
 use Rattle.csg.proofs.check_tree.Tie as tie
 
 abbrev Inv-loop : tie.InvT-loop
-Inv-loop rows words pending₀ i₀ pending i = Counting (record { halfspaces = rows }) words pending i
+Inv-loop rows balls words pending₀ i₀ pending i = Counting (record { halfspaces = rows; balls = balls }) words pending i
 
 abbrev μ-loop : tie.MeasureT-loop
-μ-loop rows words pending₀ i₀ pending i = length words - i
+μ-loop rows balls words pending₀ i₀ pending i = length words - i
 
 returns : tie.Need-returns Inv-loop μ-loop
-returns c = let a = c .before .before .args in sym (too-long (record { halfspaces = a .rows }) (a .words .now) (omega arith))
+returns c = let a = c .before .before .args in sym (too-long (record { halfspaces = a .rows; balls = a .balls }) (a .words .now) (omega arith))
 
 loop-holds : tie.Need-loop-holds Inv-loop μ-loop
-loop-holds c = let a = c .before .before .args in counting-start (record { halfspaces = a .rows }) (a .words .now) (omega arith)
+loop-holds c = let a = c .before .before .args in counting-start (record { halfspaces = a .rows; balls = a .balls }) (a .words .now) (omega arith)
 
 mul-word : tie.Need-mul-word Inv-loop μ-loop
 mul-word c = search needs

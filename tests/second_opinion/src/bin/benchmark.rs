@@ -1,4 +1,4 @@
-//! benchmark: how long the library takes against the plain fast converter, on generated polyhedra. Both are
+//! benchmark: how long the library takes against the plain fast converter, on generated polyhedra and balls. Both are
 //! compiled for this machine, both check what they are given, both answers are compared before anything is timed.
 //! The table is in Markdown; times are the best of several runs, in nanoseconds per block examined and word of
 //! the trees (for the numbers: per symbol).
@@ -18,6 +18,7 @@ struct Case {
     bits: u64,
     frame_bits: u64,
     rows: Vec<i64>,
+    balls: Vec<i64>,
     first: Vec<u16>,
     second: Vec<u16>,
 }
@@ -128,6 +129,39 @@ fn icosahedron(rows: &mut Vec<i64>, centre: [f64; 4], radius: f64, case: Bits) -
     words
 }
 
+/// Two heads that overlap; a crowd of 32 balls about a head; and a head less a moving wall.
+fn with_balls(cases: &mut Vec<Case>, case: Bits) {
+    let (axes, bits, frame_bits) = case;
+    let places = axes as usize - 1;
+    let ball = |part: [f64; 3], radius: f64| {
+        let mut ball = [0, 0, 0, (radius * side(case, 0)).round() as i64];
+        for axis in 0..places {
+            ball[axis] = (part[axis] * side(case, axis)).round() as i64;
+        }
+        ball
+    };
+    let mut push = |name: &str, rows: Vec<i64>, balls: Vec<i64>, first, second| {
+        cases.push(Case { name: name.to_string(), axes, bits, frame_bits, rows, balls, first, second });
+    };
+    let (head, other) = (ball([0.4, 0.5, 0.5], 0.35), ball([0.7, 0.55, 0.5], 0.25));
+    push("two balls", vec![], [head, other].concat(), vec![512], vec![513]);
+    let mut balls = head.to_vec();
+    let mut crowd = vec![];
+    for person in 0..32 {
+        let turn = person as f64 * 2.4;
+        balls.extend(ball([0.4 + 0.3 * turn.cos(), 0.5 + 0.3 * turn.sin(), person as f64 / 32.0], 0.1));
+        crowd.push(513 + person);
+        if person > 0 {
+            crowd.push(2);
+        }
+    }
+    push("a ball and 32", vec![], balls, vec![512], crowd);
+    // the wall goes across the first axis, from one end to the other in all frames
+    let mut wall = [0; 5];
+    (wall[1], wall[places + 1]) = (side(case, places) as i64, -side(case, 0) as i64);
+    push("a ball less a wall", wall.to_vec(), head.to_vec(), vec![512, 256, 4], vec![1]);
+}
+
 fn cases() -> Vec<Case> {
     let mut random = Random::new(2024);
     let mut cases = Vec::new();
@@ -154,7 +188,7 @@ fn cases() -> Vec<Case> {
                     convex(&mut random, &mut rows, two, 0.55, case),
                 ),
             };
-            cases.push(Case { name: name.to_string(), axes, bits, frame_bits, rows, first, second });
+            cases.push(Case { name: name.to_string(), axes, bits, frame_bits, rows, balls: vec![], first, second });
         }
         if axes == 3 && frame_bits == bits {
             let side = side(case, 0);
@@ -166,13 +200,16 @@ fn cases() -> Vec<Case> {
                 bits,
                 frame_bits,
                 rows: rows.clone(),
+                balls: vec![],
                 first: first.clone(),
                 second: vec![1],
             };
             cases.push(one);
             let second = icosahedron(&mut rows, [0.6 * side, 0.55 * side, 0.5 * side, 0.0], 0.3 * side, case);
-            cases.push(Case { name: "two icosahedra".into(), axes, bits, frame_bits, rows, first, second });
+            let (name, balls) = ("two icosahedra".into(), vec![]);
+            cases.push(Case { name, axes, bits, frame_bits, rows, balls, first, second });
         }
+        with_balls(&mut cases, case);
     }
     cases
 }
@@ -229,7 +266,7 @@ impl Table {
 /// The plain side begins where the library does: with the checks.
 fn checked(case: &Case) -> Run {
     let trees: [&[u16]; 2] = [&case.first, &case.second];
-    Run::checked(case.axes, case.bits, case.frame_bits, &case.rows, &trees).expect("in order")
+    Run::checked(case.axes, case.bits, case.frame_bits, &case.rows, &case.balls, &trees).expect("in order")
 }
 
 fn words(case: &Case) -> usize {
@@ -245,7 +282,8 @@ fn raw(cases: &[Case], raws: &[Vec<u8>], title: &str, exact: bool) {
             || {
                 let mut length = [0];
                 let number = face::raw_two(
-                    case.axes, case.bits, case.frame_bits, &case.rows, &case.first, &case.second, &mut out, &mut length,
+                    case.axes, case.bits, case.frame_bits, &case.rows, &case.balls, &case.first, &case.second, &mut out,
+                    &mut length,
                 );
                 assert_eq!((number, length[0] as usize), (0, raw.len()));
                 black_box(&out);
@@ -270,7 +308,8 @@ fn merged(cases: &[Case], raws: &[Vec<u8>], merged: &[Vec<u8>], title: &str, exa
             || {
                 let mut length = [0];
                 let number = face::merged_two(
-                    case.axes, case.bits, case.frame_bits, &case.rows, &case.first, &case.second, &mut out, &mut length,
+                    case.axes, case.bits, case.frame_bits, &case.rows, &case.balls, &case.first, &case.second, &mut out,
+                    &mut length,
                 );
                 assert_eq!((number, length[0] as usize), (0, merged.len()));
                 black_box(&out);
@@ -364,8 +403,8 @@ fn verdict(cases: &[Case], raws: &[Vec<u8>], title: &str, exact: bool) {
             || {
                 let mut answer = [0; 5];
                 let number = face::verdict(
-                    case.axes, case.bits, case.frame_bits, &case.rows, &case.first, &case.second, from, to, &mut out,
-                    &mut answer,
+                    case.axes, case.bits, case.frame_bits, &case.rows, &case.balls, &case.first, &case.second, from, to,
+                    &mut out, &mut answer,
                 );
                 assert_eq!((number, answer), (0, fields));
                 black_box(&out);

@@ -1,7 +1,6 @@
 -- `code_of_row` is the code of a halfspace leaf: its spread's, or that of twice the value at the centre.
 use mathlib.Core.Path.{_∙_}
 use borrow.Author.Needs.{needs}
-use Rattle.convert.specs.Codes.{codeOfSurface}
 use Rattle.convert.proofs.Spreads.{spread-asks, centre-asks, spread-code, centre-code}
 use Rattle.convert.proofs.judge.code_of_row.Statement.{statement}
 use Rattle.convert.proofs.judge.code_of_row.Tie as tie
@@ -13,7 +12,6 @@ code-at-centre-requires : tie.Need-code-at-centre-requires
 code-at-centre-requires c κs = let k = c .before .before in centre-asks (k .before .pre) (k .spread-of-row .ensures)
 
 returns : tie.Need-returns
-unfolding codeOfSurface
 returns c =
     let k = c .before .before .before in
     rw (c .before .before .if1 .taken) (c .code-at-centre .ensures ∙ centre-code (k .before .pre) (k .spread-of-row .ensures))
@@ -22,7 +20,6 @@ code-of-spread-requires : tie.Need-code-of-spread-requires
 code-of-spread-requires c κs = let k = c .before .before .before in spread-asks (k .before .pre) (k .spread-of-row .ensures)
 
 returns-2 : tie.Need-returns-2
-unfolding codeOfSurface
 returns-2 c =
     let k = c .before .before .before .before in
     rw (c .before .before .before .if1 .left) (c .code-of-spread .ensures ∙ spread-code (k .before .pre) (k .spread-of-row .ensures))

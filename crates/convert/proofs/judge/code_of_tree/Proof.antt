@@ -14,11 +14,11 @@ use Rattle.convert.proofs.judge.code_of_tree.Statement.{statement}
 use Rattle.convert.proofs.judge.code_of_tree.Tie as tie
 
 abbrev Inv-loop : tie.InvT-loop
-Inv-loop axes rows words low side centre pending₀ top₀ n₀ i₀ pending top n i =
-    Evaluating (codeOfLeaf axes (surfacesOf rows) low side centre) joinCode (named (surfacesOf rows)) words 0 pending top n i
+Inv-loop axes rows balls words low side centre pending₀ top₀ n₀ i₀ pending top n i =
+    Evaluating (codeOfLeaf axes (surfacesOf rows balls) low side centre) joinCode (named (surfacesOf rows balls)) words 0 pending top n i
 
 abbrev μ-loop : tie.MeasureT-loop
-μ-loop axes rows words low side centre pending₀ top₀ n₀ i₀ pending top n i = length words - i
+μ-loop axes rows balls words low side centre pending₀ top₀ n₀ i₀ pending top n i = length words - i
 
 two : (c : tie.Then1 Inv-loop μ-loop) → 2 ≤ c .before .before .before .before .loop .n
 two c =

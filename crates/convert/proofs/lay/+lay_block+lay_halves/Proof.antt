@@ -24,24 +24,24 @@ use Rattle.convert.proofs.lay.+lay_block+lay_halves.{statement}
 use Rattle.convert.proofs.lay.+lay_block+lay_halves.Tie.{close}
 
 -- twice the levels left, and one more for the block than for its halves
-abbrev μ-block : Measures 7 lay-block-kinds.ps ℕ
-μ-block κs a = 2 * (a .1 .1 .1 .1 .1 .1 .1 .1 .0) + 1
+abbrev μ-block : Measures 8 lay-block-kinds.ps ℕ
+μ-block κs a = 2 * (a .1 .1 .1 .1 .1 .1 .1 .1 .1 .0) + 1
 
-abbrev μ-halves : Measures 7 lay-halves-kinds.ps ℕ
-μ-halves κs a = 2 * (a .1 .1 .1 .1 .1 .1 .1 .0)
+abbrev μ-halves : Measures 8 lay-halves-kinds.ps ℕ
+μ-halves κs a = 2 * (a .1 .1 .1 .1 .1 .1 .1 .1 .0)
 
 module _ (t : ℕ) where
-  abbrev block-at : In 7 lay-block-kinds.ps
-  block-at = and 7 lay-block-kinds.ps (is 7 lay-block-kinds.ps μ-block t) lay-block.Pre
+  abbrev block-at : In 8 lay-block-kinds.ps
+  block-at = and 8 lay-block-kinds.ps (is 8 lay-block-kinds.ps μ-block t) lay-block.Pre
 
-  abbrev block-below : In 7 lay-block-kinds.ps
-  block-below = and 7 lay-block-kinds.ps (falls 7 lay-block-kinds.ps _<_ μ-block t) lay-block.Pre
+  abbrev block-below : In 8 lay-block-kinds.ps
+  block-below = and 8 lay-block-kinds.ps (falls 8 lay-block-kinds.ps _<_ μ-block t) lay-block.Pre
 
-  abbrev halves-at : In 7 lay-halves-kinds.ps
-  halves-at = and 7 lay-halves-kinds.ps (is 7 lay-halves-kinds.ps μ-halves t) lay-halves.Pre
+  abbrev halves-at : In 8 lay-halves-kinds.ps
+  halves-at = and 8 lay-halves-kinds.ps (is 8 lay-halves-kinds.ps μ-halves t) lay-halves.Pre
 
-  abbrev halves-below : In 7 lay-halves-kinds.ps
-  halves-below = and 7 lay-halves-kinds.ps (falls 7 lay-halves-kinds.ps _<_ μ-halves t) lay-halves.Pre
+  abbrev halves-below : In 8 lay-halves-kinds.ps
+  halves-below = and 8 lay-halves-kinds.ps (falls 8 lay-halves-kinds.ps _<_ μ-halves t) lay-halves.Pre
 
   abbrev block-claims : block-lts.Claims
   block-claims = (
@@ -127,8 +127,8 @@ module _ (t : ℕ) where
       let d = j .before .before .before .before .before in
       let b = d .before .before .before .before .before .before .before in
       j .join .kept .1 .0
-      ∙ d .lay-block2 .kept .1 .1 .1 .1 .1 .1 .1 .1 .1 .1 .0
-      ∙ b .lay-block .kept .1 .1 .1 .1 .1 .1 .1 .1 .1 .1 .0
+      ∙ d .lay-block2 .kept .1 .1 .1 .1 .1 .1 .1 .1 .1 .1 .1 .0
+      ∙ b .lay-block .kept .1 .1 .1 .1 .1 .1 .1 .1 .1 .1 .1 .0
 
   halves-returns : halves-lts.Need-returns halves-claims halves-at lay-halves.Post
   halves-returns c =

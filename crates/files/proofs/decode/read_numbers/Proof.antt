@@ -6,7 +6,7 @@ use Rattle.files.proofs.decode.read_numbers.Statement.{statement}
 use Rattle.files.proofs.decode.read_numbers.Tie as tie
 
 abbrev Inv-loop : tie.InvT-loop
-Inv-loop bytes at count out₀ i₀ out i = Filling count (λ k. fromBits (u64At bytes (at + numberBytes * k))) out₀ i out
+Inv-loop bytes at count out₀ i₀ out i = Filling count (λ k. fromBits 64 (u64At bytes (at + numberBytes * k))) out₀ i out
 
 abbrev μ-loop : tie.MeasureT-loop
 μ-loop bytes at count out₀ i₀ out i = count - i

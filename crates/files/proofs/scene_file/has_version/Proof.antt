@@ -1,5 +1,5 @@
--- `has_version` gives hasVersion: by the version. Each answer is a law of proofs/Scenes.antt.
-use Rattle.files.proofs.Scenes.{scene-laws}
+-- `has_version` gives hasVersion: by the version. Each answer is a law of proofs/SceneHeaders.antt.
+use Rattle.files.proofs.SceneHeaders.{scene-laws}
 use Rattle.files.proofs.scene_file.has_version.Statement.{statement}
 use Rattle.files.proofs.scene_file.has_version.Tie as tie
 
@@ -9,5 +9,6 @@ has-version-spec =
     (tie.spec
     (λ c κs. search scene-laws)
     (λ c κs. search scene-laws)
+    (λ c. search scene-laws)
     (λ c. search scene-laws)
     (λ c. search scene-laws))

@@ -1,5 +1,5 @@
--- `header_of` gives sceneHeaderOf: each number is read at its place. Each answer is a law of proofs/Scenes.antt.
-use Rattle.files.proofs.Scenes.{scene-laws}
+-- `header_of` gives sceneHeaderOf: each number is read at its place. Each answer is a law of proofs/SceneHeaders.antt.
+use Rattle.files.proofs.SceneHeaders.{scene-laws}
 use Rattle.files.proofs.scene_file.header_of.Statement.{statement}
 use Rattle.files.proofs.scene_file.header_of.Tie as tie
 
@@ -8,8 +8,13 @@ header-of-spec =
     tie.close
     (tie.spec
     (λ c κs. search scene-laws)
+    (λ c κs. search scene-laws)
     (λ c. search scene-laws)
     (λ c κs. search scene-laws)
+    (λ c. search scene-laws)
+    (λ c κs. search scene-laws)
+    (λ c. search scene-laws)
+    (λ c. search scene-laws)
     (λ c. search scene-laws)
     (λ c. search scene-laws)
     (λ c. search scene-laws)

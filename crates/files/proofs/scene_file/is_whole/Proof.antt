@@ -1,5 +1,5 @@
--- `is_whole` compares the length with sceneLength. Each answer is a law of proofs/Scenes.antt.
-use Rattle.files.proofs.Scenes.{scene-laws}
+-- `is_whole` compares the length with sceneLength. Each answer is a law of proofs/SceneHeaders.antt.
+use Rattle.files.proofs.SceneHeaders.{scene-laws}
 use Rattle.files.proofs.scene_file.is_whole.Statement.{statement}
 use Rattle.files.proofs.scene_file.is_whole.Tie as tie
 
@@ -8,10 +8,15 @@ is-whole-spec =
     tie.close
     (tie.spec
     (λ c κs. search scene-laws)
+    (λ c κs. search scene-laws)
+    (λ c. search scene-laws)
+    (λ c κs. search scene-laws)
     (λ c. search scene-laws)
     (λ c κs. search scene-laws)
     (λ c. search scene-laws)
     (λ c κs. search scene-laws)
+    (λ c. search scene-laws)
+    (λ c. search scene-laws)
     (λ c. search scene-laws)
     (λ c. search scene-laws)
     (λ c. search scene-laws)

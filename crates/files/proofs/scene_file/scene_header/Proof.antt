@@ -1,5 +1,5 @@
--- `scene_header` gives sceneHeader. Each answer is a law of proofs/Scenes.antt.
-use Rattle.files.proofs.Scenes.{scene-laws}
+-- `scene_header` gives sceneHeader. Each answer is a law of proofs/SceneHeaders.antt.
+use Rattle.files.proofs.SceneHeaders.{scene-laws}
 use Rattle.files.proofs.scene_file.scene_header.Statement.{statement}
 use Rattle.files.proofs.scene_file.scene_header.Tie as tie
 

@@ -18,4 +18,6 @@ scene-refusal-spec =
     (λ c κs. search refusal-laws)
     (λ c. search refusal-laws)
     (λ c κs. search refusal-laws)
+    (λ c. search refusal-laws)
+    (λ c κs. search refusal-laws)
     (λ c. search refusal-laws))

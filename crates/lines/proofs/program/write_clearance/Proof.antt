@@ -9,13 +9,13 @@ write-short-requires : tie.Need-write-short-requires
 write-short-requires c κs = search needs
 
 returns : tie.Need-returns
-returns c = appended-as (short-lines _ _ _ _ (c .before .before .if1 .taken)) (c .write-short .ensures)
+returns c = appended-as (short-lines _ _ _ _ _ (c .before .before .if1 .taken)) (c .write-short .ensures)
 
 write-refused-requires : tie.Need-write-refused-requires
 write-refused-requires c κs = search needs
 
 returns-2 : tie.Need-returns-2
-returns-2 c = appended-as (refused-lines _ _ _ _ (c .before .before .before .before .if1 .left) (c .before .before .if2 .taken)) (c .write-refused .ensures)
+returns-2 c = appended-as (refused-lines _ _ _ _ _ (c .before .before .before .before .if1 .left) (c .before .before .if2 .taken)) (c .write-refused .ensures)
 
 room-requires : tie.Need-room-requires
 room-requires c κs = search needs
@@ -27,7 +27,7 @@ returns-3 : tie.Need-returns-3
 returns-3 c =
     let room = c .before .before in
     let test = room .before in
-    appended-as (three-lines _ _ _ _ (test .before .before .if1 .left) (test .if2 .left) (room .room .ensures)) (c .write-three .ensures)
+    appended-as (three-lines _ _ _ _ _ (test .before .before .if1 .left) (test .if2 .left) (room .room .ensures)) (c .write-three .ensures)
 
 pub write-clearance-spec : {M : Type 1} → statement M
 write-clearance-spec =

@@ -4,10 +4,10 @@ use Rattle.universe.proofs.room.room_accepted.Statement.{statement}
 use Rattle.universe.proofs.room.room_accepted.Tie as tie
 
 abbrev Inv-loop : tie.InvT-loop
-Inv-loop universe leaves axes blocks₀ sum₀ left₀ blocks sum left = Counted universe leaves axes blocks sum left
+Inv-loop universe leaves balls axes blocks₀ sum₀ left₀ blocks sum left = Counted universe leaves balls axes blocks sum left
 
 abbrev μ-loop : tie.MeasureT-loop
-μ-loop universe leaves axes blocks₀ sum₀ left₀ blocks sum left = left
+μ-loop universe leaves balls axes blocks₀ sum₀ left₀ blocks sum left = left
 
 pub room-accepted-spec : {M : Type 1} → statement M
 room-accepted-spec =
