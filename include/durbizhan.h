@@ -10,8 +10,8 @@
  * what is written where it is not; `answer`, and the rows of a proxy, are always written, whole. What the caller owes:
  * each pointer is aligned and points to as many elements as are said, no pointer is NULL, that of an empty buffer
  * neither, and what a call writes to overlaps nothing else of that call. No function keeps a pointer or allocates; a
- * conversion or a verdict takes up to 80 KiB of the stack, durbizhan_lines up to 128 KiB, any other function up to
- * 16 KiB.
+ * conversion or a verdict takes up to 80 KiB of the stack, durbizhan_lines and durbizhan_sweep up to 128 KiB, any other
+ * function up to 16 KiB.
  *
  * axes, bits, frame_bits: a universe of 1 to 4 axes. The last counts frames, of which there are 2^frame_bits, 0 to 12
  * bits; along each other it is 2^bits units long, 0 to 10 bits. One axis counts frames alone, and bits is 0. The axes
@@ -166,6 +166,20 @@ uint64_t durbizhan_part(uint64_t axes, uint64_t bits, uint64_t frame_bits,
                         const uint8_t *expression, size_t expression_count,
                         const uint8_t *path, size_t path_count,
                         uint64_t answer[2]);
+
+/* The space that an expression sweeps along an axis, counted from 1 to axes: a raw or merged one is written into out as
+ * the merged expression of the universe without that axis, black exactly where some voxel over it, along that axis, is
+ * black. Swept along the last axis, the expression of a mover's tree is the space in which the mover ever is. The axes
+ * that are left keep their order and their bits, and the last of them then counts as frames; where one is left, its
+ * bits are the frame bits, and bits is 0. answer: axes, bits and frame bits of that universe, and the length; on
+ * NO_ROOM axes, bits and frame bits are 0 and the length is the one needed. What is written is never longer than
+ * expression, so a buffer this long is never refused NO_ROOM. Refusals in this order: BAD_UNIVERSE, also where there is
+ * one axis alone or axis is not 1 to axes; BAD_EXPRESSION; NO_ROOM. */
+uint64_t durbizhan_sweep(uint64_t axes, uint64_t bits, uint64_t frame_bits,
+                         uint64_t axis,
+                         const uint8_t *expression, size_t expression_count,
+                         uint8_t *out, size_t out_count,
+                         uint64_t answer[4]);
 
 /* The merged expression of a raw or merged one, into out. answer: the length written, or needed on NO_ROOM; and held,
  * the most symbols that merging holds back while it receives the expression: of the merged text so far, those after its

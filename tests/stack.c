@@ -36,6 +36,7 @@ struct scene {
 };
 static struct scene scene;
 static uint64_t axes, bits, frame_bits, last_frame, place, frame;
+static uint64_t axis;
 static uint8_t bytes[ROOM], path[LEVELS + 1], out[ROOM];
 static size_t bytes_count, path_count, lent, counts_count;
 static double corner;
@@ -103,6 +104,11 @@ static void report(void)
 static void colour(void)
 {
     number = durbizhan_colour(axes, bits, frame_bits, bytes, bytes_count, place, place, place, frame, answer);
+}
+
+static void sweep(void)
+{
+    number = durbizhan_sweep(axes, bits, frame_bits, axis, bytes, bytes_count, out, lent, answer);
 }
 
 static void part(void)
@@ -319,6 +325,27 @@ static void questions_at_places(void)
     end();
 }
 
+/* The calls of a sweep: along each axis, with room for exactly its symbols and for one fewer too, and along one that is
+ * not there. */
+static void sweeps(void)
+{
+    begin("durbizhan_sweep");
+    for (axis = 1; axis <= AXES; axis++) {
+        questions(sweep, DURBIZHAN_ACCEPTED, DURBIZHAN_NO_ROOM);
+        express(IN_HIGH);
+        lent = ROOM;
+        take(sweep, DURBIZHAN_ACCEPTED);
+        expect("axes of the deepest sweep", answer[0], AXES - 1);
+        lent = answer[3];
+        take(sweep, DURBIZHAN_ACCEPTED);
+        lent--;
+        take(sweep, DURBIZHAN_NO_ROOM);
+    }
+    express(IN_HIGH);
+    take(sweep, DURBIZHAN_BAD_UNIVERSE);
+    end();
+}
+
 /* The low bytes of a number, behind what stands in `bytes`. */
 static void put(uint64_t value, int length)
 {
@@ -492,6 +519,7 @@ int main(void)
     take(merge, DURBIZHAN_ACCEPTED);
     expect("held of the deepest run", answer[1], 2 * LEVELS);
     end();
+    sweeps();
     scenes("durbizhan_scene", read_scene, DURBIZHAN_ACCEPTED);
     scenes("durbizhan_lines", lines, DURBIZHAN_NO_ROOM);
     shapes();

@@ -7,7 +7,7 @@ mod durbizhan;
 #[path = "second_opinion/src/face.rs"]
 mod face;
 
-use durbizhan::{Clearance, Merged, Numbers, Refused, Report, Universe, Verdict, Window, ACCEPTED, NO_ROOM};
+use durbizhan::{Clearance, Merged, Numbers, Refused, Report, Swept, Universe, Verdict, Window, ACCEPTED, NO_ROOM};
 
 /// The numbers that each function has.
 const ROOM: &[u64] = &[0, 2];
@@ -15,6 +15,10 @@ const VERDICT: &[u64] = &[0, 2, 3, 4, 5, 6, 9];
 const NUMBERS: &[u64] = &[0, 2, 7, 9];
 const REPORT: &[u64] = &[0, 2, 6, 7, 9];
 const MERGE: &[u64] = &[0, 2, 6, 7];
+const SWEEP: &[u64] = &[0, 2, 6, 7];
+const SCENE: &[u64] = &[0, 1, 2, 3, 4, 5, 9];
+const MERGED_ONE: &[u64] = &[0, 2, 3, 4, 5, 6];
+const SHAPE_WRITE: &[u64] = &[0, 2, 6, 7, 8];
 const LINES: &[u64] = &[0, 1, 2, 3, 4, 5, 6, 9];
 
 /// Two trees over rows and balls, and a window.
@@ -298,6 +302,130 @@ fn merges() -> Vec<u64> {
     cases.map(|case| case.0).to_vec()
 }
 
+fn sweeps() -> Vec<u64> {
+    let cases: [(u64, [u64; 3], u64, &[u8], usize); 20] = [
+        (0, [2, 2, 2], 1, b"(W(((WBW((BWW", 13),
+        (0, [2, 2, 2], 1, b"(W(((WBW((BWW", 7),
+        (0, [2, 2, 2], 2, b"(W(((WBW((BWW", 20),
+        (0, [2, 1, 2], 2, b"(((WB(WWW", 9),
+        (0, [3, 2, 1], 3, b"(W(W((W(BW((WW(BW", 17),
+        (0, [4, 1, 2], 4, b"(((B((WW(WW(((WW(WBWW", 21),
+        (0, [3, 0, 2], 1, b"(WB", 3),
+        (0, [4, 10, 12], 4, b"B", 1),
+        (2, [2, 2, 2], 0, b"B", 1),
+        (2, [2, 2, 2], 3, b"(", 0),
+        (2, [4, 10, 12], 5, b"B", 1),
+        (2, [1, 0, 2], 1, b"(WB", 3),
+        (2, [0, 2, 2], 1, b"B", 1),
+        (2, [4, 11, 10], 1, b"B", 1),
+        (2, [4, 10, 13], 1, b"B", 1),
+        (6, [2, 2, 2], 1, b"(W(((WBW((BWW", 6),
+        (6, [2, 2, 2], 2, b"B", 0),
+        (7, [2, 2, 2], 1, b"", 0),
+        (7, [2, 1, 2], 2, b"(B(B(B(BW", 9),
+        (7, [2, 2, 2], 2, b"BB", 0),
+    ];
+    for (wanted, [axes, bits, frame_bits], axis, expression, lent) in cases {
+        let [mut room, mut other_room] = [vec![b'.'; lent], vec![b'.'; lent]];
+        let mut answer = [u64::MAX; 4];
+        let number = face::sweep(axes, bits, frame_bits, axis, expression, &mut other_room, &mut answer);
+        let faced = match (number, answer) {
+            (ACCEPTED, [axes, bits, frame_bits, length]) => {
+                Ok(Swept { universe: Universe { axes, bits, frame_bits }, length: length as usize })
+            }
+            (number, [0, 0, 0, needed]) => Err(Refused { number, needed }),
+            _ => panic!("sweep: number {number}, answer {answer:?}"),
+        };
+        let wrapped = durbizhan::sweep(Universe { axes, bits, frame_bits }, expression, axis, &mut room);
+        held("sweep", wanted, number, (wrapped, room), (faced, other_room));
+    }
+    cases.map(|case| case.0).to_vec()
+}
+
+fn scene_files() -> Vec<u64> {
+    let mut cases: Vec<_> = scenes().into_iter().map(|(wanted, scene)| (wanted, scene.file())).collect();
+    cases.extend([(1, vec![]), (1, b"HSC".to_vec())]);
+    for (wanted, file) in &cases {
+        let (mut rows, mut balls, mut first, mut second) = ([0; 1280], [0; 256], [0; 255], [0; 255]);
+        let mut answer = [u64::MAX; 10];
+        let number = face::scene(file, &mut rows, &mut balls, &mut first, &mut second, &mut answer);
+        let [version, axes, bits, frame_bits, counts @ .., first_frame, last_frame] = answer;
+        let counts = counts.map(|count| count as usize);
+        let faced = match number {
+            ACCEPTED => Ok(durbizhan::Scene {
+                version,
+                universe: Universe { axes, bits, frame_bits },
+                rows: rows[..5 * counts[0]].to_vec(),
+                balls: balls[..4 * counts[1]].to_vec(),
+                first: first[..counts[2]].to_vec(),
+                second: second[..counts[3]].to_vec(),
+                window: Window { first: first_frame, last: last_frame },
+            }),
+            _ => Err(Refused { number, needed: 0 }),
+        };
+        held("scene", *wanted, number, durbizhan::scene(file), faced);
+    }
+    cases.iter().map(|case| case.0).collect()
+}
+
+/// A length that the face answers.
+fn length_of(number: u64, answer: [u64; 1]) -> Result<usize, Refused> {
+    if number == ACCEPTED {
+        Ok(answer[0] as usize)
+    } else {
+        Err(Refused { number, needed: answer[0] })
+    }
+}
+
+fn mergeds() -> Vec<u64> {
+    let cases = [
+        (0, example(), 100),
+        (0, example(), 19),
+        (0, Scene { balls: vec![2, 0, 0, 1], first: vec![512], ..example() }, 100),
+        (2, Scene { axes: 5, ..example() }, 100),
+        (2, Scene { axes: 1, ..example() }, 100),
+        (3, Scene { rows: vec![0; 6], ..example() }, 100),
+        (3, Scene { balls: vec![0; 3], ..example() }, 100),
+        (4, Scene { first: vec![], ..example() }, 100),
+        (4, Scene { first: vec![512], ..example() }, 100),
+        (5, Scene { first: vec![1; 33], ..example() }, 100),
+        (6, example(), 18),
+        (6, example(), 0),
+    ];
+    for (wanted, scene, lent) in &cases {
+        let Scene { axes, bits, frame_bits, rows, balls, first, .. } = scene.clone();
+        let [mut room, mut other_room] = [vec![b'.'; *lent], vec![b'.'; *lent]];
+        let mut answer = [u64::MAX];
+        let number = face::merged_one(axes, bits, frame_bits, &rows, &balls, &first, &mut other_room, &mut answer);
+        let universe = Universe { axes, bits, frame_bits };
+        let wrapped = durbizhan::merged_one(universe, &rows, &balls, &first, &mut room);
+        held("merged_one", *wanted, number, (wrapped, room), (length_of(number, answer), other_room));
+    }
+    cases.iter().map(|case| case.0).collect()
+}
+
+fn shape_files() -> Vec<u64> {
+    let cases: [(u64, [u64; 3], &[u8], usize); 9] = [
+        (0, [2, 2, 2], b"(B(B(B(BW", 21),
+        (0, [4, 10, 12], b"W", 20),
+        (2, [0, 2, 2], b"B", 13),
+        (2, [1, 1, 1], b"(BB", 15),
+        (6, [2, 2, 2], b"(B(B(B(BW", 20),
+        (6, [2, 2, 2], b"B", 0),
+        (7, [2, 1, 2], b"(B(B(B(BW", 21),
+        (7, [2, 2, 2], b"", 12),
+        (8, [2, 2, 2], b"(BB", 0),
+    ];
+    for (wanted, [axes, bits, frame_bits], expression, lent) in cases {
+        let [mut room, mut other_room] = [vec![b'.'; lent], vec![b'.'; lent]];
+        let mut answer = [u64::MAX];
+        let number = face::shape_write(axes, bits, frame_bits, expression, &mut other_room, &mut answer);
+        let wrapped = durbizhan::shape_write(Universe { axes, bits, frame_bits }, expression, &mut room);
+        held("shape_write", wanted, number, (wrapped, room), (length_of(number, answer), other_room));
+    }
+    cases.map(|case| case.0).to_vec()
+}
+
 /// The number that the lines refuse with.
 fn number_of(lines: &[u8]) -> u64 {
     lines.strip_prefix(b"refused ").map_or(0, |rest| u64::from(rest[0] - b'0'))
@@ -326,6 +454,10 @@ fn main() {
         (NUMBERS, numbers()),
         (REPORT, reports()),
         (MERGE, merges()),
+        (SWEEP, sweeps()),
+        (SCENE, scene_files()),
+        (MERGED_ONE, mergeds()),
+        (SHAPE_WRITE, shape_files()),
         (LINES, lines()),
     ];
     for (numbers, cases) in tables {

@@ -60,6 +60,18 @@ mod face {
             answer: *mut [u64; 2],
         ) -> u64;
 
+        pub fn durbizhan_sweep(
+            axes: u64,
+            bits: u64,
+            frame_bits: u64,
+            axis: u64,
+            expression: *const u8,
+            expression_count: usize,
+            out: *mut u8,
+            out_count: usize,
+            answer: *mut [u64; 4],
+        ) -> u64;
+
         pub fn durbizhan_merge(
             axes: u64,
             bits: u64,
@@ -69,6 +81,42 @@ mod face {
             out: *mut u8,
             out_count: usize,
             answer: *mut [u64; 2],
+        ) -> u64;
+
+        pub fn durbizhan_scene(
+            bytes: *const u8,
+            bytes_count: usize,
+            rows: *mut [i64; 1280],
+            balls: *mut [i64; 256],
+            first: *mut [u16; 255],
+            second: *mut [u16; 255],
+            answer: *mut [u64; 10],
+        ) -> u64;
+
+        pub fn durbizhan_merged_one(
+            axes: u64,
+            bits: u64,
+            frame_bits: u64,
+            rows: *const i64,
+            rows_count: usize,
+            balls: *const i64,
+            balls_count: usize,
+            words: *const u16,
+            words_count: usize,
+            out: *mut u8,
+            out_count: usize,
+            answer: *mut [u64; 1],
+        ) -> u64;
+
+        pub fn durbizhan_shape_write(
+            axes: u64,
+            bits: u64,
+            frame_bits: u64,
+            expression: *const u8,
+            expression_count: usize,
+            out: *mut u8,
+            out_count: usize,
+            answer: *mut [u64; 1],
         ) -> u64;
 
         pub fn durbizhan_lines(scene: *const u8, scene_count: usize, out: *mut [u8; 256]) -> u64;
@@ -121,9 +169,28 @@ pub struct Merged {
     pub held: u64,
 }
 
+/// What a scene file holds: five numbers to a row, four to a ball, and the words of its two trees.
+#[derive(Debug, PartialEq)]
+pub struct Scene {
+    pub version: u64,
+    pub universe: Universe,
+    pub rows: Vec<i64>,
+    pub balls: Vec<i64>,
+    pub first: Vec<u16>,
+    pub second: Vec<u16>,
+    pub window: Window,
+}
+
+/// The universe of the sweep that was written, and its length.
+#[derive(Debug, PartialEq)]
+pub struct Swept {
+    pub universe: Universe,
+    pub length: usize,
+}
+
 /// Axes, the last of which counts frames; the bits of each of the others, 0 where there is one axis; and those of the
 /// frames.
-#[derive(Clone, Copy)]
+#[derive(Clone, Copy, Debug, PartialEq)]
 pub struct Universe {
     pub axes: u64,
     pub bits: u64,
@@ -131,7 +198,7 @@ pub struct Universe {
 }
 
 /// Frames first to last, both ends in.
-#[derive(Clone, Copy)]
+#[derive(Clone, Copy, Debug, PartialEq)]
 pub struct Window {
     pub first: u64,
     pub last: u64,
@@ -254,6 +321,30 @@ pub fn report(
     Ok(Report { frames: frames as usize, total })
 }
 
+/// The space that an expression sweeps along an axis, counted from 1: the merged expression of the universe without
+/// that axis, written at the front of `out`. Room as long as the expression always suffices.
+pub fn sweep(universe: Universe, expression: &[u8], axis: u64, out: &mut [u8]) -> Result<Swept, Refused> {
+    let mut answer = [0; 4];
+    let number = unsafe {
+        face::durbizhan_sweep(
+            universe.axes,
+            universe.bits,
+            universe.frame_bits,
+            axis,
+            expression.as_ptr(),
+            expression.len(),
+            out.as_mut_ptr(),
+            out.len(),
+            &mut answer,
+        )
+    };
+    let [axes, bits, frame_bits, length] = answer;
+    if number != ACCEPTED {
+        return Err(Refused { number, needed: length });
+    }
+    Ok(Swept { universe: Universe { axes, bits, frame_bits }, length: length as usize })
+}
+
 /// The merged expression of an expression, written at the front of `out`.
 pub fn merge(universe: Universe, expression: &[u8], out: &mut [u8]) -> Result<Merged, Refused> {
     let mut answer = [0; 2];
@@ -274,6 +365,91 @@ pub fn merge(universe: Universe, expression: &[u8], out: &mut [u8]) -> Result<Me
         return Err(Refused { number, needed: length });
     }
     Ok(Merged { length: length as usize, held })
+}
+
+/// Reads a scene file.
+pub fn scene(bytes: &[u8]) -> Result<Scene, Refused> {
+    let (mut rows, mut balls, mut first, mut second) = ([0; 1280], [0; 256], [0; 255], [0; 255]);
+    let mut answer = [0; 10];
+    let number = unsafe {
+        face::durbizhan_scene(
+            bytes.as_ptr(),
+            bytes.len(),
+            &mut rows,
+            &mut balls,
+            &mut first,
+            &mut second,
+            &mut answer,
+        )
+    };
+    if number != ACCEPTED {
+        return Err(Refused { number, needed: 0 });
+    }
+    let [version, axes, bits, frame_bits, counts @ .., first_frame, last_frame] = answer;
+    let [row_count, ball_count, first_count, second_count] = counts.map(|count| count as usize);
+    Ok(Scene {
+        version,
+        universe: Universe { axes, bits, frame_bits },
+        rows: rows[..5 * row_count].to_vec(),
+        balls: balls[..4 * ball_count].to_vec(),
+        first: first[..first_count].to_vec(),
+        second: second[..second_count].to_vec(),
+        window: Window { first: first_frame, last: last_frame },
+    })
+}
+
+/// The length of what was written, or why nothing was.
+fn length_of(number: u64, answer: [u64; 1]) -> Result<usize, Refused> {
+    match number {
+        ACCEPTED => Ok(answer[0] as usize),
+        _ => Err(Refused { number, needed: answer[0] }),
+    }
+}
+
+/// The merged expression of one tree, written at the front of `out`: its length.
+pub fn merged_one(
+    universe: Universe,
+    rows: &[i64],
+    balls: &[i64],
+    words: &[u16],
+    out: &mut [u8],
+) -> Result<usize, Refused> {
+    let mut answer = [0; 1];
+    let number = unsafe {
+        face::durbizhan_merged_one(
+            universe.axes,
+            universe.bits,
+            universe.frame_bits,
+            rows.as_ptr(),
+            rows.len(),
+            balls.as_ptr(),
+            balls.len(),
+            words.as_ptr(),
+            words.len(),
+            out.as_mut_ptr(),
+            out.len(),
+            &mut answer,
+        )
+    };
+    length_of(number, answer)
+}
+
+/// The shape file of a merged expression, written at the front of `out`: its length, which is 12 more.
+pub fn shape_write(universe: Universe, expression: &[u8], out: &mut [u8]) -> Result<usize, Refused> {
+    let mut answer = [0; 1];
+    let number = unsafe {
+        face::durbizhan_shape_write(
+            universe.axes,
+            universe.bits,
+            universe.frame_bits,
+            expression.as_ptr(),
+            expression.len(),
+            out.as_mut_ptr(),
+            out.len(),
+            &mut answer,
+        )
+    };
+    length_of(number, answer)
 }
 
 /// The lines that the program prints for a scene file; a refusal is the one line `refused n`.

@@ -5,3 +5,4 @@ pub mod Numbers
 pub mod FrameBits
 pub mod Reports
 pub mod Balls
+pub mod Swept

@@ -19,6 +19,7 @@ use Rattle.convert.specs.declared.verdict.Clearance.{Clearance}
 use Rattle.files.specs.declared.Scene.{Scene}
 use Rattle.files.specs.declared.ShapeRead.{ShapeRead}
 use Rattle.report.specs.declared.Report.{Report}
+use Rattle.sweep.specs.declared.Swept.{Swept}
 use Rattle.standin.specs.declared.Triple.{Triple}
 use Rattle.standin.specs.declared.Solid.the-variants.{Box, Cut}
 use Rattle.standin.specs.declared.Proxy.{Proxy}
@@ -82,6 +83,10 @@ sceneArray a =
 -- a shape's axes, bits, frame bits and length, needed on 6
 abbrev pub shapeArray : ShapeRead → List ℕ
 shapeArray a = a .universe .axes ∷ a .universe .bits ∷ a .universe .«frame_bits» ∷ a .length ∷ []
+
+-- rule 12.3: the axes, bits and frame bits of the universe that a sweep is of, and its length, needed on 6
+abbrev pub sweptArray : Swept → List ℕ
+sweptArray a = a .universe .axes ∷ a .universe .bits ∷ a .universe .«frame_bits» ∷ a .length ∷ []
 
 -- rule 6.1: a corner, a normal or a displacement of its three floats
 abbrev pub tripleOf : Float → Float → Float → Triple

@@ -6,4 +6,5 @@ pub mod documents;
 pub mod expressions;
 pub mod proxies;
 pub mod reports;
+pub mod sweeps;
 pub mod verdicts;

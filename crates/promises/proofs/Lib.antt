@@ -7,3 +7,4 @@ pub mod Report
 pub mod Centres
 pub mod Faces
 pub mod CutFromItself
+pub mod Swept

@@ -151,7 +151,7 @@ module _ (written : Written) (v : Verdict) where
   clear-told n = rw (ne-eqb (written .refusal) 0 n)
 
 -- a call that answers 0 passed its checks before 6
-passed : (before : ℕ) (out written : List ℕ) → writtenAnswer before out written .refusal ≡ 0 → before ≡ 0
+pub passed : (before : ℕ) (out written : List ℕ) → writtenAnswer before out written .refusal ≡ 0 → before ≡ 0
 passed before out written e = go (ℕ-discrete before 0)
   where
     go : Dec (before ≡ 0) → before ≡ 0

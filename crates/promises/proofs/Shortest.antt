@@ -33,7 +33,7 @@ use Rattle.promises.proofs.Promises.{checks, accepts}
 
 -- ---- bytes say colours exactly where they have them
 
-colour-told : {a b : Coloured} → a ≡ b → a .colour ≡ b .colour
+pub colour-told : {a b : Coloured} → a ≡ b → a .colour ≡ b .colour
 colour-told e = ap (λ (c : Coloured). c .colour) e
 
 module _ (u : Universe) where
@@ -43,7 +43,7 @@ module _ (u : Universe) where
       (a .0, first-accepts (expressionRefusal u x) [] (a .1) .0)
 
   module _ (colours : List ℕ → Colour) (x : List ℕ) where
-    has : wellFormedRefusal u x ≡ 0 → ((v : List ℕ) → voxelRefusal u v ≡ 0 → coloursOf u x v ≡ colours v) → Has u colours x
+    pub has : wellFormedRefusal u x ≡ 0 → ((v : List ℕ) → voxelRefusal u v ≡ 0 → coloursOf u x v ≡ colours v) → Has u colours x
     has z same =
         let a = accepted-shape u x (both-checks x z .1) in
         record {

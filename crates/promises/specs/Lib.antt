@@ -6,3 +6,4 @@ pub mod Report
 pub mod Centres
 pub mod Faces
 pub mod CutFromItself
+pub mod Swept

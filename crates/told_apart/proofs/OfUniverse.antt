@@ -35,6 +35,9 @@ universe-axes-left w _ _ = ((tt, refl), λ _ _ _ _ _. one w (λ p q. (same p q, 
 pub universe-voxels-left : (w : World) → TellsApart w universe.Universe.voxels_left.ended universe.Universe.voxels_left.clauses
 universe-voxels-left w _ _ = ((tt, refl), λ _ _ _ _ _. one w (λ p q. (same p q, refl)))
 
+pub universe-without-axis : (w : World) → TellsApart w universe.Universe.without_axis.ended universe.Universe.without_axis.clauses
+universe-without-axis w _ _ = ((tt, refl), λ _ _ _ _ _. one w (λ p q. (same p q, refl)))
+
 pub block-low-half : (w : World) → TellsApart w universe.Block.low_half.ended universe.Block.low_half.clauses
 block-low-half w _ _ = ((tt, refl), λ _ _ _ _ _. one w (λ p q. (same p q, refl)))
 

@@ -201,5 +201,18 @@ laying-refused u e n =
     sym (listed-same mostLevels 0)
     ∙ listed-cong mostLevels _ _ (λ k h. rw (← levels-refused u e n, le-ltb k 0 (omega arith)))
 
-pub ruleset laying =
-    (needs, laying-first, laying-round, laying-all, laying-refused, round-fits, round-falls, axis-there, axis-fits, axis-falls, some-left, place-few, place-fits)
+pub ruleset laying = (
+  needs,
+  laying-first,
+  laying-round,
+  laying-all,
+  laying-refused,
+  round-fits,
+  round-falls,
+  axis-there,
+  axis-fits,
+  axis-falls,
+  some-left,
+  place-few,
+  place-fits,
+)

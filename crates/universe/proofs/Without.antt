@@ -16,7 +16,8 @@ use Rattle.universe.specs.Rounds.{rounds, without, axisBefore, axisAfter
 use Rattle.universe.specs.Universe.{mostBits, mostBitsOf, universeRefusal, frameAxis, bitsAlong, levels, order, axisAt, halvings, withoutAxis}
 use Rattle.universe.proofs.Orders.{rounds-cong, rounds-alike}
 use Rattle.universe.proofs.Leaving.{rounds-without, without-often, without-length, placeAfter, place-within, without-take, without-at}
-use Rattle.universe.proofs.Universes.{accepted, is-accepted, most-bits, frame-bits, space-bits, bits-few, bits-within, order-length, halvings-often, halvings-all}
+use Rattle.universe.proofs.Universes.{accepted, is-accepted, most-bits, frame-bits, space-bits, bits-few, bits-within}
+use Rattle.universe.proofs.Universes.{order-length, halvings-often, halvings-all}
 
 module _ (u : Universe) (j : ℕ) (some : 2 ≤ u .axes) (there : j < u .axes) where
   pub without-accepted : universeRefusal u ≡ 0 → universeRefusal (withoutAxis u j) ≡ 0

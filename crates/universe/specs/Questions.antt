@@ -1,5 +1,6 @@
 -- Rule 1.8: what the universe answers when asked for its levels, the bits and the side of an axis, the axis of each
--- level, the voxels of a block. Where the universe is refused or has no such axis or level, the answer is 0.
+-- level, the voxels of a block. Where the universe is refused or has no such axis or level, the answer is 0. Rule 12.1:
+-- and when asked for the universe without an axis.
 use Prim.Native.Nat.{ℕ, suc, _-_, _^_}
 use mathlib.Core.Bool.{Bool, cond, _&&_}
 use mathlib.Core.List.{List}
@@ -7,6 +8,7 @@ use lib.Dec.{ltb, leb, eqb}
 use Rattle.lemmas.specs.Grid.{listed}
 use Rattle.universe.specs.declared.Universe.{Universe}
 use Rattle.universe.specs.Universe.{universeRefusal, mostLevels, bitsAlong, sideAlong, levels, axisAt}
+use Rattle.universe.specs.Universe.{withoutAxis}
 
 unfoldable pub levelsAnswer : Universe → ℕ
 levelsAnswer u = cond (eqb (universeRefusal u) 0) (levels u) 0
@@ -28,3 +30,14 @@ axesLeft u = listed mostLevels (λ n. cond (ltb n (levelsAnswer u)) (axisAt u (l
 -- the voxels of a block with so many levels left
 unfoldable pub voxelsLeft : ℕ → ℕ
 voxelsLeft left = cond (leb left mostLevels) (2 ^ left) 0
+
+-- rule 12.1: an axis can be left out where it is one of two or more, counted from 1
+abbrev pub isOneOf : Universe → ℕ → Bool
+isOneOf u axis = eqb (universeRefusal u) 0 && leb 2 (u .axes) && leb 1 axis && leb axis (u .axes)
+
+-- the numbers that are no universe's
+abbrev pub noUniverse : Universe
+noUniverse = record { axes = 0; bits = 0; «frame_bits» = 0 }
+
+unfoldable pub withoutAnswer : Universe → ℕ → Universe
+withoutAnswer u axis = cond (isOneOf u axis) (withoutAxis u (axis - 1)) noUniverse

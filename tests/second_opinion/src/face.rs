@@ -53,6 +53,10 @@ mod c {
             axes: u64, bits: u64, frame_bits: u64, expression: *const u8, expression_count: usize, path: *const u8,
             path_count: usize, answer: *mut [u64; 2],
         ) -> u64;
+        pub fn durbizhan_sweep(
+            axes: u64, bits: u64, frame_bits: u64, axis: u64, expression: *const u8, expression_count: usize,
+            out: *mut u8, out_count: usize, answer: *mut [u64; 4],
+        ) -> u64;
         pub fn durbizhan_merge(
             axes: u64, bits: u64, frame_bits: u64, expression: *const u8, expression_count: usize, out: *mut u8,
             out_count: usize, answer: *mut [u64; 2],
@@ -198,6 +202,16 @@ pub fn part(axes: u64, bits: u64, frame_bits: u64, expression: &[u8], path: &[u8
     unsafe {
         c::durbizhan_part(
             axes, bits, frame_bits, expression.as_ptr(), expression.len(), path.as_ptr(), path.len(), answer,
+        )
+    }
+}
+
+pub fn sweep(
+    axes: u64, bits: u64, frame_bits: u64, axis: u64, expression: &[u8], out: &mut [u8], answer: &mut [u64; 4],
+) -> u64 {
+    unsafe {
+        c::durbizhan_sweep(
+            axes, bits, frame_bits, axis, expression.as_ptr(), expression.len(), out.as_mut_ptr(), out.len(), answer,
         )
     }
 }

@@ -446,3 +446,84 @@ pub fn plain_numbers_fast(
         (level, frame) = coming[top & 63];
     }
 }
+
+/// An expression as a tree of boxes.
+enum Part {
+    White,
+    Black,
+    Halved(Box<(Part, Part)>),
+}
+
+/// The part that the next symbols are, which has at most so many levels.
+fn next_part(symbols: &mut std::slice::Iter<u8>, levels: usize) -> Option<Part> {
+    match symbols.next()? {
+        b'W' => Some(Part::White),
+        b'B' => Some(Part::Black),
+        b'(' if levels > 0 => {
+            let low = next_part(symbols, levels - 1)?;
+            Some(Part::Halved(Box::new((low, next_part(symbols, levels - 1)?))))
+        }
+        _ => None,
+    }
+}
+
+/// Two halves, merged.
+fn of_halves(low: Part, high: Part) -> Part {
+    match (low, high) {
+        (Part::Black, Part::Black) => Part::Black,
+        (Part::White, Part::White) => Part::White,
+        halves => Part::Halved(Box::new(halves)),
+    }
+}
+
+/// Two parts laid over each other.
+fn over(one: Part, two: Part) -> Part {
+    match (one, two) {
+        (Part::Black, _) | (_, Part::Black) => Part::Black,
+        (Part::White, other) | (other, Part::White) => other,
+        (Part::Halved(one), Part::Halved(two)) => of_halves(over(one.0, two.0), over(one.1, two.1)),
+    }
+}
+
+/// A part swept along an axis; its levels to come halve the axes in this order.
+fn swept(part: Part, order: &[usize], dropped: usize) -> Part {
+    match part {
+        Part::Halved(halves) => {
+            let (low, high) = (swept(halves.0, &order[1..], dropped), swept(halves.1, &order[1..], dropped));
+            if order[0] == dropped {
+                over(low, high)
+            } else {
+                of_halves(low, high)
+            }
+        }
+        leaf => leaf,
+    }
+}
+
+fn write_part(part: &Part, symbols: &mut Vec<u8>) {
+    match part {
+        Part::White => symbols.push(b'W'),
+        Part::Black => symbols.push(b'B'),
+        Part::Halved(halves) => {
+            symbols.push(b'(');
+            write_part(&halves.0, symbols);
+            write_part(&halves.1, symbols);
+        }
+    }
+}
+
+/// The sweep of an expression along one of the axes, counted from 1: the length written; or nothing where the
+/// expression is not well-formed, the universe is refused or the room does not suffice.
+pub fn plain_sweep_fast(
+    axes: u64, bits: u64, frame_bits: u64, axis: u64, expression: &[u8], out: &mut [u8],
+) -> Option<usize> {
+    let universe = Universe::checked(axes, bits, frame_bits).ok()?;
+    let mut symbols = expression.iter();
+    let whole = next_part(&mut symbols, universe.levels())?;
+    if symbols.next().is_some() {
+        return None;
+    }
+    let mut gathered = Vec::with_capacity(out.len());
+    write_part(&swept(whole, universe.order(), axis as usize - 1), &mut gathered);
+    delivered(&gathered, out).ok()
+}

@@ -700,6 +700,22 @@ pub fn report(random: &mut Random) -> ReportCase {
     ReportCase { list, window: (first, last), lent: room(random, frames) }
 }
 
+/// What a sweep is called with: an expression, and the axis, counted from 1.
+#[derive(Clone, Debug)]
+pub struct SweepCase {
+    pub reading: ReadingCase,
+    pub axis: u64,
+}
+
+/// A sweep along one of the axes, at times along none.
+pub fn sweep(random: &mut Random) -> SweepCase {
+    let reading = reading(random);
+    let [axes, ..] = in_range([reading.axes, reading.bits, reading.frame_bits]);
+    let none = random.pick(&[0, axes + 1, axes + 1, 5, 255, 256 + axes, (1 << 32) + axes, (1 << 63) + axes, u64::MAX]);
+    let axis = if random.chance(8) { none } else { 1 + random.below(axes) };
+    SweepCase { reading, axis }
+}
+
 /// A path in the universe.
 pub fn path(random: &mut Random, levels: usize) -> Vec<u8> {
     let length = if random.chance(20) { levels } else { random.place(levels + 1) };

@@ -242,6 +242,7 @@ type RawTwo = fn(u64, u64, u64, &[i64], &[i64], &[u16], &[u16], &mut [u8], &mut 
 type Verdict = fn(u64, u64, u64, &[i64], &[i64], &[u16], &[u16], u64, u64, &mut [u8], &mut [u64; 5]) -> u64;
 type Numbers = fn(u64, u64, u64, &[u8], u64, u64, &mut [u64; 5]) -> u64;
 type Report = fn(u64, u64, u64, &[u8], u64, u64, &mut [u64], &mut [u64; 2]) -> u64;
+type Sweep = fn(u64, u64, u64, u64, &[u8], &mut [u8], &mut [u64; 4]) -> u64;
 type Colour = fn(u64, u64, u64, &[u8], u64, u64, u64, u64, &mut [u64; 1]) -> u64;
 type Part = fn(u64, u64, u64, &[u8], &[u8], &mut [u64; 2]) -> u64;
 type Rewrite<const N: usize> = fn(u64, u64, u64, &[u8], &mut [u8], &mut [u64; N]) -> u64;
@@ -444,6 +445,22 @@ fn parts(line: &mut Line, random: &mut Random) {
     line.compare(plain, library, || format!("{}\npath = {path:?}", reading_text(&case)));
 }
 
+fn sweeps(line: &mut Line, random: &mut Random) {
+    let generate::SweepCase { reading: case, axis } = generate::sweep(random);
+    let (axes, bits, frame_bits, expression) = (case.axes, case.bits, case.frame_bits, &case.expression);
+    let mut need = [0; 4];
+    plain::sweep(axes, bits, frame_bits, axis, expression, &mut [], &mut need);
+    // around what is needed, at times around the expression's own length, from which on one pass suffices
+    let around = if random.chance(15) { expression.len() as u64 } else { need[3] };
+    let lent = generate::room(random, around);
+    let [plain, library] = [plain::sweep as Sweep, face::sweep].map(|sweep| {
+        let (mut out, mut answer) = (bytes(lent), longs(4));
+        let number = sweep(axes, bits, frame_bits, axis, expression, out.lent(), answer.array());
+        Outcome { number, contents: vec![("answer", answer.into()), ("out", out.into())] }
+    });
+    line.compare(plain, library, || format!("{}\naxis = {axis}\nout: {lent} bytes lent", reading_text(&case)));
+}
+
 /// Merging and shape writing: an expression in, bytes out, and an answer that begins with their length.
 fn rewriting<const N: usize>(line: &mut Line, random: &mut Random, plain: Rewrite<N>, library: Rewrite<N>) {
     let case = generate::reading(random);
@@ -588,6 +605,7 @@ const ENTRY_POINTS: &[(&str, u64, &[u64], Compare)] = &[
     ("durbizhan_report", 500, REPORT, reports),
     ("durbizhan_colour", 2000, READING_AT, colours),
     ("durbizhan_part", 2000, READING_AT, parts),
+    ("durbizhan_sweep", 1000, MERGING, sweeps),
     ("durbizhan_merge", 2000, MERGING, |l, r| rewriting(l, r, plain::merge, face::merge)),
     ("durbizhan_scene", 1000, SCENE, scenes),
     ("durbizhan_lines", 100, PROGRAM, lines),

@@ -2,6 +2,7 @@
 //! functions at the end are the entry points of the C face, with the same parameters in the same order: each
 //! returns the refusal number and fills its answer and the lent buffers.
 
+use std::collections::BTreeSet;
 use std::sync::OnceLock;
 
 // ------------------------------------------------------------------------------------------------ the numbers
@@ -839,6 +840,80 @@ pub fn verdict_by_blocks(universe: &Universe, shape: &Shape, first: u64, last: u
     hit
 }
 
+// ------------------------------------------------------------------------------------------- the swept space
+
+/// The universe without one of two or more axes, counted from 1 (rule 12.1).
+pub fn without_axis(universe: &Universe, axis: u64) -> Answer<Universe> {
+    if universe.axes == 1 || axis < 1 || axis > universe.axes as u64 {
+        return refused(BAD_UNIVERSE);
+    }
+    let others = (0..universe.axes).filter(|&other| other as u64 + 1 != axis);
+    let left: Vec<u64> = others.map(|other| universe.bits_along(other) as u64).collect();
+    match left[..] {
+        [alone] => Universe::checked(1, 0, alone),
+        [bits, .., last] => Universe::checked(left.len() as u64, bits, last),
+        [] => unreachable!("one axis at least is left"),
+    }
+}
+
+/// The numbers of the axes that are left; the last is 0.
+fn left_of(numbers: &[i64; 4], dropped: usize) -> [i64; 4] {
+    let mut left = *numbers;
+    left[dropped..].rotate_left(1);
+    left[3] = 0;
+    left
+}
+
+/// Writes a block: its colour where it has one, else its halves.
+fn spell(universe: &Universe, block: &Block, colour: &impl Fn(&Block) -> Option<bool>, symbols: &mut Vec<u8>) {
+    match colour(block) {
+        Some(black) => symbols.push(if black { b'B' } else { b'W' }),
+        None => {
+            symbols.push(b'(');
+            spell(universe, &block.half(universe, false), colour, symbols);
+            spell(universe, &block.half(universe, true), colour, symbols);
+        }
+    }
+}
+
+/// The sweep voxel by voxel (rule 12.2): one of the universe below is BLACK where some voxel over it is.
+pub fn swept_by_voxels(universe: &Universe, below: &Universe, shape: &Shape, dropped: usize) -> Vec<u8> {
+    let black = universe.all_voxels().filter(|voxel| black_at(universe, shape, voxel));
+    let places: BTreeSet<[i64; 4]> = black.map(|voxel| left_of(&voxel, dropped)).collect();
+    let mut symbols = Vec::new();
+    let colour = |block: &Block| (block.level == below.levels()).then(|| places.contains(&block.low));
+    spell(below, &Block::whole(below), &colour, &mut symbols);
+    merged_by_replacement(&symbols)
+}
+
+/// The sweep from the BLACK blocks: a block of the universe below is BLACK where one of them stands over all of it, and
+/// WHITE where none stands over any of it.
+pub fn swept_by_blocks(universe: &Universe, below: &Universe, shape: &Shape, dropped: usize) -> Vec<u8> {
+    let mut over = Vec::new();
+    black_blocks(universe, shape, &Block::whole(universe), &mut |block| {
+        over.push((left_of(&block.low, dropped), left_of(&block.size, dropped)));
+    });
+    let mut symbols = Vec::new();
+    let colour = |block: &Block| {
+        let end = |axis: usize| block.low[axis] + block.size[axis];
+        let all = |(low, size): &([i64; 4], [i64; 4])| {
+            (0..below.axes).all(|axis| low[axis] <= block.low[axis] && end(axis) <= low[axis] + size[axis])
+        };
+        let any = |(low, size): &([i64; 4], [i64; 4])| {
+            (0..below.axes).all(|axis| low[axis] < end(axis) && block.low[axis] < low[axis] + size[axis])
+        };
+        if over.iter().any(all) {
+            Some(true)
+        } else if over.iter().any(any) {
+            None
+        } else {
+            Some(false)
+        }
+    };
+    spell(below, &Block::whole(below), &colour, &mut symbols);
+    merged_by_replacement(&symbols)
+}
+
 // ---------------------------------------------------------------------------------------------------- proxies
 
 /// The number in sixteenths, exactly, from the float's own bits; refused where it is no finite multiple of 1/16
@@ -1274,6 +1349,29 @@ pub fn part(axes: u64, bits: u64, frame_bits: u64, expression: &[u8], path: &[u8
         Ok([start, length])
     };
     plain_answer(judge(), answer)
+}
+
+pub fn sweep(
+    axes: u64, bits: u64, frame_bits: u64, axis: u64, expression: &[u8], out: &mut [u8], answer: &mut [u64; 4],
+) -> u64 {
+    let mut judge = || -> Answer<[u64; 4]> {
+        let universe = Universe::checked(axes, bits, frame_bits)?;
+        let below = without_axis(&universe, axis)?;
+        let shape = shape_checked(&universe, expression)?;
+        let sweep = if universe.is_small() { swept_by_voxels } else { swept_by_blocks };
+        let length = delivered(&sweep(&universe, &below, &shape, axis as usize - 1), out)?;
+        Ok([below.axes as u64, below.bits as u64, below.frame_bits as u64, length])
+    };
+    match judge() {
+        Ok(fields) => {
+            *answer = fields;
+            ACCEPTED
+        }
+        Err(refusal) => {
+            *answer = [0, 0, 0, refusal.needed];
+            refusal.number
+        }
+    }
 }
 
 pub fn merge(axes: u64, bits: u64, frame_bits: u64, expression: &[u8], out: &mut [u8], answer: &mut [u64; 2]) -> u64 {

@@ -257,6 +257,123 @@ fn held_back() {
     }
 }
 
+/// What a sweep answers and writes, with as much room as the expression is long.
+fn swept([axes, bits, frame_bits]: [u64; 3], axis: u64, expression: &[u8]) -> (u64, [u64; 4], String) {
+    let (mut out, mut answer) = (vec![b'.'; expression.len()], [9; 4]);
+    let number = sweep(axes, bits, frame_bits, axis, expression, &mut out, &mut answer);
+    assert!(out[answer[3] as usize..].iter().all(|&byte| byte == b'.'));
+    (number, answer, String::from_utf8(out[..answer[3] as usize].to_vec()).unwrap())
+}
+
+#[test]
+fn sweeps_along_each_axis() {
+    // an expression of a universe; along each axis in turn, the universe and the symbols that are left
+    let cases: [([u64; 3], &[u8], &[([u64; 3], &str)]); 12] = [
+        ([2, 1, 2], b"(((WB(WWW", &[([1, 0, 2], "((WBW"), ([1, 0, 1], "(BW")]),
+        ([2, 2, 1], b"(((WW(BWW", &[([1, 0, 1], "(WB"), ([1, 0, 2], "((BWW")]),
+        ([3, 1, 2], b"((((WW(WW(B(WWW", &[([2, 1, 2], "(W(BW"), ([2, 1, 2], "((BWW"), ([2, 1, 1], "((WBW")]),
+        ([3, 2, 1], b"(W(W((W(BW((WW(BW", &[
+            ([2, 2, 1], "(W((BW(BW"), ([2, 2, 1], "(W((WB(WB"), ([2, 2, 2], "(W(W(W(BW"),
+        ]),
+        ([4, 1, 2], b"(((B((WW(WW(((WW(WBWW", &[
+            ([3, 1, 2], "((BW((W(WBW"), ([3, 1, 2], "((BWW"), ([3, 1, 2], "((B(W(WBW"), ([3, 1, 1], "(((BW(BWW"),
+        ]),
+        ([4, 2, 1], b"((W(((((WBW((WW(WW(((WW(WWB(BBW", &[
+            ([3, 2, 1], "(W((((WBWBB"), ([3, 2, 1], "(((((WBW(WBBW"), ([3, 2, 1], "((WBW"),
+            ([3, 2, 2], "((W((((WBWBBW"),
+        ]),
+        // no bits along the axis that is dropped, or along one that is left
+        ([2, 0, 2], b"((WBW", &[([1, 0, 2], "((WBW"), ([1, 0, 0], "B")]),
+        ([4, 0, 2], b"(W(BW", &[
+            ([3, 0, 2], "(W(BW"), ([3, 0, 2], "(W(BW"), ([3, 0, 2], "(W(BW"), ([3, 0, 0], "B"),
+        ]),
+        ([3, 2, 0], b"(((WBW(B(WW", &[([2, 2, 0], "(BW"), ([2, 2, 0], "((WBB"), ([2, 2, 2], "(((WBW(BW")]),
+        ([2, 2, 0], b"((WB(WW", &[([1, 0, 0], "B"), ([1, 0, 2], "((WBW")]),
+        ([3, 0, 0], b"B", &[([2, 0, 0], "B"), ([2, 0, 0], "B"), ([2, 0, 0], "B")]),
+        ([4, 10, 12], b"(W(WB", &[
+            ([3, 10, 12], "(WB"), ([3, 10, 12], "(WB"), ([3, 10, 12], "(W(WB"), ([3, 10, 10], "(W(WB"),
+        ]),
+    ];
+    for (universe, expression, along) in cases {
+        assert_eq!(along.len() as u64, universe[0]);
+        for (axis, &([axes, bits, frame_bits], symbols)) in (1..).zip(along) {
+            let answer = [axes, bits, frame_bits, symbols.len() as u64];
+            assert_eq!(swept(universe, axis, expression), (ACCEPTED, answer, symbols.to_string()));
+        }
+        for axis in [0, universe[0] + 1, u64::MAX] {
+            assert_eq!(swept(universe, axis, expression), (BAD_UNIVERSE, [0; 4], String::new()));
+        }
+    }
+}
+
+#[test]
+fn sweeps_of_movers() {
+    // rule 12.6: both trees of the scene sweep to everything, their intersection does not
+    for words in [ONE, TWO] {
+        let (raw, merged, _) = raw_text(2, &rows_of(&SCENE_ROWS), &words);
+        for expression in [raw, merged] {
+            assert_eq!(swept([2, 2, 2], 1, expression.as_bytes()), (ACCEPTED, [1, 0, 2, 1], "B".to_string()));
+        }
+    }
+    assert_eq!(swept([2, 2, 2], 1, SCENE_RAW), (ACCEPTED, [1, 0, 2, 7], "((WB(BW".to_string()));
+    // raw and merged alike; 2 before 7 before 6; one axis alone; room around the need
+    let unmerged = b"((WW(((WB(WW((BW(WW";
+    assert_eq!(swept([2, 2, 2], 1, unmerged), swept([2, 2, 2], 1, SCENE_RAW));
+    let into = |[axes, bits, frame_bits]: [u64; 3], axis, expression: &[u8], lent: usize| {
+        let (mut out, mut answer) = (vec![7; lent], [9; 4]);
+        (sweep(axes, bits, frame_bits, axis, expression, &mut out, &mut answer), answer, out)
+    };
+    assert_eq!(into([2, 2, 2], 0, b"(W", 0), (BAD_UNIVERSE, [0; 4], vec![]));
+    assert_eq!(into([2, 2, 2], 3, b"B", 1), (BAD_UNIVERSE, [0; 4], vec![7]));
+    assert_eq!(into([2, 11, 2], 1, b"B", 1), (BAD_UNIVERSE, [0; 4], vec![7]));
+    assert_eq!(into([1, 0, 2], 1, b"(WB", 3), (BAD_UNIVERSE, [0; 4], vec![7; 3]));
+    assert_eq!(into([2, 2, 2], 1, b"(W", 0), (BAD_EXPRESSION, [0; 4], vec![]));
+    assert_eq!(into([2, 2, 2], 1, SCENE_RAW, 6), (NO_ROOM, [0, 0, 0, 7], vec![7; 6]));
+    assert_eq!(into([2, 2, 2], 1, SCENE_RAW, 7), (ACCEPTED, [1, 0, 2, 7], b"((WB(BW".to_vec()));
+}
+
+#[test]
+fn sweeps_agree() {
+    let mut random = Random::new(14);
+    for _ in 0..2000 {
+        let given = generate::small_universe(&mut random, 9);
+        let ([axes, bits, frame_bits], universe) = (given, drawn(given));
+        let expression = generate::expression(&mut random, universe.levels());
+        let shape = shape_checked(&universe, &expression).unwrap();
+        for axis in 1..=axes {
+            let Ok(below) = without_axis(&universe, axis) else { continue };
+            let symbols = swept_by_voxels(&universe, &below, &shape, axis as usize - 1);
+            assert_eq!(swept_by_blocks(&universe, &below, &shape, axis as usize - 1), symbols);
+            assert!(symbols.len() <= expression.len() && is_merged(&symbols));
+            let mut out = vec![0; expression.len()];
+            let length = crate::fast::plain_sweep_fast(axes, bits, frame_bits, axis, &expression, &mut out);
+            assert_eq!((length, &out[..symbols.len()]), (Some(symbols.len()), &symbols[..]));
+        }
+    }
+}
+
+#[test]
+fn every_sweep_is_drawn() {
+    let mut random = Random::new(14);
+    let mut met = std::collections::BTreeSet::new();
+    for _ in 0..20_000 {
+        let generate::SweepCase { reading: case, axis } = generate::sweep(&mut random);
+        let [axes, bits, frame_bits] = [case.axes, case.bits, case.frame_bits];
+        let mut answer = [0; 4];
+        let mut out = vec![0; case.expression.len()];
+        match sweep(axes, bits, frame_bits, axis, &case.expression, &mut out, &mut answer) {
+            // along each axis, of some levels and of as many as there can be
+            ACCEPTED => met.insert((axes, axis, generate::levels([axes, bits, frame_bits]) == MOST_LEVELS)),
+            BAD_UNIVERSE if Universe::checked(axes, bits, frame_bits).is_ok() => met.insert((axes, axis.min(5), false)),
+            _ => false,
+        };
+    }
+    for axes in 2..=4 {
+        assert!((0..=axes + 1).all(|axis| met.contains(&(axes, axis, false))), "{met:?}");
+    }
+    assert!((1..=4).all(|axis| met.contains(&(4, axis, true))) && met.contains(&(1, 1, false)), "{met:?}");
+}
+
 #[test]
 fn case_12() {
     let v = [0.0; 3];

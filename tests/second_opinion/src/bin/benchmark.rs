@@ -8,6 +8,7 @@
 mod face;
 
 use second_opinion::fast::{plain_merged_fast, plain_numbers_fast, plain_raw_fast, plain_verdict_fast, Run};
+use second_opinion::fast::plain_sweep_fast;
 use second_opinion::generate::Random;
 use std::hint::black_box;
 use std::time::Instant;
@@ -392,6 +393,35 @@ fn reports(cases: &[Case], expressions: &[Vec<u8>], title: &str, copies: usize, 
     }
 }
 
+/// Expressions swept along the frame axis, into room as long as they are.
+fn sweeps(cases: &[Case], expressions: &[Vec<u8>], title: &str) {
+    let mut table = Table::new(title);
+    for (case, symbols) in cases.iter().zip(expressions) {
+        if symbols.len() < 200 {
+            continue;
+        }
+        let (axes, bits, frame_bits) = (case.axes, case.bits, case.frame_bits);
+        let (mut out, mut plain_out) = (vec![0; symbols.len()], vec![0; symbols.len()]);
+        let length = plain_sweep_fast(axes, bits, frame_bits, axes, symbols, &mut plain_out).expect("well-formed");
+        let times = best(
+            || {
+                let mut answer = [0; 4];
+                let number = face::sweep(axes, bits, frame_bits, axes, black_box(symbols), &mut out, &mut answer);
+                assert_eq!((number, answer[3] as usize), (0, length));
+                black_box(&out);
+            },
+            || {
+                let symbols = black_box(symbols);
+                assert_eq!(plain_sweep_fast(axes, bits, frame_bits, axes, symbols, &mut plain_out), Some(length));
+                black_box(&plain_out);
+            },
+        );
+        assert!(out == plain_out, "the sweeps differ");
+        table.row(case, symbols.len(), 1, times);
+    }
+    table.end();
+}
+
 fn verdict(cases: &[Case], raws: &[Vec<u8>], title: &str, exact: bool) {
     let mut table = Table::new(title);
     for (case, raw) in cases.iter().zip(raws) {
@@ -455,6 +485,8 @@ fn main() {
     let (long, few) = (10_000..usize::MAX, 1..200);
     reports(&cases, &raws, "A report on one long raw expression beside its numbers (per symbol)", 1, long);
     reports(&cases, &short, "A report on 256 short merged expressions beside their numbers (per symbol)", 256, few);
+    sweeps(&cases, &raws, "The raw expression swept along the frame axis (per symbol)");
+    sweeps(&cases, &short, "The merged expression swept along the frame axis (per symbol)");
     verdict(&cases, &raws, "Verdict on the middle half of the frames, room lent at the formula's size", false);
     verdict(&cases, &raws, "Verdict on the middle half of the frames, room lent for exactly the symbols", true);
 }
