@@ -13,7 +13,7 @@ use Rattle.universe.specs.declared.Universe.{Universe}
 use Rattle.universe.specs.Universe.{universeRefusal, levels, order, frameAxis, withoutAxis}
 use Rattle.universe.specs.Questions.{withoutAnswer}
 use Rattle.universe.specs.Voxel.{voxelRefusal}
-use Rattle.universe.proofs.Questions.{OneOf, one-of}
+use Rattle.universe.proofs.Questions.{OneOf, one-of, accepted-one}
 use Rattle.universe.proofs.Without.{without-accepted}
 use Rattle.bintree.specs.declared.Colour.{Colour}
 use Rattle.bintree.specs.declared.Colour.the-variants.{White, Black}
@@ -38,7 +38,7 @@ use Rattle.sweep.specs.Sweeping.{swept}
 use Rattle.sweep.specs.Voxels.{voxelOver, BlackOver, Sweeps}
 use Rattle.sweep.specs.Answers.{Ready, sweptRefusal, sweptShape, sweptSymbols, ofUniverse, sweptAnswer, sweptBuffer}
 use Rattle.sweep.proofs.Voxels.{merged-sweeps, merged-swept-deep, over-accepted}
-use Rattle.sweep.proofs.Answers.{no-longer, is-one}
+use Rattle.sweep.proofs.Answers.{no-longer}
 use Rattle.promises.specs.Shortest.{coloursOf, Says}
 use Rattle.promises.specs.Swept.{SaysSwept, SweptSpace}
 use Rattle.promises.proofs.Keeping.{first-accepts, colour-accepted, at-its-end}
@@ -144,7 +144,7 @@ module _ (u : Universe) (s : List ℕ) (axis : ℕ) (z : sweptRefusal u s axis �
   ready : Ready u s axis
   ready =
       let a = accepted-shape u s (checks .1) in
-      record { one = is-one u axis (checks .0); shape = a .0; reads = a .1 }
+      record { one = accepted-one u axis (checks .0); shape = a .0; reads = a .1 }
 
   one : OneOf u axis
   one = one-of u axis (ready .one)

@@ -1,8 +1,7 @@
--- What the functions of src/lib.rt answer and leave: one tree over the whole universe, the expression's, is swept; it is written where it fits, and it is no
--- longer
--- than the expression. Each law takes its premises in the form that code leaves them.
+-- What the functions of src/lib.rt answer and leave: one tree over the whole universe, the expression's, is swept; it is written where it fits, and it is
+-- no longer than the expression. Each law takes its premises in the form that code leaves them.
 use mathlib.Core.Path.{_≡_, refl, sym, ap, ap₂, subst, _∙_}
-use mathlib.Core.Bool.{Bool, true, false, cond}
+use mathlib.Core.Bool.{cond}
 use mathlib.Core.List.{List, [], _∷_}
 use Prim.Native.Nat.{ℕ, _-_, _≤_, _<_}
 use native.Mathlib.Omega.{arith}
@@ -13,9 +12,9 @@ use borrow.Author.Tests.{eq-eqb, ne-eqb}
 use Rattle.lemmas.proofs.Stores.{sets-first}
 use Rattle.universe.specs.declared.Universe.{Universe}
 use Rattle.universe.specs.Universe.{universeRefusal, levels, order}
-use Rattle.universe.specs.Questions.{levelsAnswer, axesLeft, isOneOf, noUniverse, withoutAnswer}
+use Rattle.universe.specs.Questions.{levelsAnswer, axesLeft, noUniverse, withoutAnswer}
 use Rattle.universe.proofs.Refusing.{last-check}
-use Rattle.universe.proofs.Questions.{OneOf, one-of, levels-told, without-refused}
+use Rattle.universe.proofs.Questions.{OneOf, one-of, levels-told, accepted-one}
 use Rattle.universe.proofs.Universes.{accepted, levels-few}
 use Rattle.bintree.specs.declared.Written.{Written}
 use Rattle.bintree.specs.Shape.{symbols, size}
@@ -147,14 +146,6 @@ module _ {u : Universe} {s : List ℕ} {axis : ℕ} (r : Ready u s axis) where
       pub measured-left : {now : List ℕ} → n ≤ length out → now ≡ sets out 0 (sweptSymbols u s axis) → now ≡ writtenBuffer 0 out (sweptSymbols u s axis)
       measured-left h = left (omega arith)
 
--- an axis is one of two or more where the universe without it is accepted
-pub is-one : (u : Universe) (axis : ℕ) → universeRefusal (withoutAnswer u axis) ≡ 0 → isOneOf u axis ≡ true
-is-one u axis e = go (isOneOf u axis) refl
-  where
-    go : (t : Bool) → isOneOf u axis ≡ t → isOneOf u axis ≡ true
-    go true f = f
-    go false f = absurd (omega (arith, e, without-refused u axis f))
-
 -- ---- `write_checked`: `number` is the check of the universe without the axis
 
 module _ (u : Universe) (s : List ℕ) (axis number : ℕ) (e : number ≡ universeRefusal (withoutAnswer u axis)) (out : List ℕ) where
@@ -171,7 +162,7 @@ module _ (u : Universe) (s : List ℕ) (axis number : ℕ) (e : number ≡ unive
 
   module _ (z : number ≡ 0) where
     fine : universeRefusal u ≡ 0
-    fine = one-of u axis (is-one u axis (sym e ∙ z)) .fine
+    fine = one-of u axis (accepted-one u axis (sym e ∙ z)) .fine
 
     module _ {seven : ℕ} (f : seven ≡ wellFormedRefusal u s) where
       seven-is : seven ≡ expressionRefusal u s
@@ -195,7 +186,7 @@ module _ (u : Universe) (s : List ℕ) (axis number : ℕ) (e : number ≡ unive
           where
             go : (x : Reading) → expression u s ≡ x → Ready u s axis
             go none g = absurd (omega (arith, seven-is, none-refused u s g))
-            go (read a) g = record { one = is-one u axis (sym e ∙ z); shape = a; reads = g }
+            go (read a) g = record { one = accepted-one u axis (sym e ∙ z); shape = a; reads = g }
 
         pub checked-answer : {answer : Written} → answer ≡ writtenAnswer 0 out (sweptSymbols u s axis) →
             answer ≡ writtenAnswer (sweptRefusal u s axis) out (sweptSymbols u s axis)

@@ -8,7 +8,7 @@ use Prim.Native.Nat.{ℕ, suc, _+_, _-_, _^_, _≤_, _<_}
 use native.Mathlib.Omega.{arith}
 use lib.Dec.{eqb}
 use lib.ListN.{length, getD, drop, set, length-set, drop-of-length-le}
-use lib.Seq.{drop-cons}
+use lib.Seq.{drop-cons, getD-set-other}
 use borrow.Author.Needs.{needs}
 use borrow.Author.Tests.{eq-eqb, ne-eqb}
 use Rattle.bintree.specs.declared.Colour.the-variants.{White, Black}
@@ -169,3 +169,50 @@ pub ruleset settle-laws = (needs, slot-fits, slot-inside, slot-few, settling-fir
 -- a store keeps the number of slots
 pub kept-length : (o work : List ℕ) (i x : ℕ) → length o ≡ length (set work i x) → length o ≡ length work
 kept-length o work i x e = e ∙ length-set work i x
+
+-- ---- loops that write slots: i of n are done, and the others hold what they held, places inside the text
+
+pub record Writing (s before : List ℕ) (from n : ℕ) (work : List ℕ) (i : ℕ) : Type 0 where
+  pub asks : Inside s before from n
+  pub few : i ≤ n
+  pub long : length work ≡ length before
+  pub same : (k : ℕ) → i ≤ k → k < n → getD work (from + k) 0 ≡ getD before (from + k) 0
+
+pub writing-first : (s before : List ℕ) (from n : ℕ) → Inside s before from n → Writing s before from n before 0
+writing-first s before from n w = record { asks = w; few = omega arith; long = refl; same = λ k l m. refl }
+
+module _ {s before : List ℕ} {from n : ℕ} {work : List ℕ} {i : ℕ} (g : Writing s before from n work i) where
+  pub writing-long : length work ≡ length before
+  writing-long = g .long
+
+  module _ (h : i < n) where
+    pub writing-slot : from + i < length work
+    writing-slot = omega (arith, g .long, g .asks .slots-fit)
+
+    pub writing-slot-few : length work < 2 ^ 64 → from + i < 2 ^ 64
+    writing-slot-few l = omega (arith, writing-slot)
+
+    pub writing-inside : getD work (from + i) 0 < length s
+    writing-inside = rw (g .same i (omega arith) h) (g .asks .inside i h)
+
+    pub writing-place : length s < 2 ^ 64 → getD work (from + i) 0 + 1 < 2 ^ 64
+    writing-place l = omega (arith, writing-inside)
+
+    -- the slots still to come begin with the one at hand
+    pub writing-begins : slots before (from + i) (n - i) ≡ getD work (from + i) 0 ∷ slots before (from + (i + 1)) (n - (i + 1))
+    writing-begins =
+        next-slot before from n i (g .asks .slots-fit) h ∙ ap (λ p. p ∷ slots before (from + (i + 1)) (n - (i + 1))) (sym (g .same i (omega arith) h))
+
+    -- a turn that writes another slot, or one that is done with, or none
+    pub writing-next : (at x : ℕ) → ((k : ℕ) → i + 1 ≤ k → k < n → from + k ≡ at → ⊥) → Writing s before from n (set work at x) (i + 1)
+    writing-next at x other = record {
+      asks = g .asks;
+      few = omega arith;
+      long = length-set work at x ∙ g .long;
+      same = λ k l m. getD-set-other work at (from + k) x 0 (other k l m) ∙ g .same k (omega arith) m;
+    }
+
+    pub writing-on : Writing s before from n work (i + 1)
+    writing-on = record { asks = g .asks; few = omega arith; long = g .long; same = λ k l m. g .same k (omega arith) m }
+
+pub ruleset writing-laws = (needs, writing-first, writing-long, writing-slot, writing-slot-few, writing-inside, writing-place, counting-less, kept-length)

@@ -1,7 +1,7 @@
 -- Rule 12.7: how many symbols a pass over an expression reads at the most, by what stands over each block of the
--- result. The first symbols of a list are looked at for what they come to; where that is one colour, each tree is read to
--- its end. Else they are looked at for the low halves and on the way back, and at a level of the dropped axis each low
--- half is read to its end, where its high half begins.
+-- result. The first symbols of a list are looked at for what they come to; where that is one colour, each tree is read
+-- to its end. Else they are looked at for the low halves and on the way back, and at a level of the dropped axis each
+-- low half is read to its end, where its high half begins.
 use Prim.Native.Nat.{ℕ, _+_, _*_}
 use mathlib.Core.Bool.{Bool, true, false, cond}
 use mathlib.Core.List.{List, [], _∷_, _++_}

@@ -191,6 +191,13 @@ module _ (u : Universe) (axis : ℕ) where
   unfolding universeRefusal
   without-refused e = rw (← without-none e)
 
+  pub accepted-one : universeRefusal (withoutAnswer u axis) ≡ 0 → isOneOf u axis ≡ true
+  accepted-one e = go (isOneOf u axis) refl
+    where
+      go : (t : Bool) → isOneOf u axis ≡ t → isOneOf u axis ≡ true
+      go true f = f
+      go false f = absurd (omega (arith, e, without-refused f))
+
 pub bits-none : (u : Universe) → u .axes ≤ 2 → 0 ≡ cond (leb (u .axes) 2) 0 (u .bits)
 bits-none u h = rw (le-leb (u .axes) 2 h)
 

@@ -2,7 +2,6 @@
 use Rattle.reader.proofs.Symbols.{held-laws}
 use Rattle.reader.proofs.held.Statement.{statement}
 use Rattle.reader.proofs.held.Tie as tie
-use Rattle.reader.proofs.refusal.Reads as refusal-reads
 
 pub held-spec : {M : Type 1} → statement M
 held-spec =

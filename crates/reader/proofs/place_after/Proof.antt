@@ -3,7 +3,6 @@ use native.Mathlib.Omega.{arith}
 use Rattle.reader.proofs.Symbols.{place-inside, place-moves, place-laws}
 use Rattle.reader.proofs.place_after.Statement.{statement}
 use Rattle.reader.proofs.place_after.Tie as tie
-use Rattle.reader.proofs.symbol_at.Reads as symbol-at-reads
 
 pub place-after-spec : {M : Type 1} → statement M
 place-after-spec =

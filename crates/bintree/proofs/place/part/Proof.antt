@@ -3,7 +3,6 @@ use native.Mathlib.Omega.{arith}
 use Rattle.bintree.proofs.Places.{cut-within, part-laws}
 use Rattle.bintree.proofs.place.part.Statement.{statement}
 use Rattle.bintree.proofs.place.part.Tie as tie
-use Rattle.bintree.proofs.place.part_place.Reads as part-place-reads
 
 pub part-spec : {M : Type 1} → statement M
 part-spec =

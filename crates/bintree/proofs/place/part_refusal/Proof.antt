@@ -2,7 +2,6 @@
 use Rattle.bintree.proofs.Places.{place-laws}
 use Rattle.bintree.proofs.place.part_refusal.Statement.{statement}
 use Rattle.bintree.proofs.place.part_refusal.Tie as tie
-use Rattle.bintree.proofs.place.part_place.Reads as part-place-reads
 
 pub part-refusal-spec : {M : Type 1} → statement M
 part-refusal-spec = tie.close (tie.spec (λ c κs. search place-laws) (λ c. search place-laws))
