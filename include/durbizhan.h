@@ -181,6 +181,24 @@ uint64_t durbizhan_sweep(uint64_t axes, uint64_t bits, uint64_t frame_bits,
                          uint8_t *out, size_t out_count,
                          uint64_t answer[4]);
 
+/* The octree of a raw or merged expression of three axes with equal bits (frame_bits equal to bits), into out: preorder
+ * symbols `P` for partly full, followed by its eight sons in the order 4x + 2y + z of their halves, `F` for full and `E`
+ * for empty, with no `P` whose eight sons are all `F` or all `E`. answer: the length written, or needed on NO_ROOM. It is
+ * shorter than four times the expression, so a buffer four times as long is never refused NO_ROOM. Refusals in this
+ * order: BAD_UNIVERSE, also where there are not three axes or the bits differ; BAD_EXPRESSION; NO_ROOM. */
+uint64_t durbizhan_octree_export(uint64_t axes, uint64_t bits, uint64_t frame_bits,
+                                 const uint8_t *expression, size_t expression_count,
+                                 uint8_t *out, size_t out_count,
+                                 uint64_t answer[1]);
+
+/* The merged expression of such an octree, reduced or not, into out. A `P` has exactly eight sons, and none stands below
+ * as many levels as there are bits; anything else is BAD_EXPRESSION. answer: the length written, or needed on NO_ROOM. It
+ * is shorter than twice the octree, so a buffer twice as long is never refused NO_ROOM. Refusals as above. */
+uint64_t durbizhan_octree_import(uint64_t axes, uint64_t bits, uint64_t frame_bits,
+                                 const uint8_t *octree, size_t octree_count,
+                                 uint8_t *out, size_t out_count,
+                                 uint64_t answer[1]);
+
 /* The merged expression of a raw or merged one, into out. answer: the length written, or needed on NO_ROOM; and held,
  * the most symbols that merging holds back while it receives the expression: of the merged text so far, those after its
  * longest beginning that no legal continuation changes. It is at most twice the levels, and 0 on every refusal. */

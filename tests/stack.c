@@ -111,6 +111,16 @@ static void sweep(void)
     number = durbizhan_sweep(axes, bits, frame_bits, axis, bytes, bytes_count, out, lent, answer);
 }
 
+static void octree_export(void)
+{
+    number = durbizhan_octree_export(axes, bits, frame_bits, bytes, bytes_count, out, lent, answer);
+}
+
+static void octree_import(void)
+{
+    number = durbizhan_octree_import(axes, bits, frame_bits, bytes, bytes_count, out, lent, answer);
+}
+
 static void part(void)
 {
     number = durbizhan_part(axes, bits, frame_bits, bytes, bytes_count, path, path_count, answer);
@@ -346,6 +356,57 @@ static void sweeps(void)
     end();
 }
 
+/* The calls of octrees: the deepest cube of the largest universe that has any, with room for exactly its symbols and for
+ * one fewer too, what is written read back, and a universe that has none. */
+static void octrees(void)
+{
+    begin("durbizhan_octree_export");
+    axes = 3;
+    bits = frame_bits = BITS;
+    bytes_count = 0;
+    for (int level = 0; level < 3 * BITS; level++) {
+        bytes[bytes_count++] = '(';
+        bytes[bytes_count++] = 'W';
+    }
+    bytes[bytes_count++] = 'B';
+    lent = 0;
+    take(octree_export, DURBIZHAN_NO_ROOM);
+    lent = answer[0];
+    take(octree_export, DURBIZHAN_ACCEPTED);
+    expect("symbols of the deepest cube", answer[0], 8 * BITS + 1);
+    lent--;
+    take(octree_export, DURBIZHAN_NO_ROOM);
+    lent = 4 * bytes_count;
+    take(octree_export, DURBIZHAN_ACCEPTED);
+    axes = 4;
+    take(octree_export, DURBIZHAN_BAD_UNIVERSE);
+    axes = 3;
+    bytes[0] = 'F';
+    take(octree_export, DURBIZHAN_BAD_EXPRESSION);
+    end();
+    begin("durbizhan_octree_import");
+    bytes_count = 8 * BITS + 1;
+    memset(bytes, 'E', bytes_count);
+    memset(bytes, 'P', BITS);
+    lent = 0;
+    take(octree_import, DURBIZHAN_NO_ROOM);
+    expect("one solid", answer[0], 1);
+    bytes[BITS] = 'F';
+    take(octree_import, DURBIZHAN_NO_ROOM);
+    lent = answer[0];
+    take(octree_import, DURBIZHAN_ACCEPTED);
+    lent--;
+    take(octree_import, DURBIZHAN_NO_ROOM);
+    lent = 2 * bytes_count;
+    take(octree_import, DURBIZHAN_ACCEPTED);
+    axes = 4;
+    take(octree_import, DURBIZHAN_BAD_UNIVERSE);
+    axes = 3;
+    bytes_count--;
+    take(octree_import, DURBIZHAN_BAD_EXPRESSION);
+    end();
+}
+
 /* The low bytes of a number, behind what stands in `bytes`. */
 static void put(uint64_t value, int length)
 {
@@ -520,6 +581,7 @@ int main(void)
     expect("held of the deepest run", answer[1], 2 * LEVELS);
     end();
     sweeps();
+    octrees();
     scenes("durbizhan_scene", read_scene, DURBIZHAN_ACCEPTED);
     scenes("durbizhan_lines", lines, DURBIZHAN_NO_ROOM);
     shapes();

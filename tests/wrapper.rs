@@ -16,6 +16,7 @@ const NUMBERS: &[u64] = &[0, 2, 7, 9];
 const REPORT: &[u64] = &[0, 2, 6, 7, 9];
 const MERGE: &[u64] = &[0, 2, 6, 7];
 const SWEEP: &[u64] = &[0, 2, 6, 7];
+const OCTREE: &[u64] = &[0, 2, 6, 7];
 const SCENE: &[u64] = &[0, 1, 2, 3, 4, 5, 9];
 const MERGED_ONE: &[u64] = &[0, 2, 3, 4, 5, 6];
 const SHAPE_WRITE: &[u64] = &[0, 2, 6, 7, 8];
@@ -342,6 +343,57 @@ fn sweeps() -> Vec<u64> {
     cases.map(|case| case.0).to_vec()
 }
 
+fn octree_exports() -> Vec<u64> {
+    let cases: [(u64, [u64; 3], &[u8], usize); 12] = [
+        (0, [3, 0, 0], b"B", 1),
+        (0, [3, 1, 1], b"(BW", 9),
+        (0, [3, 2, 2], b"((BWW", 20),
+        (0, [3, 10, 10], b"(BB", 1),
+        (2, [2, 1, 1], b"B", 1),
+        (2, [4, 1, 1], b"(", 0),
+        (2, [3, 1, 2], b"B", 1),
+        (2, [3, 11, 11], b"B", 1),
+        (6, [3, 1, 1], b"(BW", 8),
+        (6, [3, 1, 1], b"B", 0),
+        (7, [3, 1, 1], b"", 0),
+        (7, [3, 1, 1], b"((((BWWWW", 9),
+    ];
+    for (wanted, [axes, bits, frame_bits], symbols, lent) in cases {
+        let [mut room, mut other_room] = [vec![b'.'; lent], vec![b'.'; lent]];
+        let mut answer = [u64::MAX; 1];
+        let number = face::octree_export(axes, bits, frame_bits, symbols, &mut other_room, &mut answer);
+        let wrapped = durbizhan::octree_export(Universe { axes, bits, frame_bits }, symbols, &mut room);
+        held("octree_export", wanted, number, (wrapped, room), (length_of(number, answer), other_room));
+    }
+    cases.map(|case| case.0).to_vec()
+}
+
+fn octree_imports() -> Vec<u64> {
+    let cases: [(u64, [u64; 3], &[u8], usize); 13] = [
+        (0, [3, 0, 0], b"F", 1),
+        (0, [3, 1, 1], b"PFEEEEEEE", 7),
+        (0, [3, 1, 1], b"PFFFFFFFF", 20),
+        (0, [3, 10, 10], b"PFEEEEEEE", 18),
+        (2, [2, 1, 1], b"F", 1),
+        (2, [4, 1, 1], b"P", 0),
+        (2, [3, 2, 1], b"F", 1),
+        (2, [3, 11, 11], b"F", 1),
+        (6, [3, 1, 1], b"PFEEEEEEE", 6),
+        (6, [3, 1, 1], b"F", 0),
+        (7, [3, 0, 0], b"PFFFFFFFF", 9),
+        (7, [3, 1, 1], b"PFFFFFFF", 9),
+        (7, [3, 1, 1], b"", 0),
+    ];
+    for (wanted, [axes, bits, frame_bits], symbols, lent) in cases {
+        let [mut room, mut other_room] = [vec![b'.'; lent], vec![b'.'; lent]];
+        let mut answer = [u64::MAX; 1];
+        let number = face::octree_import(axes, bits, frame_bits, symbols, &mut other_room, &mut answer);
+        let wrapped = durbizhan::octree_import(Universe { axes, bits, frame_bits }, symbols, &mut room);
+        held("octree_import", wanted, number, (wrapped, room), (length_of(number, answer), other_room));
+    }
+    cases.map(|case| case.0).to_vec()
+}
+
 fn scene_files() -> Vec<u64> {
     let mut cases: Vec<_> = scenes().into_iter().map(|(wanted, scene)| (wanted, scene.file())).collect();
     cases.extend([(1, vec![]), (1, b"HSC".to_vec())]);
@@ -455,6 +507,8 @@ fn main() {
         (REPORT, reports()),
         (MERGE, merges()),
         (SWEEP, sweeps()),
+        (OCTREE, octree_exports()),
+        (OCTREE, octree_imports()),
         (SCENE, scene_files()),
         (MERGED_ONE, mergeds()),
         (SHAPE_WRITE, shape_files()),

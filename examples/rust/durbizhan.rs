@@ -72,6 +72,28 @@ mod face {
             answer: *mut [u64; 4],
         ) -> u64;
 
+        pub fn durbizhan_octree_export(
+            axes: u64,
+            bits: u64,
+            frame_bits: u64,
+            expression: *const u8,
+            expression_count: usize,
+            out: *mut u8,
+            out_count: usize,
+            answer: *mut [u64; 1],
+        ) -> u64;
+
+        pub fn durbizhan_octree_import(
+            axes: u64,
+            bits: u64,
+            frame_bits: u64,
+            octree: *const u8,
+            octree_count: usize,
+            out: *mut u8,
+            out_count: usize,
+            answer: *mut [u64; 1],
+        ) -> u64;
+
         pub fn durbizhan_merge(
             axes: u64,
             bits: u64,
@@ -343,6 +365,52 @@ pub fn sweep(universe: Universe, expression: &[u8], axis: u64, out: &mut [u8]) -
         return Err(Refused { number, needed: length });
     }
     Ok(Swept { universe: Universe { axes, bits, frame_bits }, length: length as usize })
+}
+
+/// The octree of an expression of three axes with equal bits, with no `P` whose eight sons are all `F` or all `E`,
+/// written at the front of `out`: its length. Room four times as long as the expression always suffices.
+pub fn octree_export(universe: Universe, expression: &[u8], out: &mut [u8]) -> Result<usize, Refused> {
+    let mut answer = [0; 1];
+    let number = unsafe {
+        face::durbizhan_octree_export(
+            universe.axes,
+            universe.bits,
+            universe.frame_bits,
+            expression.as_ptr(),
+            expression.len(),
+            out.as_mut_ptr(),
+            out.len(),
+            &mut answer,
+        )
+    };
+    let [length] = answer;
+    if number != ACCEPTED {
+        return Err(Refused { number, needed: length });
+    }
+    Ok(length as usize)
+}
+
+/// The merged expression of such an octree, reduced or not, written at the front of `out`: its length. Room twice as long
+/// as the octree always suffices.
+pub fn octree_import(universe: Universe, octree: &[u8], out: &mut [u8]) -> Result<usize, Refused> {
+    let mut answer = [0; 1];
+    let number = unsafe {
+        face::durbizhan_octree_import(
+            universe.axes,
+            universe.bits,
+            universe.frame_bits,
+            octree.as_ptr(),
+            octree.len(),
+            out.as_mut_ptr(),
+            out.len(),
+            &mut answer,
+        )
+    };
+    let [length] = answer;
+    if number != ACCEPTED {
+        return Err(Refused { number, needed: length });
+    }
+    Ok(length as usize)
 }
 
 /// The merged expression of an expression, written at the front of `out`.

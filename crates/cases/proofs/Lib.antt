@@ -6,3 +6,4 @@ pub mod FrameBits
 pub mod Reports
 pub mod Balls
 pub mod Swept
+pub mod Octrees

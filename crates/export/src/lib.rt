@@ -4,6 +4,7 @@
 pub mod conversions;
 pub mod documents;
 pub mod expressions;
+pub mod octrees;
 pub mod proxies;
 pub mod reports;
 pub mod sweeps;

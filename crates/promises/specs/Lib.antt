@@ -7,3 +7,4 @@ pub mod Centres
 pub mod Faces
 pub mod CutFromItself
 pub mod Swept
+pub mod Octrees

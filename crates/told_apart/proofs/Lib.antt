@@ -7,6 +7,7 @@ pub mod OfReader
 pub mod OfReport
 pub mod OfConvert
 pub mod OfSweep
+pub mod OfOctree
 pub mod OfFiles
 pub mod OfLines
 pub mod OfStandin

@@ -71,6 +71,12 @@ durbizhan-merge w _ _ = ((tt, refl), λ _ _ _ _ _. three w (λ p q. (same (p .0)
 pub durbizhan-sweep : (w : World) → TellsApart w export.sweeps.durbizhan_sweep.ended export.sweeps.durbizhan_sweep.clauses
 durbizhan-sweep w _ _ = ((tt, refl), λ _ _ _ _ _. three w (λ p q. (same (p .0) (q .0), λ i. behind 5 (same (p .2) (q .2) i, (same (p .1) (q .1) i, tt)))))
 
+pub durbizhan-octree-export : (w : World) → TellsApart w export.octrees.durbizhan_octree_export.ended export.octrees.durbizhan_octree_export.clauses
+durbizhan-octree-export w _ _ = ((tt, refl), λ _ _ _ _ _. three w (λ p q. (same (p .0) (q .0), λ i. behind 4 (same (p .2) (q .2) i, (same (p .1) (q .1) i, tt)))))
+
+pub durbizhan-octree-import : (w : World) → TellsApart w export.octrees.durbizhan_octree_import.ended export.octrees.durbizhan_octree_import.clauses
+durbizhan-octree-import w _ _ = ((tt, refl), λ _ _ _ _ _. three w (λ p q. (same (p .0) (q .0), λ i. behind 4 (same (p .2) (q .2) i, (same (p .1) (q .1) i, tt)))))
+
 pub durbizhan-box : (w : World) → TellsApart w export.proxies.durbizhan_box.ended export.proxies.durbizhan_box.clauses
 durbizhan-box w _ _ = ((tt, refl), λ _ _ _ _ _. two w (λ p q. (same (p .0) (q .0), λ i. behind 9 (same (p .1) (q .1) i, tt))))
 

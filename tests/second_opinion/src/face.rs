@@ -57,6 +57,14 @@ mod c {
             axes: u64, bits: u64, frame_bits: u64, axis: u64, expression: *const u8, expression_count: usize,
             out: *mut u8, out_count: usize, answer: *mut [u64; 4],
         ) -> u64;
+        pub fn durbizhan_octree_export(
+            axes: u64, bits: u64, frame_bits: u64, expression: *const u8, expression_count: usize, out: *mut u8,
+            out_count: usize, answer: *mut [u64; 1],
+        ) -> u64;
+        pub fn durbizhan_octree_import(
+            axes: u64, bits: u64, frame_bits: u64, octree: *const u8, octree_count: usize, out: *mut u8,
+            out_count: usize, answer: *mut [u64; 1],
+        ) -> u64;
         pub fn durbizhan_merge(
             axes: u64, bits: u64, frame_bits: u64, expression: *const u8, expression_count: usize, out: *mut u8,
             out_count: usize, answer: *mut [u64; 2],
@@ -212,6 +220,26 @@ pub fn sweep(
     unsafe {
         c::durbizhan_sweep(
             axes, bits, frame_bits, axis, expression.as_ptr(), expression.len(), out.as_mut_ptr(), out.len(), answer,
+        )
+    }
+}
+
+pub fn octree_export(
+    axes: u64, bits: u64, frame_bits: u64, expression: &[u8], out: &mut [u8], answer: &mut [u64; 1],
+) -> u64 {
+    unsafe {
+        c::durbizhan_octree_export(
+            axes, bits, frame_bits, expression.as_ptr(), expression.len(), out.as_mut_ptr(), out.len(), answer,
+        )
+    }
+}
+
+pub fn octree_import(
+    axes: u64, bits: u64, frame_bits: u64, octree: &[u8], out: &mut [u8], answer: &mut [u64; 1],
+) -> u64 {
+    unsafe {
+        c::durbizhan_octree_import(
+            axes, bits, frame_bits, octree.as_ptr(), octree.len(), out.as_mut_ptr(), out.len(), answer,
         )
     }
 }

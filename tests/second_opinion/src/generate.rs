@@ -716,6 +716,60 @@ pub fn sweep(random: &mut Random) -> SweepCase {
     SweepCase { reading, axis }
 }
 
+/// A universe for octrees: most have three axes with equal bits.
+fn cubes(random: &mut Random) -> [u64; 3] {
+    if random.chance(10) {
+        return universe(random, 8);
+    }
+    let bits = random.pick(&[0, 1, 1, 2, 2, 2, 3, 3, 4, 5, MOST_BITS, MOST_BITS + 1]);
+    let frame_bits = if random.chance(5) { bits + 1 } else { bits };
+    [3, bits, frame_bits]
+}
+
+/// An expression to export.
+pub fn cube_expression(random: &mut Random) -> ReadingCase {
+    let universe = cubes(random);
+    reading_in(random, universe)
+}
+
+fn octree(random: &mut Random, levels: u64, alike: u64, symbols: &mut Vec<u8>) {
+    if levels == 0 || random.chance(40) {
+        symbols.push(random.pick(b"FE"));
+        return;
+    }
+    symbols.push(b'P');
+    if random.chance(alike) {
+        let solid = random.pick(b"FE");
+        symbols.extend([solid; 8]);
+        return;
+    }
+    for _ in 0..8 {
+        octree(random, levels - 1, alike, symbols);
+    }
+}
+
+/// An octree to import, reduced or not, at times damaged: a symbol more or fewer, another one, or a `P` too deep.
+pub fn cube_octree(random: &mut Random) -> ReadingCase {
+    let [axes, bits, frame_bits] = cubes(random);
+    let mut symbols = Vec::new();
+    octree(random, bits.min(4), 20, &mut symbols);
+    if random.chance(25) {
+        let place = random.place(symbols.len());
+        match random.below(5) {
+            0 => symbols[place] = random.pick(b"PFEBW(\0x"),
+            1 => symbols.truncate(place),
+            2 => symbols.push(random.pick(b"PFE")),
+            3 => {
+                symbols.remove(place);
+            }
+            _ => {
+                symbols.splice(place..=place, *b"PFFFFEEEE");
+            }
+        }
+    }
+    ReadingCase { axes, bits, frame_bits, expression: symbols }
+}
+
 /// A path in the universe.
 pub fn path(random: &mut Random, levels: usize) -> Vec<u8> {
     let length = if random.chance(20) { levels } else { random.place(levels + 1) };

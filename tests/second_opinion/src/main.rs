@@ -464,6 +464,13 @@ fn sweeps(line: &mut Line, random: &mut Random) {
 /// Merging and shape writing: an expression in, bytes out, and an answer that begins with their length.
 fn rewriting<const N: usize>(line: &mut Line, random: &mut Random, plain: Rewrite<N>, library: Rewrite<N>) {
     let case = generate::reading(random);
+    rewritten(line, random, case, plain, library);
+}
+
+/// The same of bytes that were drawn for it.
+fn rewritten<const N: usize>(
+    line: &mut Line, random: &mut Random, case: generate::ReadingCase, plain: Rewrite<N>, library: Rewrite<N>,
+) {
     let mut need = [0; N];
     plain(case.axes, case.bits, case.frame_bits, &case.expression, &mut [], &mut need);
     let lent = generate::room(random, need[0]);
@@ -606,6 +613,14 @@ const ENTRY_POINTS: &[(&str, u64, &[u64], Compare)] = &[
     ("durbizhan_colour", 2000, READING_AT, colours),
     ("durbizhan_part", 2000, READING_AT, parts),
     ("durbizhan_sweep", 1000, MERGING, sweeps),
+    ("durbizhan_octree_export", 1000, MERGING, |l, r| {
+        let case = generate::cube_expression(r);
+        rewritten(l, r, case, plain::octree_export, face::octree_export)
+    }),
+    ("durbizhan_octree_import", 1000, MERGING, |l, r| {
+        let case = generate::cube_octree(r);
+        rewritten(l, r, case, plain::octree_import, face::octree_import)
+    }),
     ("durbizhan_merge", 2000, MERGING, |l, r| rewriting(l, r, plain::merge, face::merge)),
     ("durbizhan_scene", 1000, SCENE, scenes),
     ("durbizhan_lines", 100, PROGRAM, lines),

@@ -1374,6 +1374,141 @@ pub fn sweep(
     }
 }
 
+/// A universe of cubes (rule 13.1): three axes with equal bits.
+fn cube_checked(axes: u64, bits: u64, frame_bits: u64) -> Answer<Universe> {
+    let universe = Universe::checked(axes, bits, frame_bits)?;
+    if universe.axes != 3 || universe.bits != universe.frame_bits {
+        return refused(BAD_UNIVERSE);
+    }
+    Ok(universe)
+}
+
+/// An octree: a solid that is full or empty, or eight sons.
+pub enum Cube {
+    Solid(bool),
+    Parted(Vec<Cube>),
+}
+
+/// The octree of at most so many levels that begins at a place, and the place past it (rule 13.2).
+fn cube_at(symbols: &[u8], mut place: usize, levels: u32) -> Option<(Cube, usize)> {
+    match symbols.get(place)? {
+        b'F' => Some((Cube::Solid(true), place + 1)),
+        b'E' => Some((Cube::Solid(false), place + 1)),
+        b'P' if levels > 0 => {
+            place += 1;
+            let mut sons = Vec::new();
+            for _ in 0..8 {
+                let (son, past) = cube_at(symbols, place, levels - 1)?;
+                sons.push(son);
+                place = past;
+            }
+            Some((Cube::Parted(sons), place))
+        }
+        _ => None,
+    }
+}
+
+/// Whether an octree is full at a voxel (rule 13.3).
+fn full_at(cube: &Cube, levels: u32, voxel: &[i64; 4]) -> bool {
+    match cube {
+        Cube::Solid(full) => *full,
+        Cube::Parted(sons) => {
+            let half = |axis: usize| (voxel[axis] >> (levels - 1) & 1) as usize;
+            full_at(&sons[4 * half(0) + 2 * half(1) + half(2)], levels - 1, voxel)
+        }
+    }
+}
+
+/// The eight sons' symbols as one cube's: one solid where they are all `F` or all `E` (rule 13.4).
+fn cube_of(sons: [Vec<u8>; 8]) -> Vec<u8> {
+    for solid in [b"F", b"E"] {
+        if sons.iter().all(|son| son == solid) {
+            return solid.to_vec();
+        }
+    }
+    [vec![b'P'], sons.concat()].concat()
+}
+
+/// The reduced octree from the colours at the voxels.
+fn octree_by_voxels(universe: &Universe, shape: &Shape, low: [i64; 4], levels: u32) -> Vec<u8> {
+    if levels == 0 {
+        return if black_at(universe, shape, &low) { b"F".to_vec() } else { b"E".to_vec() };
+    }
+    let side = 1 << (levels - 1);
+    let son = |i: i64| [low[0] + (i >> 2 & 1) * side, low[1] + (i >> 1 & 1) * side, low[2] + (i & 1) * side, 0];
+    cube_of([0, 1, 2, 3, 4, 5, 6, 7].map(|i| octree_by_voxels(universe, shape, son(i), levels - 1)))
+}
+
+/// The half of a shape; a leaf is its own.
+fn half_of(shape: &Shape, high: bool) -> &Shape {
+    match &shape.kind {
+        Kind::Halved(low, up) => if high { up } else { low },
+        _ => shape,
+    }
+}
+
+/// The reduced octree from the parts of a shape: three halvings, along x, y and z, are eight sons (rule 13.5).
+fn octree_by_parts(shape: &Shape) -> Vec<u8> {
+    match shape.kind {
+        Kind::Black => b"F".to_vec(),
+        Kind::White => b"E".to_vec(),
+        Kind::Halved(..) => cube_of([0, 1, 2, 3, 4, 5, 6, 7].map(|i: u8| {
+            octree_by_parts(half_of(half_of(half_of(shape, i & 4 != 0), i & 2 != 0), i & 1 != 0))
+        })),
+    }
+}
+
+/// The raw expression of an octree: a `P` is seven halved blocks.
+fn spell_cube(cube: &Cube, symbols: &mut Vec<u8>) {
+    match cube {
+        Cube::Solid(full) => symbols.push(if *full { b'B' } else { b'W' }),
+        Cube::Parted(sons) => {
+            for (i, son) in sons.iter().enumerate() {
+                symbols.extend_from_slice([&b"((("[..], b"", b"(", b"", b"((", b"", b"(", b""][i]);
+                spell_cube(son, symbols);
+            }
+        }
+    }
+}
+
+pub fn octree_export(
+    axes: u64, bits: u64, frame_bits: u64, expression: &[u8], out: &mut [u8], answer: &mut [u64; 1],
+) -> u64 {
+    let mut judge = || -> Answer<u64> {
+        let universe = cube_checked(axes, bits, frame_bits)?;
+        let shape = shape_checked(&universe, expression)?;
+        let octree = if universe.is_small() {
+            octree_by_voxels(&universe, &shape, [0; 4], universe.bits)
+        } else {
+            octree_by_parts(&shape)
+        };
+        delivered(&octree, out)
+    };
+    length_answer(judge(), answer)
+}
+
+pub fn octree_import(
+    axes: u64, bits: u64, frame_bits: u64, octree: &[u8], out: &mut [u8], answer: &mut [u64; 1],
+) -> u64 {
+    let mut judge = || -> Answer<u64> {
+        let universe = cube_checked(axes, bits, frame_bits)?;
+        let cube = match cube_at(octree, 0, universe.bits) {
+            Some((cube, past)) if past == octree.len() => cube,
+            _ => return refused(BAD_EXPRESSION),
+        };
+        let mut symbols = Vec::new();
+        if universe.is_small() {
+            let colour =
+                |block: &Block| (block.level == universe.levels()).then(|| full_at(&cube, universe.bits, &block.low));
+            spell(&universe, &Block::whole(&universe), &colour, &mut symbols);
+        } else {
+            spell_cube(&cube, &mut symbols);
+        }
+        delivered(&merged_by_replacement(&symbols), out)
+    };
+    length_answer(judge(), answer)
+}
+
 pub fn merge(axes: u64, bits: u64, frame_bits: u64, expression: &[u8], out: &mut [u8], answer: &mut [u64; 2]) -> u64 {
     let mut judge = || -> Answer<[u64; 2]> {
         let (universe, shape) = expression_checked(axes, bits, frame_bits, expression)?;

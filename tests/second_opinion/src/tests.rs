@@ -257,6 +257,42 @@ fn held_back() {
     }
 }
 
+/// What an octree call answers and writes.
+fn octree_call(
+    call: fn(u64, u64, u64, &[u8], &mut [u8], &mut [u64; 1]) -> u64, bits: u64, symbols: &[u8], lent: usize,
+) -> (u64, u64, Vec<u8>) {
+    let (mut out, mut answer) = (vec![b'.'; lent], [u64::MAX]);
+    (call(3, bits, bits, symbols, &mut out, &mut answer), answer[0], out)
+}
+
+#[test]
+fn octrees_by_the_order_of_the_sons() {
+    use crate::plain::{octree_export, octree_import};
+    let exported = |bits, symbols: &[u8], octree: &[u8]| {
+        let length = octree.len();
+        assert_eq!(octree_call(octree_export, bits, symbols, length), (0, length as u64, octree.to_vec()));
+    };
+    let imported = |bits, octree: &[u8], symbols: &[u8]| {
+        let length = symbols.len();
+        assert_eq!(octree_call(octree_import, bits, octree, length), (0, length as u64, symbols.to_vec()));
+    };
+    exported(0, b"B", b"F");
+    exported(1, b"(BW", b"PFFFFEEEE");
+    exported(1, b"((BWW", b"PFFEEEEEE");
+    exported(1, b"(((BWWW", b"PFEEEEEEE");
+    exported(1, b"(W(W(WB", b"PEEEEEEEF");
+    exported(1, b"(BB", b"F");
+    // where the universe is large, from the parts
+    exported(5, b"(BW", b"PFFFFEEEE");
+    imported(5, b"PEFEEEEEE", b"(((WBWW");
+    imported(1, b"PEFEEEEEE", b"(((WBWW");
+    imported(1, b"PFFFFFFFF", b"B");
+    for bad in [&b""[..], b"PFFFFFFF", b"PFFFFFFFFE", b"PPFFFFFFFFEEEEEEE", b"B"] {
+        assert_eq!(octree_call(octree_import, 1, bad, 2), (7, 0, b"..".to_vec()));
+    }
+    assert_eq!(octree_call(octree_export, 1, b"(BW", 8), (6, 9, vec![b'.'; 8]));
+}
+
 /// What a sweep answers and writes, with as much room as the expression is long.
 fn swept([axes, bits, frame_bits]: [u64; 3], axis: u64, expression: &[u8]) -> (u64, [u64; 4], String) {
     let (mut out, mut answer) = (vec![b'.'; expression.len()], [9; 4]);

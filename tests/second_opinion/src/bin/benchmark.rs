@@ -8,7 +8,7 @@
 mod face;
 
 use second_opinion::fast::{plain_merged_fast, plain_numbers_fast, plain_raw_fast, plain_verdict_fast, Run};
-use second_opinion::fast::plain_sweep_fast;
+use second_opinion::fast::{plain_octree_fast, plain_sweep_fast, plain_unoctree_fast};
 use second_opinion::generate::Random;
 use std::hint::black_box;
 use std::time::Instant;
@@ -422,6 +422,57 @@ fn sweeps(cases: &[Case], expressions: &[Vec<u8>], title: &str) {
     table.end();
 }
 
+/// Expressions of three axes with equal bits to octrees and back, into room that always suffices.
+fn octrees(cases: &[Case], expressions: &[Vec<u8>]) {
+    let cubes: Vec<_> = cases.iter().zip(expressions).filter(|(case, symbols)| {
+        case.axes == 3 && case.bits == case.frame_bits && symbols.len() >= 200
+    }).collect();
+    let mut back = Vec::new();
+    let mut table = Table::new("The expression exported as an octree (per symbol)");
+    for (case, symbols) in &cubes {
+        let bits = case.bits;
+        let (mut out, mut plain_out) = (vec![0; 4 * symbols.len()], vec![0; 4 * symbols.len()]);
+        let length = plain_octree_fast(bits, symbols, &mut plain_out).expect("well-formed");
+        let times = best(
+            || {
+                let mut answer = [0; 1];
+                let number = face::octree_export(3, bits, bits, black_box(symbols), &mut out, &mut answer);
+                assert_eq!((number, answer[0] as usize), (0, length));
+                black_box(&out);
+            },
+            || {
+                assert_eq!(plain_octree_fast(bits, black_box(symbols), &mut plain_out), Some(length));
+                black_box(&plain_out);
+            },
+        );
+        assert!(out == plain_out, "the octrees differ");
+        table.row(case, symbols.len(), 1, times);
+        back.push(out[..length].to_vec());
+    }
+    table.end();
+    let mut table = Table::new("The octree imported as an expression (per symbol)");
+    for ((case, _), octree) in cubes.iter().zip(&back) {
+        let bits = case.bits;
+        let (mut out, mut plain_out) = (vec![0; 2 * octree.len()], vec![0; 2 * octree.len()]);
+        let length = plain_unoctree_fast(bits, octree, &mut plain_out).expect("an octree");
+        let times = best(
+            || {
+                let mut answer = [0; 1];
+                let number = face::octree_import(3, bits, bits, black_box(octree), &mut out, &mut answer);
+                assert_eq!((number, answer[0] as usize), (0, length));
+                black_box(&out);
+            },
+            || {
+                assert_eq!(plain_unoctree_fast(bits, black_box(octree), &mut plain_out), Some(length));
+                black_box(&plain_out);
+            },
+        );
+        assert!(out == plain_out, "the expressions differ");
+        table.row(case, octree.len(), 1, times);
+    }
+    table.end();
+}
+
 fn verdict(cases: &[Case], raws: &[Vec<u8>], title: &str, exact: bool) {
     let mut table = Table::new(title);
     for (case, raw) in cases.iter().zip(raws) {
@@ -487,6 +538,7 @@ fn main() {
     reports(&cases, &short, "A report on 256 short merged expressions beside their numbers (per symbol)", 256, few);
     sweeps(&cases, &raws, "The raw expression swept along the frame axis (per symbol)");
     sweeps(&cases, &short, "The merged expression swept along the frame axis (per symbol)");
+    octrees(&cases, &raws);
     verdict(&cases, &raws, "Verdict on the middle half of the frames, room lent at the formula's size", false);
     verdict(&cases, &raws, "Verdict on the middle half of the frames, room lent for exactly the symbols", true);
 }
