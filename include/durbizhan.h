@@ -10,8 +10,8 @@
  * what is written where it is not; `answer`, and the rows of a proxy, are always written, whole. What the caller owes:
  * each pointer is aligned and points to as many elements as are said, no pointer is NULL, that of an empty buffer
  * neither, and what a call writes to overlaps nothing else of that call. No function keeps a pointer or allocates; a
- * conversion or a verdict takes up to 80 KiB of the stack, durbizhan_lines and durbizhan_sweep up to 128 KiB, any other
- * function up to 16 KiB.
+ * conversion, a verdict or durbizhan_contacts takes up to 80 KiB of the stack, durbizhan_lines and durbizhan_sweep up
+ * to 128 KiB, any other function up to 16 KiB.
  *
  * axes, bits, frame_bits: a universe of 1 to 4 axes. The last counts frames, of which there are 2^frame_bits, 0 to 12
  * bits; along each other it is 2^bits units long, 0 to 10 bits. One axis counts frames alone, and bits is 0. The axes
@@ -129,6 +129,19 @@ uint64_t durbizhan_verdict(uint64_t axes, uint64_t bits, uint64_t frame_bits,
                            uint64_t first_frame, uint64_t last_frame,
                            uint8_t *out, size_t out_count,
                            uint64_t answer[5]);
+
+/* How much two trees share of frames first_frame to last_frame, both ends in, counted in voxels. answer: those over
+ * whose whole block their intersection is decided BLACK, so that contact is sure; those that are black in both at their
+ * centre, as a verdict counts them; those over whose block it is not decided WHITE, so that contact is possible. These
+ * never decrease in this order. Where the last is 0, no point of these voxels lies strictly inside both trees: on the
+ * inner side of their planes and off them, in their balls. Never NO_ROOM. */
+uint64_t durbizhan_contacts(uint64_t axes, uint64_t bits, uint64_t frame_bits,
+                            const int64_t *rows, size_t rows_count,
+                            const int64_t *balls, size_t balls_count,
+                            const uint16_t *first, size_t first_count,
+                            const uint16_t *second, size_t second_count,
+                            uint64_t first_frame, uint64_t last_frame,
+                            uint64_t answer[3]);
 
 /* Whether an expression is well-formed: ACCEPTED, or BAD_UNIVERSE or BAD_EXPRESSION. */
 uint64_t durbizhan_well_formed(uint64_t axes, uint64_t bits, uint64_t frame_bits,

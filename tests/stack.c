@@ -89,6 +89,13 @@ static void verdict(void)
     answer[0] = answer[4];
 }
 
+static void contacts(void)
+{
+    number = durbizhan_contacts(scene.axes, scene.bits, scene.frame_bits, scene.rows, scene.rows_count,
+                                scene.balls, scene.balls_count, scene.first, scene.first_count,
+                                scene.second, scene.second_count, 0, last_frame, answer);
+}
+
 static void well_formed(void) { number = durbizhan_well_formed(axes, bits, frame_bits, bytes, bytes_count); }
 
 static void numbers(void)
@@ -237,26 +244,9 @@ static void fill(void)
     (struct scene){AXES, BITS, FRAME_BITS, all_rows, COUNT(all_rows), all_balls, COUNT(all_balls), all_words, 255, \
                    all_words, 255}
 
-static void conversions(const char *named, void (*call)(void))
+/* Runs with one fault each. */
+static void refused_runs(void (*call)(void), int windowed)
 {
-    const struct scene deep[] = {
-        DEEPEST(low_voxel, low_voxel), DEEPEST(high_voxel, high_voxel), DEEPEST(low_ball, low_ball),
-        DEEPEST(high_ball, high_ball), LARGEST, DEEPEST(strip, black),
-    };
-    begin(named);
-    last_frame = FRAMES - 1;
-    for (size_t i = 0; i < COUNT(deep); i++) {
-        scene = deep[i];
-        lent = 0;
-        take(call, DURBIZHAN_NO_ROOM);
-        size_t needed = answer[0];
-        size_t rooms[] = {needed - 1, needed, 4096, 4097, 65536, 65537, ROOM};
-        for (size_t j = 0; j < COUNT(rooms); j++) {
-            lent = rooms[j];
-            take(call, lent < needed ? DURBIZHAN_NO_ROOM : DURBIZHAN_ACCEPTED);
-        }
-    }
-    expect("the strip is past the scratch room", answer[0] > 65536, 1);
     last_frame = 0;
     scene = SCENE(AXES, 4, 5, low_voxel, black);
     take(call, DURBIZHAN_ACCEPTED);
@@ -274,11 +264,52 @@ static void conversions(const char *named, void (*call)(void))
     take(call, DURBIZHAN_BAD_TREE);
     scene.first_count = 256;
     take(call, DURBIZHAN_OVERFULL_TREE);
-    if (call == verdict) {
+    if (windowed) {
         last_frame = FRAMES;
         scene = LARGEST;
         take(call, DURBIZHAN_OUTSIDE);
     }
+}
+
+/* Runs that go to level 42 in all halves, and the strip, the last. */
+#define DEEP_RUNS \
+    { \
+        DEEPEST(low_voxel, low_voxel), DEEPEST(high_voxel, high_voxel), DEEPEST(low_ball, low_ball), \
+        DEEPEST(high_ball, high_ball), LARGEST, DEEPEST(strip, black), \
+    }
+
+static void conversions(const char *named, void (*call)(void))
+{
+    const struct scene deep[] = DEEP_RUNS;
+    begin(named);
+    last_frame = FRAMES - 1;
+    for (size_t i = 0; i < COUNT(deep); i++) {
+        scene = deep[i];
+        lent = 0;
+        take(call, DURBIZHAN_NO_ROOM);
+        size_t needed = answer[0];
+        size_t rooms[] = {needed - 1, needed, 4096, 4097, 65536, 65537, ROOM};
+        for (size_t j = 0; j < COUNT(rooms); j++) {
+            lent = rooms[j];
+            take(call, lent < needed ? DURBIZHAN_NO_ROOM : DURBIZHAN_ACCEPTED);
+        }
+    }
+    expect("the strip is past the scratch room", answer[0] > 65536, 1);
+    refused_runs(call, call == verdict);
+    end();
+}
+
+static void contact_counts(void)
+{
+    const struct scene deep[] = DEEP_RUNS;
+    begin("durbizhan_contacts");
+    last_frame = FRAMES - 1;
+    for (size_t i = 0; i < COUNT(deep); i++) {
+        scene = deep[i];
+        take(contacts, DURBIZHAN_ACCEPTED);
+    }
+    expect("some of the strip is sure, and more is possible", answer[0] < answer[2], 1);
+    refused_runs(contacts, 1);
     end();
 }
 
@@ -552,6 +583,7 @@ int main(void)
     conversions("durbizhan_merged_one", merged_one);
     conversions("durbizhan_merged_two", merged_two);
     conversions("durbizhan_verdict", verdict);
+    contact_counts();
     begin("durbizhan_well_formed");
     questions(well_formed, DURBIZHAN_ACCEPTED, DURBIZHAN_ACCEPTED);
     end();

@@ -7,11 +7,14 @@ mod durbizhan;
 #[path = "second_opinion/src/face.rs"]
 mod face;
 
-use durbizhan::{Clearance, Merged, Numbers, Refused, Report, Swept, Universe, Verdict, Window, ACCEPTED, NO_ROOM};
+use durbizhan::{
+    Clearance, Contacts, Merged, Numbers, Refused, Report, Swept, Universe, Verdict, Window, ACCEPTED, NO_ROOM,
+};
 
 /// The numbers that each function has.
 const ROOM: &[u64] = &[0, 2];
 const VERDICT: &[u64] = &[0, 2, 3, 4, 5, 6, 9];
+const CONTACTS: &[u64] = &[0, 2, 3, 4, 5, 9];
 const NUMBERS: &[u64] = &[0, 2, 7, 9];
 const REPORT: &[u64] = &[0, 2, 6, 7, 9];
 const MERGE: &[u64] = &[0, 2, 6, 7];
@@ -188,6 +191,44 @@ fn verdicts() -> Vec<u64> {
     cases.extend([1, 2, 3, 5].map(|count| (3, Scene { balls: vec![0; count], ..example() }, 100)));
     for (wanted, scene, lent) in &cases {
         verdict(*wanted, scene, *lent);
+    }
+    cases.iter().map(|case| case.0).collect()
+}
+
+/// Sure and possible contact of a scene's trees.
+fn contact(wanted: u64, scene: &Scene) {
+    let Scene { axes, bits, frame_bits, rows, balls, first, second, window, .. } = scene.clone();
+    let [first_frame, last_frame] = window;
+    let universe = Universe { axes, bits, frame_bits };
+    let window = Window { first: first_frame, last: last_frame };
+    let wrapped = durbizhan::contacts(universe, &rows, &balls, &first, &second, window);
+    let mut answer = [u64::MAX; 3];
+    let number = face::contacts(
+        axes,
+        bits,
+        frame_bits,
+        &rows,
+        &balls,
+        &first,
+        &second,
+        first_frame,
+        last_frame,
+        &mut answer,
+    );
+    let faced = match (number, answer) {
+        (ACCEPTED, [sure, centre, possible]) => Ok(Contacts { sure, centre, possible }),
+        (number, [0, 0, 0]) => Err(Refused { number, needed: 0 }),
+        _ => panic!("contacts: number {number}, answer {answer:?}"),
+    };
+    held("contacts", wanted, number, wrapped, faced);
+}
+
+fn contacts() -> Vec<u64> {
+    let mut cases = scenes();
+    // balls that are not in fours, which no file says
+    cases.extend([1, 2, 3, 5].map(|count| (3, Scene { balls: vec![0; count], ..example() })));
+    for (wanted, scene) in &cases {
+        contact(*wanted, scene);
     }
     cases.iter().map(|case| case.0).collect()
 }
@@ -503,6 +544,7 @@ fn main() {
     let tables = [
         (ROOM, rooms()),
         (VERDICT, verdicts()),
+        (CONTACTS, contacts()),
         (NUMBERS, numbers()),
         (REPORT, reports()),
         (MERGE, merges()),

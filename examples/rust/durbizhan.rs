@@ -36,6 +36,23 @@ mod face {
             answer: *mut [u64; 5],
         ) -> u64;
 
+        pub fn durbizhan_contacts(
+            axes: u64,
+            bits: u64,
+            frame_bits: u64,
+            rows: *const i64,
+            rows_count: usize,
+            balls: *const i64,
+            balls_count: usize,
+            first: *const u16,
+            first_count: usize,
+            second: *const u16,
+            second_count: usize,
+            first_frame: u64,
+            last_frame: u64,
+            answer: *mut [u64; 3],
+        ) -> u64;
+
         pub fn durbizhan_numbers(
             axes: u64,
             bits: u64,
@@ -169,6 +186,15 @@ pub struct Clearance {
     pub length: usize,
 }
 
+/// How many voxels of a window two trees surely share, over a voxel's whole block, share at its centre, and possibly
+/// share.
+#[derive(Debug, PartialEq)]
+pub struct Contacts {
+    pub sure: u64,
+    pub centre: u64,
+    pub possible: u64,
+}
+
 /// The black voxels of a whole expression, and its verdict over a window.
 #[derive(Debug, PartialEq)]
 pub struct Numbers {
@@ -290,6 +316,41 @@ fn verdict_of(hit: u64, first: u64, last: u64, voxels: u64) -> Verdict {
     } else {
         Verdict::Hit { first, last, voxels }
     }
+}
+
+/// Sure and possible contact of two trees over a window.
+pub fn contacts(
+    universe: Universe,
+    rows: &[i64],
+    balls: &[i64],
+    first: &[u16],
+    second: &[u16],
+    window: Window,
+) -> Result<Contacts, Refused> {
+    let mut answer = [0; 3];
+    let number = unsafe {
+        face::durbizhan_contacts(
+            universe.axes,
+            universe.bits,
+            universe.frame_bits,
+            rows.as_ptr(),
+            rows.len(),
+            balls.as_ptr(),
+            balls.len(),
+            first.as_ptr(),
+            first.len(),
+            second.as_ptr(),
+            second.len(),
+            window.first,
+            window.last,
+            &mut answer,
+        )
+    };
+    let [sure, centre, possible] = answer;
+    if number != ACCEPTED {
+        return Err(Refused { number, needed: 0 });
+    }
+    Ok(Contacts { sure, centre, possible })
 }
 
 pub fn numbers(universe: Universe, expression: &[u8], window: Window) -> Result<Numbers, Refused> {

@@ -1,7 +1,8 @@
 -- Judging by low places and sides is judging their block: the two tests of a row's spread are those of its least and greatest values over the block,
--- so the code of a tree is that of its mark there, and at level L that of its colour at the centre, which is the same wherever the mark is decided.
-use Prim.Native.Nat.{ℕ, zero, suc, _-_, _%_, _≤_, _<_}
-use mathlib.Core.Path.{_≡_, refl, sym, ap, _∙_}
+-- so the code of a tree is that of its mark there, and at a voxel that of its mark and of its colour at the centre, by which level L is judged: it is the
+-- same wherever the mark is decided.
+use Prim.Native.Nat.{ℕ, zero, suc, _-_, _/_, _%_, _≤_, _<_}
+use mathlib.Core.Path.{_≡_, refl, sym, ap, ap₂, _∙_}
 use mathlib.Core.Bool.{Bool, true, false, cond, _&&_}
 use mathlib.Core.List.{List}
 use native.Mathlib.Nat.{le-refl, le-trans}
@@ -27,8 +28,10 @@ use Rattle.bintree.specs.declared.Colour.{Colour}
 use Rattle.bintree.specs.declared.Colour.the-variants.{White, Black}
 use Rattle.bintree.specs.Shape.{leaf, halved}
 use Rattle.csg.specs.Halfspace.{Halfspace, Mark, decided, undecided, rowCount, rowAt, withinLimits, rowsRefusal, mostRows, rowLength}
+use Rattle.csg.specs.Halfspace.{markOver, colourAtCentre}
 use Rattle.csg.specs.Ball.{Ball, placeAxes, mostPlaces, ballLength, mostBalls, ballCount, ballAt, radiusWithin, ballWithin, ballsRefusal}
-use Rattle.csg.specs.Tree.{Tree, plain}
+use Rattle.csg.specs.Ball.{ballMark, ballColour}
+use Rattle.csg.specs.Tree.{Tree, intersection, plain}
 use Rattle.csg.specs.Surfaces.{Surfaces, named, Surface, halfspace, ball}
 use Rattle.csg.specs.Words.{treeRefusal, treeOf, AllNamed}
 use Rattle.csg.specs.Marks.{intersectionMark, surfaceMark, surfaceColour, plainMark, plainColour, treeMark, treeColour}
@@ -37,12 +40,15 @@ use Rattle.csg.proofs.Words.{tree-named}
 use Rattle.csg.proofs.Marks.{mark-over, mark-at, intersection-colours, tree-sound}
 use Rattle.csg.proofs.Raw.{examine-decided, examine-undecided, examine-voxel}
 use Rattle.convert.specs.Small.{SmallCoefficient, SmallHalfspace, SmallBall, JudgeReady}
-use Rattle.convert.specs.Codes.{spreadOf, blackBit, whiteBit, bitsOf, codeOfSurface, codeOfLeaf, codeOfTree}
+use Rattle.convert.specs.declared.decision.Decision.{Decision}
+use Rattle.convert.specs.Codes.{spreadOf, spreadCode, blackBit, whiteBit, bitsOf, centreUnit, decisionBy, decisionCode, judgedBits, joinCode}
+use Rattle.convert.specs.Codes.{codeOfSurface, codeOfLeaf, codeOfTree}
+use Rattle.convert.specs.Decisions.{decisionOf}
 use Rattle.convert.specs.Blocks.{Ready, Standing, treesOf, blockLeft, judged}
 use Rattle.convert.proofs.Spreads.{black-test, white-test, centre-doubled}
 use Rattle.convert.proofs.BallMarks.{ball-over, ball-at}
 use Rattle.convert.proofs.Blocks.{low-small, side-small}
-use Rattle.convert.proofs.Codes.{code-tree, code-of-marks, code-of-colours}
+use Rattle.convert.proofs.Codes.{pairCode, pair-join, code-tree, code-voxel, code-of-marks, code-of-colours}
 
 -- ---- rows that are not refused are small
 limit-most : (b : Bool) → cond b coefficientLimit 0 ≤ coefficientLimit
@@ -153,8 +159,35 @@ module _ {u : Universe} {surfaces : Surfaces} {first second : List ℕ} (r : Rea
   over-block : (t : Tree) → AllNamed (named surfaces) t → codeOfTree (u .axes) surfaces lows side false t ≡ bitsOf (treeMark surfaces t b)
   unfolding codeOfTree codeOfLeaf
   over-block t h =
-      code-tree (codeOfLeaf (u .axes) surfaces lows side false) (λ x. surfaceMark surfaces x b) refl refl (named surfaces) (λ x n. surface-over x) t h
+      code-tree (codeOfLeaf (u .axes) surfaces lows side false) (λ x. surfaceMark surfaces x b) (named surfaces) refl refl (λ x n. surface-over x) t h
       ∙ ap bitsOf (mark-over surfaces b (plain t))
+
+-- ---- the code of what is decided at a voxel, of a surface by the bits of both parts; and the two parts of a code
+both-parts : (m : Mark) (c : Colour) → decisionCode (decisionBy (bitsOf m) (bitsOf (decided c))) ≡ pairCode m (decided c)
+unfolding decisionCode decisionBy
+both-parts (decided Black) Black = refl
+both-parts (decided Black) White = refl
+both-parts (decided White) Black = refl
+both-parts (decided White) White = refl
+both-parts undecided Black = refl
+both-parts undecided White = refl
+
+decided-code : (m : Mark) (c : Colour) {x y : ℕ} → x ≡ bitsOf m → y ≡ bitsOf (decided c) → decisionCode (decisionBy x y) ≡ pairCode m (decided c)
+decided-code m c p q = rw (p, q) (both-parts m c)
+
+colour-of : (m n : Mark) → pairCode m n / centreUnit ≡ bitsOf n
+colour-of (decided Black) n = omega arith
+colour-of (decided White) n = omega arith
+colour-of undecided n = omega arith
+
+decision-back : (m : Mark) (c : Colour) → decisionBy (pairCode m (decided c) % centreUnit) (pairCode m (decided c) / centreUnit) ≡ decisionOf m c
+unfolding decisionBy
+decision-back (decided Black) Black = refl
+decision-back (decided Black) White = refl
+decision-back (decided White) Black = refl
+decision-back (decided White) White = refl
+decision-back undecided Black = refl
+decision-back undecided White = refl
 
 -- ---- a voxel's block holds its own low places, and is one unit long along each axis
 pub own-lows : (b : Block) → Within b (b .low)
@@ -168,24 +201,35 @@ module _ {u : Universe} {surfaces : Surfaces} {first second : List ℕ} (r : Rea
   unit : (i : ℕ) → i < u .axes → blockSide u (levels u - 0) i ≡ 1
   unit i l = let z : levels u - 0 ≡ levels u = omega arith in rw z (side-last u i l)
 
-  surface-at : (x : Surface) → codeOfSurface (u .axes) surfaces lows side true x ≡ bitsOf (decided (surfaceColour surfaces u x lows))
-  unfolding codeOfSurface surfaceColour
-  surface-at (halfspace i) = let h = rowAt (surfaces .rows) i in rw (centre-doubled h v side (s .along) unit) (code-of-colours h u lows)
-  surface-at (ball i) = ball-at u (ballAt (surfaces .balls) i) lows
+  surface-at : (x : Surface) → codeOfSurface (u .axes) surfaces lows side true x
+      ≡ pairCode (surfaceMark surfaces x v) (decided (surfaceColour surfaces u x lows))
+  unfolding codeOfSurface surfaceColour surfaceMark
+  surface-at (halfspace i) =
+      let h = rowAt (surfaces .rows) i in
+      let spread = spreadOf (u .axes) h lows side in
+      let colour : spreadCode (spread .doubled) (pos 0) ≡ bitsOf (decided (colourAtCentre u h lows)) =
+      rw (centre-doubled h v side (s .along) unit) (code-of-colours h u lows) in
+      decided-code (markOver h v) (colourAtCentre u h lows)
+      (code-of-marks h v spread (black-test h v side (s .along)) (white-test h v side (s .along))) colour
+  surface-at (ball i) =
+      let x = ballAt (surfaces .balls) i in
+      decided-code (ballMark x v) (ballColour u x lows) (ball-over x v side (s .along)) (ball-at u x lows)
 
-  over-voxel : (t : Tree) → AllNamed (named surfaces) t → codeOfTree (u .axes) surfaces lows side true t ≡ bitsOf (decided (treeColour surfaces u t lows))
+  pub over-voxel : (t : Tree) → AllNamed (named surfaces) t →
+      codeOfTree (u .axes) surfaces lows side true t ≡ pairCode (treeMark surfaces t v) (decided (treeColour surfaces u t lows))
   unfolding codeOfTree codeOfLeaf
   over-voxel t h =
-      code-tree (codeOfLeaf (u .axes) surfaces lows side true) (λ x. decided (surfaceColour surfaces u x lows)) refl refl (named surfaces)
-      (λ x n. surface-at x) t h
-      ∙ ap bitsOf (mark-at surfaces u lows (plain t))
+      code-voxel (codeOfLeaf (u .axes) surfaces lows side true) (λ x. surfaceMark surfaces x v) (named surfaces)
+      (λ x. decided (surfaceColour surfaces u x lows)) refl refl (λ x n. surface-at x) t h
+      ∙ ap₂ pairCode (mark-over surfaces v (plain t)) (mark-at surfaces u lows (plain t))
 
 -- ---- the code of a tree of the run says how it is judged
 judged-code : {u : Universe} {surfaces : Surfaces} {first second : List ℕ} → Ready u surfaces first second → (left : ℕ) {lows side : List ℕ} →
     Standing u left lows side → (t : Tree) → AllNamed (named surfaces) t →
-    codeOfTree (u .axes) surfaces lows side (eqb left 0) t ≡ bitsOf (judged surfaces t left (blockLeft u left lows))
+    judgedBits (eqb left 0) (codeOfTree (u .axes) surfaces lows side (eqb left 0) t) ≡ bitsOf (judged surfaces t left (blockLeft u left lows))
 unfolding judged
-judged-code r zero s t h = over-voxel r s t h
+judged-code {u} {surfaces} r zero {lows} s t h =
+    rw (over-voxel r s t h) (colour-of (treeMark surfaces t (blockLeft u 0 lows)) (decided (treeColour surfaces u t lows)))
 judged-code r (suc n) s t h = rw (eqb·suc-zero n) (over-block r s t h)
 
 -- two trees intersected are judged by both
@@ -224,7 +268,7 @@ open-first undecided (decided White) p q w = absurd (w refl)
 open-first undecided (decided Black) p q w = refl
 open-first undecided undecided p q w = refl
 
--- the two trees' codes x and y give how their intersection is judged
+-- the bits x and y that are taken of the two trees' codes give how their intersection is judged
 module _ {u : Universe} {surfaces : Surfaces} {first second : List ℕ} (r : Ready u surfaces first second) (left : ℕ) {lows side : List ℕ}
     (s : Standing u left lows side) {axes : ℕ} (d : axes ≡ u .axes) where
   abbrev codeBy : List ℕ → ℕ
@@ -239,19 +283,20 @@ module _ {u : Universe} {surfaces : Surfaces} {first second : List ℕ} (r : Rea
   whole-is : whole ≡ intersectionMark (judgedBy first) (judgedBy second)
   whole-is = both-judged surfaces (treeOf (named surfaces) first) (treeOf (named surfaces) second) left (blockLeft u left lows)
 
-  bits-by : (words : List ℕ) → treeRefusal (named surfaces) words ≡ 0 → {z : ℕ} → z ≡ codeBy words → z ≡ bitsOf (judgedBy words)
-  bits-by words a e = e ∙ rw d (judged-code r left s _ (tree-named (named surfaces) words a))
+  bits-by : (words : List ℕ) → treeRefusal (named surfaces) words ≡ 0 → {z code : ℕ} → z ≡ judgedBits (eqb left 0) code → code ≡ codeBy words →
+      z ≡ bitsOf (judgedBy words)
+  bits-by words a e f = e ∙ ap (judgedBits (eqb left 0)) f ∙ rw d (judged-code r left s _ (tree-named (named surfaces) words a))
 
-  module _ (x : ℕ) (p : x ≡ codeBy first) where
+  module _ (x : ℕ) {code : ℕ} (o : x ≡ judgedBits (eqb left 0) code) (p : code ≡ codeBy first) where
     bits-one : x ≡ bitsOf (judgedBy first)
-    bits-one = bits-by first (r .accepted-first) p
+    bits-one = bits-by first (r .accepted-first) o p
 
     pub first-white : x ≡ whiteBit → whiteBit ≡ bitsOf whole
     first-white e = rw whole-is (sym (white-first _ _ (sym bits-one ∙ e)))
 
-    module _ (y : ℕ) (q : y ≡ codeBy second) where
+    module _ (y : ℕ) {other : ℕ} (w : y ≡ judgedBits (eqb left 0) other) (q : other ≡ codeBy second) where
       bits-other : y ≡ bitsOf (judgedBy second)
-      bits-other = bits-by second (r .accepted-second) q
+      bits-other = bits-by second (r .accepted-second) w q
 
       pub second-white : y ≡ whiteBit → whiteBit ≡ bitsOf whole
       second-white e = rw whole-is (sym (white-second _ _ (sym bits-other ∙ e)))
@@ -261,6 +306,27 @@ module _ {u : Universe} {surfaces : Surfaces} {first second : List ℕ} (r : Rea
 
       pub first-open : (x ≡ whiteBit → ⊥) → (y ≡ whiteBit → ⊥) → (x ≡ blackBit → ⊥) → 0 ≡ bitsOf whole
       first-open f g h = rw whole-is (sym (open-first _ _ (λ e. f (bits-one ∙ e)) (λ e. h (bits-one ∙ e)) (λ e. g (bits-other ∙ e))))
+
+-- at a voxel they are joined in both parts
+pub decided-both : {u : Universe} {surfaces : Surfaces} {first second : List ℕ} → Ready u surfaces first second → {lows side : List ℕ} →
+    Standing u 0 lows side → {axes : ℕ} → axes ≡ u .axes → {x y z : ℕ} →
+    x ≡ codeOfTree axes surfaces lows side true (treeOf (named surfaces) first) →
+    y ≡ codeOfTree axes surfaces lows side true (treeOf (named surfaces) second) →
+    z ≡ joinCode intersection x y → {d : Decision} → d ≡ decisionBy (z % centreUnit) (z / centreUnit) →
+    d ≡ decisionOf (treeMark surfaces (treesOf surfaces first second) (blockLeft u 0 lows)) (treeColour surfaces u (treesOf surfaces first second) lows)
+unfolding plain plainMark plainColour
+decided-both {u} {surfaces} {first} {second} r {lows} s {axes} d p q k e =
+    let v = blockLeft u 0 lows in
+    let a = treeOf (named surfaces) first in
+    let b = treeOf (named surfaces) second in
+    let x = rw d at p ∙ over-voxel r s a (tree-named (named surfaces) first (r .accepted-first)) in
+    let y = rw d at q ∙ over-voxel r s b (tree-named (named surfaces) second (r .accepted-second)) in
+    let m = treeMark surfaces a v in
+    let n = treeMark surfaces b v in
+    let joins = pair-join intersection m (decided (treeColour surfaces u a lows)) n (decided (treeColour surfaces u b lows)) in
+    let z = k ∙ ap₂ (joinCode intersection) x y ∙ joins ∙ ap (pairCode (intersectionMark m n)) (intersection-colours _ _) in
+    e ∙ ap (λ (w : ℕ). decisionBy (w % centreUnit) (w / centreUnit)) z
+    ∙ decision-back (treeMark surfaces (treesOf surfaces first second) v) (treeColour surfaces u (treesOf surfaces first second) lows)
 
 -- ---- what is written for a block, by how it is judged
 module _ (surfaces : Surfaces) (t : Tree) where

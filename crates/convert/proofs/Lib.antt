@@ -10,3 +10,4 @@ pub mod Pieces
 pub mod Answers
 pub mod OneTree
 pub mod Clearances
+pub mod Contacts

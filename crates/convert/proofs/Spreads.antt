@@ -204,7 +204,7 @@ module _ {axes : ℕ} {rows : List ℤ} {i : ℕ} {low side : List ℕ} (ready :
   pub spread-code : spreadCode (held (s .doubled)) (held (s .reach)) ≡ leafCode false (spreadOf axes (rowAt rows i) low side)
   spread-code = rw (doubled-held handed .same, reach-held handed .same, e)
 
-  pub centre-code : spreadCode (held (s .doubled)) (pos 0) ≡ leafCode true (spreadOf axes (rowAt rows i) low side)
+  pub centre-code : spreadCode (held (s .doubled)) (pos 0) ≡ spreadCode (spreadOf axes (rowAt rows i) low side .doubled) (pos 0)
   centre-code = rw (doubled-held handed .same, e)
 
 -- ---- a spread by the two parts of its coefficients

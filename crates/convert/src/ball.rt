@@ -1,5 +1,7 @@
 // A ball over a block, or at the centre of a voxel: the squares of its distances along the place axes, added up,
 // against the radius squared.
+use crate::decision::decision_by;
+use crate::decision::decision_code;
 use crate::spread::tested_code;
 use universe::Universe;
 ghost use mathlib.Core.Path.{_≡_};
@@ -118,7 +120,7 @@ fn code_at_voxel(
     tested_code(sum <= 4 * most, true)
 }
 
-// The code of ball i over a block, or at the centre of the voxel that it is.
+// The code of ball i over a block; of the voxel that it is, with the colour at its centre.
 pub(crate) fn code_of_ball(
     axes: usize,
     balls: &[i64],
@@ -134,8 +136,10 @@ pub(crate) fn code_of_ball(
         ⌜ r ≡ ballCode centre (axes - 1) ball (now (low .entry)) (now (side .entry)) ⌝ }
 {
     let places = axes - 1;
+    let mark = code_over_block(places, balls, i, low, side);
     if centre {
-        return code_at_voxel(places, balls, i, low);
+        let colour = code_at_voxel(places, balls, i, low);
+        return decision_code(decision_by(mark, colour));
     }
-    code_over_block(places, balls, i, low, side)
+    mark
 }

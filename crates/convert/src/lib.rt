@@ -3,6 +3,8 @@
 mod ball;
 mod block;
 mod conversion;
+mod counting;
+mod decision;
 mod judge;
 mod lay;
 mod marks;
@@ -15,6 +17,8 @@ pub use conversion::merged_of_one;
 pub use conversion::merged_of_two;
 pub use conversion::raw_of_one;
 pub use conversion::raw_of_two;
+pub use counting::Contacts;
+pub use counting::contacts_of_two;
 pub use scene::scene_refusal;
 pub use verdict::Clearance;
 pub use verdict::verdict_of_two;

@@ -33,11 +33,11 @@ use Rattle.demands.proofs.Grids.{Inside, grid-part, grid-some}
 use Rattle.demands.proofs.Voxels.{frameVoxel, place-frame, place-other, frame-voxel-accepted, colour-places, frame-same, frame-counts}
 
 -- an accepted window
-window-order : (u : Universe) (first last : ℕ) → windowRefusal u first last ≡ 0 → first ≤ last
+pub window-order : (u : Universe) (first last : ℕ) → windowRefusal u first last ≡ 0 → first ≤ last
 unfolding windowRefusal
 window-order u first last e = leb-true _ _ (and-left (leb first last) (ltb last (frameCount u)) (unless-holds _ outside (omega arith) e))
 
-window-frames : (u : Universe) (first last : ℕ) → windowRefusal u first last ≡ 0 → last < frameCount u
+pub window-frames : (u : Universe) (first last : ℕ) → windowRefusal u first last ≡ 0 → last < frameCount u
 unfolding windowRefusal
 window-frames u first last e = ltb-true _ _ (and-right (leb first last) (ltb last (frameCount u)) (unless-holds _ outside (omega arith) e))
 

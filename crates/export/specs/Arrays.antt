@@ -15,6 +15,7 @@ use Rattle.bintree.specs.declared.Merged.{Merged}
 use Rattle.bintree.specs.declared.Numbers.{Numbers}
 use Rattle.bintree.specs.declared.Coloured.{Coloured}
 use Rattle.bintree.specs.declared.Placed.{Placed}
+use Rattle.convert.specs.declared.counting.Contacts.{Contacts}
 use Rattle.convert.specs.declared.verdict.Clearance.{Clearance}
 use Rattle.files.specs.declared.Scene.{Scene}
 use Rattle.files.specs.declared.ShapeRead.{ShapeRead}
@@ -50,6 +51,10 @@ toldOf (Hit contact) = record { hit = 1; first = contact .first; last = contact 
 abbrev pub clearanceArray : Clearance → List ℕ
 clearanceArray a =
     let told = toldOf (a .verdict) in told .hit ∷ told .first ∷ told .last ∷ told .voxels ∷ a .length ∷ []
+
+-- rule 14.2: the voxels that are sure, those that are black at their centre, and those that are possible
+abbrev pub contactsArray : Contacts → List ℕ
+contactsArray a = a .sure ∷ a .centre ∷ a .possible ∷ []
 
 -- the volume, and a verdict behind it
 abbrev pub numbersArray : Numbers → List ℕ

@@ -1,11 +1,13 @@
-// Verdicts over a window of frames: of two trees, and of a lent expression with its volume.
+// Verdicts over a window of frames: of two trees, with sure and possible contact, and of a lent expression with its
+// volume.
 use bintree::Verdict;
 use universe::Universe;
 ghost use mathlib.Core.Path.{_≡_};
 ghost use Rattle.csg.specs.Surfaces.{surfacesOf};
 ghost use Rattle.bintree.specs.Verdicts.{numbersAnswer};
 ghost use Rattle.convert.specs.Answers.{clearanceAnswer, clearanceBuffer};
-ghost use Rattle.export.specs.Arrays.{universeOf, toldOf, clearanceArray, numbersArray};
+ghost use Rattle.convert.specs.Contacts.{contactsAnswer};
+ghost use Rattle.export.specs.Arrays.{universeOf, toldOf, clearanceArray, contactsArray, numbersArray};
 
 // A verdict as four numbers: hit (0 Clear, 1 Hit), first frame, last frame, voxels.
 pub(crate) struct Told {
@@ -88,6 +90,50 @@ pub extern "C" fn durbizhan_verdict(
     let verdict = found.verdict;
     let told = told_of(verdict);
     *answer = [told.hit, told.first, told.last, told.voxels, found.length];
+    found.refusal
+}
+
+// The voxels of a window of frames, both ends in, that two trees surely share, share at their centres, and possibly
+// share.
+#[no_mangle]
+pub extern "C" fn durbizhan_contacts(
+    axes: u64,
+    bits: u64,
+    frame_bits: u64,
+    rows: &[i64],
+    balls: &[i64],
+    first: &[u16],
+    second: &[u16],
+    first_frame: u64,
+    last_frame: u64,
+    answer: &mut [u64; 3],
+) -> u64
+    ensures { λ r. let u = universeOf axes bits «frame_bits» in
+        let surfaces = surfacesOf (now (rows .entry)) (now (balls .entry)) in
+        let first = now (first .entry) in
+        let second = now (second .entry) in
+        ⌜ r ≡ contactsAnswer u surfaces first second «first_frame» «last_frame» .refusal ⌝ }
+    ensures { λ _. let u = universeOf axes bits «frame_bits» in
+        let surfaces = surfacesOf (now (rows .entry)) (now (balls .entry)) in
+        let first = now (first .entry) in
+        let second = now (second .entry) in
+        ⌜ now (answer .exit) ≡ contactsArray (contactsAnswer u surfaces first second «first_frame» «last_frame») ⌝ }
+{
+    let universe = Universe {
+        axes: axes,
+        bits: bits,
+        frame_bits: frame_bits,
+    };
+    let found = convert::contacts_of_two(
+        universe,
+        rows,
+        balls,
+        first,
+        second,
+        first_frame,
+        last_frame,
+    );
+    *answer = [found.sure, found.centre, found.possible];
     found.refusal
 }
 

@@ -9,3 +9,5 @@ pub mod Faces
 pub mod CutFromItself
 pub mod Swept
 pub mod Octrees
+pub mod Located
+pub mod Contacts

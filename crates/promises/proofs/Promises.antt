@@ -243,7 +243,7 @@ module _ (u : Universe) (surfaces : Surfaces) (first second : List ℕ) where
       abbrev given : Clearance
       given = clearanceAnswer u surfaces first second from to out
 
-      window-accepted : clearanceRefusal u surfaces first second from to ≡ 0 → (twoTreesRefusal u surfaces first second ≡ 0) × (windowRefusal u from to ≡ 0)
+      pub window-accepted : clearanceRefusal u surfaces first second from to ≡ 0 → (twoTreesRefusal u surfaces first second ≡ 0) × (windowRefusal u from to ≡ 0)
       unfolding clearanceChecks
       window-accepted z =
           let a = first-accepts (twoTreesRefusal u surfaces first second) (windowRefusal u from to ∷ []) z in
@@ -268,6 +268,19 @@ module _ (u : Universe) (surfaces : Surfaces) (first second : List ℕ) where
           let z = sym (number-told written v) ∙ r in
           let w = window-accepted (passed _ out (rawOfTwo u surfaces first second) z) in
           rw (verdict-told written v z) (verdict-of-trees u (accepts (w .0) .0) surfaces tree₁ tree₂ from to (w .1))
+
+      -- a call that answers 0 passed its checks, and its verdict is that of the trees' raw shape
+      pub verdict-passed : given .refusal ≡ 0 → clearanceRefusal u surfaces first second from to ≡ 0
+      unfolding clearanceAnswer
+      verdict-passed r =
+          let v = verdict u (raw u surfaces (both tree₁ tree₂)) from to in
+          passed _ out (rawOfTwo u surfaces first second) (sym (number-told written v) ∙ r)
+
+      pub verdict-is : given .refusal ≡ 0 → given .verdict ≡ verdict u (raw u surfaces (both tree₁ tree₂)) from to
+      unfolding clearanceAnswer
+      verdict-is r =
+          let v = verdict u (raw u surfaces (both tree₁ tree₂)) from to in
+          verdict-told written v (sym (number-told written v) ∙ r)
 
       -- whatever is refused is Clear
       pub verdict-refused : (given .refusal ≡ 0 → ⊥) → given .verdict ≡ Clear

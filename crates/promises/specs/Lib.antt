@@ -8,3 +8,4 @@ pub mod Faces
 pub mod CutFromItself
 pub mod Swept
 pub mod Octrees
+pub mod Contacts

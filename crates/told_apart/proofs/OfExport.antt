@@ -29,6 +29,9 @@ durbizhan-merged-two w _ _ = ((tt, refl), λ _ _ _ _ _. three w (λ p q. (same (
 pub durbizhan-verdict : (w : World) → TellsApart w export.verdicts.durbizhan_verdict.ended export.verdicts.durbizhan_verdict.clauses
 durbizhan-verdict w _ _ = ((tt, refl), λ _ _ _ _ _. three w (λ p q. (same (p .0) (q .0), λ i. behind 9 (same (p .2) (q .2) i, (same (p .1) (q .1) i, tt)))))
 
+pub durbizhan-contacts : (w : World) → TellsApart w export.verdicts.durbizhan_contacts.ended export.verdicts.durbizhan_contacts.clauses
+durbizhan-contacts w _ _ = ((tt, refl), λ _ _ _ _ _. two w (λ p q. (same (p .0) (q .0), λ i. behind 9 (same (p .1) (q .1) i, tt))))
+
 pub durbizhan-numbers : (w : World) → TellsApart w export.verdicts.durbizhan_numbers.ended export.verdicts.durbizhan_numbers.clauses
 durbizhan-numbers w _ _ = ((tt, refl), λ _ _ _ _ _. two w (λ p q. (same (p .0) (q .0), λ i. behind 6 (same (p .1) (q .1) i, tt))))
 

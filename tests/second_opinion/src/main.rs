@@ -240,6 +240,7 @@ type Room = fn(u64, u64, u64, u64, u64, &mut [u64; 1]) -> u64;
 type RawOne = fn(u64, u64, u64, &[i64], &[i64], &[u16], &mut [u8], &mut [u64; 1]) -> u64;
 type RawTwo = fn(u64, u64, u64, &[i64], &[i64], &[u16], &[u16], &mut [u8], &mut [u64; 1]) -> u64;
 type Verdict = fn(u64, u64, u64, &[i64], &[i64], &[u16], &[u16], u64, u64, &mut [u8], &mut [u64; 5]) -> u64;
+type Contacts = fn(u64, u64, u64, &[i64], &[i64], &[u16], &[u16], u64, u64, &mut [u64; 3]) -> u64;
 type Numbers = fn(u64, u64, u64, &[u8], u64, u64, &mut [u64; 5]) -> u64;
 type Report = fn(u64, u64, u64, &[u8], u64, u64, &mut [u64], &mut [u64; 2]) -> u64;
 type Sweep = fn(u64, u64, u64, u64, &[u8], &mut [u8], &mut [u64; 4]) -> u64;
@@ -349,6 +350,27 @@ fn compare_verdicts(line: &mut Line, case: &generate::RunCase, lent: usize) {
     });
 }
 
+fn contacts(line: &mut Line, random: &mut Random) {
+    let case = generate::run(random);
+    if needed(&case, &[&case.first, &case.second]).is_some() {
+        compare_contacts(line, &case);
+    }
+}
+
+fn compare_contacts(line: &mut Line, case: &generate::RunCase) {
+    let [plain, library] = [plain::contacts as Contacts, face::contacts].map(|count| {
+        let mut answer = longs(3);
+        let number = count(
+            case.axes, case.bits, case.frame_bits, &case.rows, &case.balls, &case.first, &case.second,
+            case.first_frame, case.last_frame, answer.array(),
+        );
+        Outcome { number, contents: vec![("answer", answer.into())] }
+    });
+    line.compare(plain, library, || {
+        format!("{}\nfirst_frame = {}\nlast_frame = {}", run_text(case, 2, 0), case.first_frame, case.last_frame)
+    });
+}
+
 /// A conversion of many blocks, and the room to lend: around what is needed, around the scratch room, around the
 /// formula's.
 fn long_run(
@@ -382,6 +404,11 @@ fn long_two_trees(line: &mut Line, random: &mut Random, plain: RawTwo, library: 
 fn long_verdicts(line: &mut Line, random: &mut Random) {
     let (case, lent) = long_run(line, random, |_, blocks| blocks);
     compare_verdicts(line, &case, lent);
+}
+
+fn long_contacts(line: &mut Line, random: &mut Random) {
+    let (case, _) = long_run(line, random, |_, blocks| blocks);
+    compare_contacts(line, &case);
 }
 
 fn reading_text(case: &generate::ReadingCase) -> String {
@@ -583,6 +610,7 @@ fn cuts(line: &mut Line, random: &mut Random) {
 // The numbers that each kind of entry point refuses with.
 const CONVERSION: &[u64] = &[BAD_UNIVERSE, BAD_ROWS, BAD_TREE, OVERFULL_TREE, NO_ROOM];
 const VERDICT: &[u64] = &[BAD_UNIVERSE, BAD_ROWS, BAD_TREE, OVERFULL_TREE, OUTSIDE, NO_ROOM];
+const CONTACTS: &[u64] = &[BAD_UNIVERSE, BAD_ROWS, BAD_TREE, OVERFULL_TREE, OUTSIDE];
 const READING: &[u64] = &[BAD_UNIVERSE, BAD_EXPRESSION];
 const READING_AT: &[u64] = &[BAD_UNIVERSE, BAD_EXPRESSION, OUTSIDE];
 const REPORT: &[u64] = &[BAD_UNIVERSE, BAD_EXPRESSION, OUTSIDE, NO_ROOM];
@@ -604,9 +632,11 @@ const ENTRY_POINTS: &[(&str, u64, &[u64], Compare)] = &[
     ("durbizhan_merged_one", 1000, CONVERSION, |l, r| one_tree(l, r, plain::merged_one, face::merged_one, true)),
     ("durbizhan_merged_two", 1000, CONVERSION, |l, r| two_trees(l, r, plain::merged_two, face::merged_two, true)),
     ("durbizhan_verdict", 1000, VERDICT, verdicts),
+    ("durbizhan_contacts", 1000, CONTACTS, contacts),
     ("durbizhan_raw_two, long", 1, &[NO_ROOM], |l, r| long_two_trees(l, r, plain::raw_two, face::raw_two)),
     ("durbizhan_merged_two, long", 1, &[NO_ROOM], |l, r| long_two_trees(l, r, plain::merged_two, face::merged_two)),
     ("durbizhan_verdict, long", 1, &[OUTSIDE, NO_ROOM], long_verdicts),
+    ("durbizhan_contacts, long", 1, &[OUTSIDE], long_contacts),
     ("durbizhan_well_formed", 2000, READING, well_formed),
     ("durbizhan_numbers", 2000, READING_AT, numbers),
     ("durbizhan_report", 500, REPORT, reports),

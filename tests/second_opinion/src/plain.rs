@@ -840,6 +840,52 @@ pub fn verdict_by_blocks(universe: &Universe, shape: &Shape, first: u64, last: u
     hit
 }
 
+// ---------------------------------------------------------------------------------- sure and possible contact
+
+/// The block of level L at a voxel's place.
+fn own_block(universe: &Universe, voxel: &[i64; 4]) -> Block {
+    let mut size = [0; 4];
+    size[..universe.axes].fill(1);
+    Block { level: universe.levels(), low: *voxel, size }
+}
+
+/// The voxels of the window over whose own block a tree with no MINUS is BLACK, those that are black at their centre,
+/// and those over whose own block it is not WHITE: one by one.
+pub fn contacts_by_voxels(universe: &Universe, tree: &Tree, first: u64, last: u64) -> [u64; 3] {
+    let mut counts = [0; 3];
+    for voxel in universe.all_voxels() {
+        let frame = voxel[universe.axes - 1] as u64;
+        if frame < first || frame > last {
+            continue;
+        }
+        let own = mark(universe, tree, &own_block(universe, &voxel));
+        counts[0] += u64::from(own == Mark::Black);
+        counts[1] += u64::from(black_at_centre(tree, universe.axes, &voxel));
+        counts[2] += u64::from(own != Mark::White);
+    }
+    counts
+}
+
+/// The same of the voxels in a block: where the tree is decided it is decided alike over every voxel's own block.
+pub fn contacts_by_blocks(universe: &Universe, tree: &Tree, block: &Block, first: u64, last: u64) -> [u64; 3] {
+    let time = universe.axes - 1;
+    let from = (block.low[time] as u64).max(first);
+    let end = ((block.low[time] + block.size[time]) as u64).min(last + 1);
+    if from >= end {
+        return [0; 3];
+    }
+    match mark(universe, tree, block) {
+        Mark::White => [0; 3],
+        Mark::Black => [block.size[..time].iter().product::<i64>() as u64 * (end - from); 3],
+        Mark::Undecided if block.level < universe.levels() => {
+            let halves = [false, true].map(|high| block.half(universe, high));
+            let [low, high] = halves.map(|half| contacts_by_blocks(universe, tree, &half, first, last));
+            [low[0] + high[0], low[1] + high[1], low[2] + high[2]]
+        }
+        Mark::Undecided => [0, u64::from(black_at_centre(tree, universe.axes, &block.low)), 1],
+    }
+}
+
 // ------------------------------------------------------------------------------------------- the swept space
 
 /// The universe without one of two or more axes, counted from 1 (rule 12.1).
@@ -1258,6 +1304,24 @@ pub fn verdict(
             refusal.number
         }
     }
+}
+
+#[allow(clippy::too_many_arguments)]
+pub fn contacts(
+    axes: u64, bits: u64, frame_bits: u64, rows: &[i64], balls: &[i64], first: &[u16], second: &[u16],
+    first_frame: u64, last_frame: u64, answer: &mut [u64; 3],
+) -> u64 {
+    let count = || -> Answer<[u64; 3]> {
+        let (universe, trees) = run_checked(axes, bits, frame_bits, rows, balls, &[first, second])?;
+        window_checked(&universe, first_frame, last_frame)?;
+        let tree = joined(&trees);
+        Ok(if universe.is_small() {
+            contacts_by_voxels(&universe, &tree, first_frame, last_frame)
+        } else {
+            contacts_by_blocks(&universe, &tree, &Block::whole(&universe), first_frame, last_frame)
+        })
+    };
+    plain_answer(count(), answer)
 }
 
 /// The universe and the expression taken apart: 2, then 7.

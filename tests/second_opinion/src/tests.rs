@@ -621,6 +621,11 @@ fn slow_and_fast_agree() {
                 Some((from, to, count)) => [1, from, to, count, raw.len() as u64],
             };
             assert_eq!(plain_verdict_fast(&run, first, last, &mut vec![0; raw.len()]), Ok(fields));
+            // sure and possible contact, voxel by voxel and block by block; the middle count is the verdict's
+            let counts = contacts_by_voxels(&universe, &tree, first, last);
+            assert_eq!(contacts_by_blocks(&universe, &tree, &Block::whole(&universe), first, last), counts);
+            assert!(counts[0] <= counts[1] && counts[1] <= counts[2]);
+            assert_eq!(counts[1], hit.map_or(0, |(_, _, count)| count));
         }
     }
 }

@@ -501,6 +501,39 @@ fn verdict(cases: &[Case], raws: &[Vec<u8>], title: &str, exact: bool) {
     table.end();
 }
 
+/// Sure and possible contact beside the library's own verdict, over the same window: the middle count is the verdict's.
+/// The times are per block of the raw expression, though contact looks at those in the window alone.
+fn contacts(cases: &[Case], raws: &[Vec<u8>], title: &str) {
+    let mut table = Table::new(title);
+    for (case, raw) in cases.iter().zip(raws) {
+        let (from, to) = window(case);
+        let mut out = vec![0; checked(case).room() as usize];
+        let fields = plain_verdict_fast(&checked(case), from, to, &mut out).expect("it fits");
+        let times = best(
+            || {
+                let mut answer = [0; 3];
+                let number = face::contacts(
+                    case.axes, case.bits, case.frame_bits, &case.rows, &case.balls, &case.first, &case.second, from, to,
+                    &mut answer,
+                );
+                assert_eq!((number, answer[1]), (0, fields[3]));
+                assert!(answer[0] <= answer[1] && answer[1] <= answer[2]);
+            },
+            || {
+                let mut answer = [0; 5];
+                let number = face::verdict(
+                    case.axes, case.bits, case.frame_bits, &case.rows, &case.balls, &case.first, &case.second, from, to,
+                    &mut out, &mut answer,
+                );
+                assert_eq!((number, answer), (0, fields));
+                black_box(&out);
+            },
+        );
+        table.row(case, raw.len(), words(case), times);
+    }
+    table.end();
+}
+
 fn main() {
     let cases = cases();
     println!("# Library against plain Rust");
@@ -541,4 +574,5 @@ fn main() {
     octrees(&cases, &raws);
     verdict(&cases, &raws, "Verdict on the middle half of the frames, room lent at the formula's size", false);
     verdict(&cases, &raws, "Verdict on the middle half of the frames, room lent for exactly the symbols", true);
+    contacts(&cases, &raws, "Sure and possible contact in the middle half of the frames beside the library's verdict");
 }

@@ -68,11 +68,13 @@ returns-2 c =
 
 returns-3 : tie.Need-returns-3
 unfolding codeOfLeaf
-returns-3 c = simp (eq-eqb _ _ (c .if3 .taken))
+returns-3 c = simp (eq-eqb _ _ (c .before .if3 .taken)) (c .white-code .ensures)
 
 returns-4 : tie.Need-returns-4
 unfolding codeOfLeaf
-returns-4 c = let k = c .before .before in rw (black-word _ _ (k .before .pre .1) (c .before .if2 .left) (c .if3 .left))
+returns-4 c =
+    let k = c .before .before .before in
+    rw (black-word _ _ (k .before .pre .1) (c .before .before .if2 .left) (c .before .if3 .left)) (c .black-code .ensures)
 
 pub code-of-word-spec : {M : Type 1} → statement M
 code-of-word-spec =
@@ -84,5 +86,7 @@ code-of-word-spec =
     cast-code-of-row
     code-of-row-requires
     returns-2
+    (λ c κs. search needs)
     returns-3
+    (λ c κs. search needs)
     returns-4)

@@ -1,0 +1,1 @@
+// No code: sure and possible contact, as definitions and as theorems on them.
