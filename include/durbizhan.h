@@ -38,7 +38,8 @@
 /* no scene or no shape: its mark, a version that is not 1 or 2 (of a scene 1 to 3), the zero byte of a scene of version
  * 1, or its length */
 #define DURBIZHAN_BAD_FILE 1
-/* axes not 1 to 4, bits over 10, frame bits over 12, or bits not 0 where there is one axis */
+/* axes not 1 to 4, bits over 10, frame bits over 12, or bits not 0 where there is one axis; of a sweep, no such axis to
+ * drop; of octrees, not three axes or bits that differ */
 #define DURBIZHAN_BAD_UNIVERSE 2
 /* a row that is not five numbers or a ball that is not four, over 256 rows or 64 balls, a number past its limit, or not
  * 0 for an axis that is not there (of a ball's centre: or that is the last) */
@@ -50,7 +51,7 @@
 #define DURBIZHAN_OVERFULL_TREE 5
 /* more symbols (of a file: bytes, of a report: counts) than are lent; how many it takes is in the answer */
 #define DURBIZHAN_NO_ROOM 6
-/* expression not well-formed, or no list of up to 256 such */
+/* expression not well-formed, no list of up to 256 such, or no octree */
 #define DURBIZHAN_BAD_EXPRESSION 7
 /* an expression for a shape file, or from one, that is not merged */
 #define DURBIZHAN_NOT_MERGED 8
@@ -134,7 +135,8 @@ uint64_t durbizhan_verdict(uint64_t axes, uint64_t bits, uint64_t frame_bits,
  * whose whole block their intersection is decided BLACK, so that contact is sure; those that are black in both at their
  * centre, as a verdict counts them; those over whose block it is not decided WHITE, so that contact is possible. These
  * never decrease in this order. Where the last is 0, no point of these voxels lies strictly inside both trees: on the
- * inner side of their planes and off them, in their balls. Never NO_ROOM. */
+ * inner side of their planes and off them, in their balls. Refused as a verdict is, but never NO_ROOM; refused, all
+ * three are 0. */
 uint64_t durbizhan_contacts(uint64_t axes, uint64_t bits, uint64_t frame_bits,
                             const int64_t *rows, size_t rows_count,
                             const int64_t *balls, size_t balls_count,
