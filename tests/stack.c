@@ -288,13 +288,13 @@ static void conversions(const char *named, void (*call)(void))
         lent = 0;
         take(call, DURBIZHAN_NO_ROOM);
         size_t needed = answer[0];
-        size_t rooms[] = {needed - 1, needed, 4096, 4097, 65536, 65537, ROOM};
+        size_t rooms[] = {needed - 1, needed, 4096, 4097, 32768, 32769, ROOM};
         for (size_t j = 0; j < COUNT(rooms); j++) {
             lent = rooms[j];
             take(call, lent < needed ? DURBIZHAN_NO_ROOM : DURBIZHAN_ACCEPTED);
         }
     }
-    expect("the strip is past the scratch room", answer[0] > 65536, 1);
+    expect("the strip is past the scratch room", answer[0] > 32768, 1);
     refused_runs(call, call == verdict);
     end();
 }

@@ -2,7 +2,7 @@
 -- voxel that of its colour.
 use Prim.Native.Nat.{ℕ, _+_, _*_, _≤_, _<_}
 use mathlib.Core.Path.{_≡_, ap}
-use mathlib.Core.Bool.{true, false, cond}
+use mathlib.Core.Bool.{Bool, true, false, cond}
 use mathlib.Core.List.{List}
 use native.Mathlib.Omega.{arith}
 use native.Mathlib.Decide.{decLe}
@@ -20,7 +20,8 @@ use Rattle.bintree.specs.declared.Colour.the-variants.{White, Black}
 use Rattle.csg.specs.Halfspace.{Mark, decided}
 use Rattle.csg.specs.Ball.{Ball, placeAxes, square, radiusSquared, nearest, farthest, nearSum, farSum, ballMark, ballColour}
 use Rattle.csg.proofs.Balls.{offSum, distance-is, Told, is-black, is-white, is-undecided, told}
-use Rattle.convert.specs.Codes.{bitsOf, testedCode, nearOver, farOver, offOver, ballCodeOver, ballCodeAt}
+use Rattle.convert.specs.Codes.{mostCode, bitsOf, testedCode, nearOver, farOver, offOver, ballCodeOver, ballCodeAt, ballCode}
+use Rattle.convert.proofs.Codes.{tested-most}
 
 told-code : {r near far : ℕ} {m : Mark} → Told r near far m → testedCode (leb far r) (ltb r near) ≡ bitsOf m
 told-code {r} {near} {far} (is-black a) = rw (le-leb far r a)
@@ -57,3 +58,14 @@ ball-at u ball v = rw (distance-is u ball 2 (λ i. 2 * getD v i 0 + 1)) (by (dec
         testedCode (leb o (4 * radiusSquared ball)) true ≡ bitsOf (decided (cond (leZ (pos o) (pos (4 * radiusSquared ball))) Black White))
     by (yes h) = rw (le-leb o (4 * radiusSquared ball) h)
     by (no n) = rw (lt-leb o (4 * radiusSquared ball) (omega arith))
+
+-- no code of a ball is more than the most
+pub ball-most : {code : ℕ} (centre : Bool) (n : ℕ) (ball : Ball) (low side : List ℕ) → code ≡ ballCode centre n ball low side → code ≤ mostCode
+ball-most false n ball low side e =
+    omega (arith, e, tested-most (leb (farOver n ball low side) (radiusSquared ball)) (ltb (radiusSquared ball) (nearOver n ball low side)))
+ball-most true n ball low side e = omega (
+  arith,
+  e,
+  tested-most (leb (farOver n ball low side) (radiusSquared ball)) (ltb (radiusSquared ball) (nearOver n ball low side)),
+  tested-most (leb (offOver n ball low) (4 * radiusSquared ball)) true,
+)

@@ -2,10 +2,10 @@
 -- one lies half a side further along that axis.
 use Prim.Native.Nat.{ℕ, zero, suc, _+_, _-_, _*_, _^_, _≤_, _<_}
 use mathlib.Core.Path.{_≡_, refl, sym, _∙_}
-use mathlib.Core.List.{List}
+use mathlib.Core.List.{List, [], _∷_}
 use native.Mathlib.Omega.{arith}
 use native.Mathlib.Decide.{ℕ-discrete, decLt}
-use lib.ListN.{getD, replicate, length-set, List·getD-eq-default}
+use lib.ListN.{length, getD, replicate, length-set, List·getD-eq-default}
 use lib.Seq.{getD-set-same, getD-set-other}
 use Rattle.lemmas.proofs.Grid.{listed-length, listed-at}
 use Rattle.universe.specs.declared.Universe.{Universe}
@@ -24,8 +24,17 @@ low-small s = record { place = λ i. record { most = omega (arith, s .inside i .
 pub side-small : {u : Universe} {left : ℕ} {lows side : List ℕ} → Standing u left lows side → SmallPlaces side
 side-small s = record { place = λ i. record { most = omega (arith, s .inside i .most) } }
 
+-- places copied one by one
+pub four : (l : List ℕ) → length l ≡ mostAxes → (getD l 0 0 ∷ getD l 1 0 ∷ getD l 2 0 ∷ getD l 3 0 ∷ []) ≡ l
+four [] e = absurd (omega arith)
+four (a ∷ []) e = absurd (omega arith)
+four (a ∷ b ∷ []) e = absurd (omega arith)
+four (a ∷ b ∷ c ∷ []) e = absurd (omega arith)
+four (a ∷ b ∷ c ∷ d ∷ []) e = refl
+four (a ∷ b ∷ c ∷ d ∷ x ∷ l) e = absurd (omega arith)
+
 -- ---- the whole universe's block
-zeros : (n i : ℕ) → _≡_ {A = ℕ} (getD (replicate n 0) i 0) 0
+pub zeros : (n i : ℕ) → _≡_ {A = ℕ} (getD (replicate n 0) i 0) 0
 zeros zero i = refl
 zeros (suc n) zero = refl
 zeros (suc n) (suc i) = zeros n i
@@ -82,7 +91,7 @@ module _ (u : Universe) (e : universeRefusal u ≡ 0) (n : ℕ) (lows side : Lis
   unfolding level
   axis-at = at-level
 
-  axis-in : axis < u .axes
+  pub axis-in : axis < u .axes
   axis-in = rw axis-at (axis-below u (a .some-axes) level)
 
   pub axis-few : axis < mostAxes
@@ -100,11 +109,14 @@ module _ (u : Universe) (e : universeRefusal u ≡ 0) (n : ℕ) (lows side : Lis
   unfolding level
   along = s .along
 
-  half-is : halfSide side axis ≡ blockSide u (levels u - n) axis
+  pub half-is : halfSide side axis ≡ blockSide u (levels u - n) axis
   half-is = omega (arith, along axis axis-in, halved)
 
+  pub side-even : getD side axis 0 ≡ 2 * halfSide side axis
+  side-even = omega (arith, along axis axis-in, halved, half-is)
+
   -- a half along the axis ends no later than the block
-  side-set : getD (halvedSides side axis) axis 0 ≡ halfSide side axis
+  pub side-set : getD (halvedSides side axis) axis 0 ≡ halfSide side axis
   side-set = getD-set-same side axis (halfSide side axis) 0 (omega (arith, axis-few, s .side-places))
 
   sides-along : (i : ℕ) → i < u .axes → Dec (i ≡ axis) → getD (halvedSides side axis) i 0 ≡ blockSide u (levels u - n) i

@@ -9,7 +9,8 @@ use native.Mathlib.Nat.{div-eq-of-lt-le, div-le-self, mod-eq-of-lt, mul-le-mul, 
 use native.Mathlib.Decide.{ℕ-discrete}
 use native.Mathlib.Omega.{arith}
 use borrow.Author.Tests.{eq-eqb, ne-eqb}
-use lib.ListN.{getD, set, replicate}
+use lib.IntN.{ℤ}
+use lib.ListN.{length, getD, set, replicate}
 use lib.Pow.{pow-mono}
 use lib.Seq.{getD-set-same, getD-set-other}
 use Rattle.lemmas.specs.Grid.{count}
@@ -44,15 +45,18 @@ use Rattle.convert.specs.declared.counting.Found.{Found}
 use Rattle.convert.specs.declared.counting.Found.the-variants.{Whole, Open}
 use Rattle.convert.specs.declared.decision.Decision.{Decision}
 use Rattle.convert.specs.declared.decision.Tally.{Tally}
-use Rattle.convert.specs.Codes.{blackBit, whiteBit, bitsOf}
-use Rattle.convert.specs.Blocks.{Ready, Standing, treesOf, blockLeft, wholeSides, axisLeft, halfSide, halvedSides, highLows, judged}
+use Rattle.convert.specs.Codes.{blackBit, whiteBit, bitsOf, pairUnit, centreUnit, decisionBy}
+use Rattle.convert.specs.Slots.{slotsOf, raised, lowered, halvedBy, fallPlace, mostSlots}
+use Rattle.convert.specs.Blocks.{Ready, Standing, treesOf, blockLeft, wholeSides, axisLeft, turnsLeft, halfSide, halvedSides, highLows, judged, fullCode, fullCodes}
+use Rattle.convert.specs.Shapes.{Half}
 use Rattle.convert.specs.Answers.{twoTreesRefusal, clearanceChecks}
 use Rattle.convert.specs.Decisions.{decisionOf, countsCentre, tallyAt}
 use Rattle.convert.specs.Contacts.{refusedContacts, doneContacts, contactsAnswer}
 use Rattle.convert.specs.Contacts.{blockCount, blockTally, tallyOf, tallied, decidedTally, SmallTally, Meets, Counting, Finds, whole, opened}
+use Rattle.convert.specs.Contacts.{Told, Opened, CountingHalf, CountingHalves}
 use Rattle.convert.proofs.Answers.{standing}
+use Rattle.convert.proofs.Laying.{half-halving, low-half, high-half}
 use Rattle.convert.proofs.Blocks.{axis-is, axis-few, high-ends, lower-standing, upper-standing, lower-is, upper-is}
-use Rattle.lemmas.proofs.Stores.{restored}
 
 tally-eq : (a b : Tally) → a .sure ≡ b .sure → a .centre ≡ b .centre → a .possible ≡ b .possible → a ≡ b
 tally-eq a b e f g = λ i. record { sure = e i; centre = f i; possible = g i }
@@ -193,6 +197,23 @@ module _ {u : Universe} {surfaces : Surfaces} {first second : List ℕ} {from to
   pub found-after : {t : Tally} → frame + wide ≤ from → t ≡ tallyOf 0 → IsFound (Whole t)
   found-after h e = found-none (inr h) e
 
+  -- what is told of a voxel
+  pub told-decision : {code : ℕ} {d : Decision} → Told u surfaces first second left lows code → left ≡ 0 →
+      d ≡ decisionBy (code % pairUnit) (code / centreUnit % pairUnit) →
+      d ≡ decisionOf (treeMark surfaces trees (blockLeft u 0 lows)) (treeColour surfaces u trees lows)
+  unfolding decisionBy
+  told-decision {code} w z e =
+      e ∙ ap₂ decisionBy (w .mark ∙ ap (λ (n : ℕ). bitsOf (treeMark surfaces trees (blockLeft u n lows))) z) (w .colour z)
+      ∙ by (treeMark surfaces trees (blockLeft u 0 lows)) (treeColour surfaces u trees lows)
+    where
+      by : (m : Mark) (c : Colour) → decisionBy (bitsOf m) (bitsOf (decided c)) ≡ decisionOf m c
+      by (decided Black) Black = refl
+      by (decided Black) White = refl
+      by (decided White) Black = refl
+      by (decided White) White = refl
+      by undecided Black = refl
+      by undecided White = refl
+
   pub voxel-standing : left ≡ 0 → Standing u 0 lows side
   voxel-standing z = subst (λ (n : ℕ). Standing u n lows side) z (k .standing)
 
@@ -230,15 +251,10 @@ module _ {u : Universe} {surfaces : Surfaces} {first second : List ℕ} {from to
       centre = rw last (black (treeColour surfaces u trees lows) ∙ ap (λ (c : Colour). count (isBlack c)) (sym (centre-settled surfaces u trees lows)))
 
   -- a block that is decided, by the bits x of its mark
-  left-over : (n : ℕ) → (n ≡ 0 → ⊥) → (c : Mark) → judged surfaces trees n (blockLeft u n lows) ≡ c → treeMark surfaces trees (blockLeft u n lows) ≡ c
-  unfolding judged
-  left-over zero h c e = absurd (h refl)
-  left-over (suc n) h c e = e
-
-  pub found-decided : {t : Tally} {x : ℕ} → (left ≡ 0 → ⊥) → Meets from to frame wide → x ≡ bitsOf (judged surfaces trees left b) → (x ≡ 0 → ⊥) →
+  pub found-decided : {t : Tally} {x : ℕ} → (left ≡ 0 → ⊥) → Meets from to frame wide → x ≡ bitsOf (treeMark surfaces trees b) → (x ≡ 0 → ⊥) →
       t ≡ decidedTally x left from to frame wide → IsFound (Whole t)
   unfolding blockTally decidedTally
-  found-decided {t} {x} h m e n f = by (judged surfaces trees left b) refl
+  found-decided {t} {x} h m e n f = by (treeMark surfaces trees b) refl
     where
       alike : (c : Colour) → treeMark surfaces trees b ≡ decided c →
           tallyOf (cond (isBlack c) (framesMet from to frame wide * (2 ^ left / wide)) 0) ≡ blockTally u surfaces first second from to left lows
@@ -246,36 +262,36 @@ module _ {u : Universe} {surfaces : Surfaces} {first second : List ℕ} {from to
           tally-eq _ _
           (sym (of-colour (λ v. White) m c g)) (sym (of-colour (treeColour surfaces u trees) m c g)) (sym (of-colour (λ v. Black) m c g))
 
-      by : (y : Mark) → judged surfaces trees left b ≡ y → IsFound (Whole t)
+      by : (y : Mark) → treeMark surfaces trees b ≡ y → IsFound (Whole t)
       by (decided Black) g =
           let q : x ≡ blackBit = e ∙ ap bitsOf g in
           let w : t ≡ tallyOf (framesMet from to frame wide * (2 ^ left / wide)) = rw (q) at f in
-          whole (w ∙ alike Black (left-over left h (decided Black) g))
+          whole (w ∙ alike Black g)
       by (decided White) g =
           let q : x ≡ whiteBit = e ∙ ap bitsOf g in
           let w : t ≡ tallyOf 0 = rw (q) at f in
-          whole (w ∙ alike White (left-over left h (decided White) g))
+          whole (w ∙ alike White g)
       by undecided g = absurd (n (e ∙ ap bitsOf g))
 
-  pub found-open : {x : ℕ} → (left ≡ 0 → ⊥) → x ≡ bitsOf (judged surfaces trees left b) → x ≡ 0 → IsFound Open
-  found-open {x} h e z = by (judged surfaces trees left b) refl
+  pub found-open : {x : ℕ} → (left ≡ 0 → ⊥) → x ≡ bitsOf (treeMark surfaces trees b) → x ≡ 0 → IsFound Open
+  found-open {x} h e z = by (treeMark surfaces trees b) refl
     where
-      by : (y : Mark) → judged surfaces trees left b ≡ y → IsFound Open
+      by : (y : Mark) → treeMark surfaces trees b ≡ y → IsFound Open
       by (decided Black) g = absurd (omega (arith, e, ap bitsOf g, z))
       by (decided White) g = absurd (omega (arith, e, ap bitsOf g, z))
-      by undecided g = opened (omega arith) (left-over left h undecided g)
+      by undecided g = opened (record { some = omega arith; mark = g })
 
 -- ---- what was found
 module _ {u : Universe} {surfaces : Surfaces} {first second : List ℕ} {from to left : ℕ} {lows : List ℕ} where
   pub found-whole : {s : Found} {t : Tally} → Finds u surfaces first second from to left lows s → s ≡ Whole t →
       t ≡ blockTally u surfaces first second from to left lows
   found-whole {t = y} (whole {t = x} e) f = let g : x ≡ y = cc in sym g ∙ e
-  found-whole (opened h e) f = let z : _≡_ {A = ℕ} 0 1 = cc in absurd (omega arith)
+  found-whole (opened o) f = let z : _≡_ {A = ℕ} 0 1 = cc in absurd (omega arith)
 
-  is-open : {s : Found} → Finds u surfaces first second from to left lows s → s ≡ Open →
-      (0 < left) × (treeMark surfaces (treesOf surfaces first second) (blockLeft u left lows) ≡ undecided)
+  pub is-open : {s : Found} → Finds u surfaces first second from to left lows s → s ≡ Open →
+      Opened surfaces (treesOf surfaces first second) left (blockLeft u left lows)
   is-open (whole e) f = let z : _≡_ {A = ℕ} 0 1 = cc in absurd (omega arith)
-  is-open (opened h e) f = (h, e)
+  is-open (opened o) f = o
 
 -- ---- both halves of a block that is open
 pub record Halves (u : Universe) (surfaces : Surfaces) (first second : List ℕ) (from to left : ℕ) (lows side : List ℕ) (axis : ℕ) : Type 0 where
@@ -391,11 +407,10 @@ module _ {u : Universe} {surfaces : Surfaces} {first second : List ℕ} {from to
         upper = rw p upper-counting;
       }
 
-pub halves : {u : Universe} {surfaces : Surfaces} {first second axes : List ℕ} {from to left : ℕ} {lows side : List ℕ} {s : Found} →
-    Counting u surfaces first second from to left lows side → axes ≡ axesLeft u → Finds u surfaces first second from to left lows s → s ≡ Open →
+halves : {u : Universe} {surfaces : Surfaces} {first second axes : List ℕ} {from to left : ℕ} {lows side : List ℕ} →
+    Counting u surfaces first second from to left lows side → axes ≡ axesLeft u → Opened surfaces (treesOf surfaces first second) left (blockLeft u left lows) →
     Halves u surfaces first second from to left lows side (axisLeft axes left)
-halves {u} {surfaces} {first} {second} {axes} {from} {to} {left} {lows} {side} k order f g =
-    let o = is-open f g in by left k (o .0) (o .1)
+halves {u} {surfaces} {first} {second} {axes} {from} {to} {left} {lows} {side} k order o = by left k (o .some) (o .mark)
   where
     by : (n : ℕ) → Counting u surfaces first second from to n lows side → 0 < n →
         treeMark surfaces (treesOf surfaces first second) (blockLeft u n lows) ≡ undecided →
@@ -405,35 +420,96 @@ halves {u} {surfaces} {first} {second} {axes} {from} {to} {left} {lows} {side} k
         let p : suc n - 1 ≡ n = omega arith in
         halves-below n (axisLeft axes (suc n)) k (rw p (axis-is u (k .ready .accepted-universe) order n (k .standing .above))) m
 
--- what is changed is put back, and the two tallies are the block's
-module _ {u : Universe} {surfaces : Surfaces} {first second : List ℕ} {from to left : ℕ} {lows side : List ℕ} {axis : ℕ}
-    (o : Halves u surfaces first second from to left lows side axis) {low₁ side₁ : List ℕ} (p : (low₁ ≡ lows) × (side₁ ≡ halvedSides side axis)) where
-  abbrev high-low : List ℕ
-  high-low = set low₁ axis (getD lows axis 0 + halfSide side axis)
+-- a block that is open is undecided
+open-judged : {surfaces : Surfaces} {t : Tree} {left : ℕ} {b : Block} → Opened surfaces t left b → bitsOf (judged surfaces t left b) ≡ 0
+unfolding judged
+open-judged {surfaces} {t} {left} {b} o = by left (o .some) (o .mark)
+  where
+    by : (n : ℕ) → 0 < n → treeMark surfaces t b ≡ undecided → bitsOf (judged surfaces t n b) ≡ 0
+    by zero h m = absurd (omega arith)
+    by (suc n) h m = ap bitsOf m
 
-  high-lows : high-low ≡ highLows lows side axis
-  high-lows = rw (p .0)
+-- a half that is open is gone to
+pub half-asks : {u : Universe} {surfaces : Surfaces} {first second axes turns : List ℕ} {from to left : ℕ} {low side : List ℕ} {leasts greatests : List ℤ}
+    {amounts : List ℕ} {one other times slots : ℕ} {low₁ high₁ : List ℤ} →
+    CountingHalf u surfaces first second axes turns from to left low side leasts greatests amounts one other times → slots ≡ length (slotsOf first second) →
+    Opened surfaces (treesOf surfaces first second) left (blockLeft u left low) →
+    (low₁ ≡ raised (halvedBy times amounts) one slots leasts) × (high₁ ≡ lowered (halvedBy times amounts) other slots greatests) →
+    CountingHalves u surfaces first second axes turns from to left low side low₁ high₁ amounts (axisLeft axes left)
+half-asks h n o e =
+    let k = halves (h .counting) (h .half .laying .order) o in
+    record { halving = half-halving (h .half) n (e .0) (e .1) (open-judged o); counts = k .counts; lower = k .lower; upper = k .upper }
 
-  pub upper-asks : Counting u surfaces first second from to (left - 1) high-low side₁
-  upper-asks = rw (high-lows, p .1) (o .upper)
+-- ---- both halves
+-- what is told of two blocks is told of each
+bits-few : (m : Mark) → bitsOf m < pairUnit
+bits-few (decided Black) = omega arith
+bits-few (decided White) = omega arith
+bits-few undecided = omega arith
 
-  pub put-back : {low₂ side₂ : List ℕ} → (low₂ ≡ high-low) × (side₂ ≡ side₁) →
-      (set low₂ axis (getD lows axis 0) ≡ lows) × (set side₂ axis (getD side axis 0) ≡ side)
-  put-back q = (
-    rw (q .0, high-lows) (restored lows axis (getD lows axis 0 + halfSide side axis)),
-    rw (q .1, p .1) (restored side axis (halfSide side axis)),
-  )
+module _ {u : Universe} {surfaces : Surfaces} {first second : List ℕ} where
+  pub told-each : (left : ℕ) (low high : List ℕ) {codes : ℕ} →
+      codes ≡ fullCodes surfaces (treesOf surfaces first second) left (blockLeft u left low) (blockLeft u left high) →
+      Told u surfaces first second left low codes × Told u surfaces first second left high (codes / pairUnit)
+  unfolding fullCode
+  told-each zero low high e =
+      let t = treesOf surfaces first second in
+      let a = bits-few (treeMark surfaces t (blockLeft u 0 low)) in
+      let b = bits-few (treeMark surfaces t (blockLeft u 0 high)) in
+      let c = bits-few (decided (treeColour surfaces u t low)) in
+      let d = bits-few (decided (treeColour surfaces u t high)) in (
+        record { mark = omega (arith, e, a, b, c, d); colour = λ z. omega (arith, e, a, b, c, d) },
+        record { mark = omega (arith, e, a, b, c, d); colour = λ z. omega (arith, e, a, b, c, d) },
+      )
+  told-each (suc n) low high e =
+      let t = treesOf surfaces first second in
+      let a = bits-few (treeMark surfaces t (blockLeft u (suc n) low)) in
+      let b = bits-few (treeMark surfaces t (blockLeft u (suc n) high)) in (
+        record { mark = omega (arith, e, a, b); colour = λ z. absurd (omega (arith, z)) },
+        record { mark = omega (arith, e, a, b); colour = λ z. absurd (omega (arith, z)) },
+      )
 
-  module _ {below above : Tally} (x : below ≡ blockTally u surfaces first second from to (left - 1) lows)
-      (y : above ≡ blockTally u surfaces first second from to (left - 1) high-low) where
-    pub small-below : SmallTally below
-    small-below = rw x (small (o .lower))
+-- a half that is laid can be counted, wherever it is laid
+pub weaker : {u : Universe} {surfaces : Surfaces} {first second axes turns : List ℕ} {left : ℕ} {low side : List ℕ} {leasts greatests : List ℤ}
+    {amounts : List ℕ} {one other times at mark : ℕ} → Half u surfaces first second axes turns left low side leasts greatests amounts one other times at mark →
+    Half u surfaces first second axes turns left low side leasts greatests amounts one other times 0
+    (bitsOf (judged surfaces (treesOf surfaces first second) left (blockLeft u left low)))
+weaker h =
+    let l = h .laying in
+    record {
+      laying = record { ready = l .ready; order = l .order; standing = l .standing; fits = omega (arith, l .fits) };
+      told = refl;
+      counted = h .counted;
+      least-moves = h .least-moves;
+      greatest-moves = h .greatest-moves;
+      least-places = h .least-places;
+      greatest-places = h .greatest-places;
+      carried = h .carried;
+    }
 
-    pub small-above : SmallTally above
-    small-above = rw y (small upper-asks)
+-- the halves of a block that is judged
+module _ {u : Universe} {surfaces : Surfaces} {first second axes turns : List ℕ} {from to left : ℕ} {low side : List ℕ} {leasts greatests : List ℤ}
+    {amounts : List ℕ}
+    {axis : ℕ} (o : CountingHalves u surfaces first second axes turns from to left low side leasts greatests amounts axis) {high : List ℕ} {fall rise : ℕ}
+    (q : high ≡ highLows low side axis) (f : fall ≡ fallPlace axis) (g : rise ≡ fall + mostSlots) where
+  pub low-counts : CountingHalf u surfaces first second axes turns from to (left - 1) low (halvedSides side axis) leasts greatests amounts fall rise
+      (turnsLeft turns left)
+  low-counts = record { half = weaker (low-half (o .halving) q f g refl); counting = o .lower }
 
-    pub tallied-whole : {t : Tally} → t ≡ tallied below above → t ≡ blockTally u surfaces first second from to left lows
-    tallied-whole e = e ∙ rw (x, y, high-lows) (sym (o .counts))
+  module _ {side₁ : List ℕ} {low₁ high₁ : List ℤ} (k : side₁ ≡ halvedSides side axis) (m : (low₁ ≡ leasts) × (high₁ ≡ greatests)) where
+    pub high-counts : CountingHalf u surfaces first second axes turns from to (left - 1) high side₁ low₁ high₁ amounts rise fall (turnsLeft turns left)
+    high-counts = record {
+      half = weaker (high-half (o .halving) q f g refl k m (o .halving .upper 0 (omega arith)));
+      counting = rw (q, k) (o .upper);
+    }
+
+  module _ {below above : Tally} (x : below ≡ blockTally u surfaces first second from to (left - 1) low)
+      (y : above ≡ blockTally u surfaces first second from to (left - 1) high) where
+    pub small-both : SmallTally below × SmallTally above
+    small-both = (rw x (small (o .lower)), rw (y, q) (small (o .upper)))
+
+    pub tallied-whole : {t : Tally} → t ≡ tallied below above → t ≡ blockTally u surfaces first second from to left low
+    tallied-whole z = z ∙ rw (x, y, q) (sym (o .counts))
 
 -- ---- the whole universe
 module _ {u : Universe} {surfaces : Surfaces} {first second : List ℕ} (r : Ready u surfaces first second) (from to : ℕ) where

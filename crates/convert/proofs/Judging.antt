@@ -1,14 +1,13 @@
--- Judging by low places and sides is judging their block: the two tests of a row's spread are those of its least and greatest values over the block,
--- so the code of a tree is that of its mark there, and at a voxel that of its mark and of its colour at the centre, by which level L is judged: it is the
--- same wherever the mark is decided.
-use Prim.Native.Nat.{ℕ, zero, suc, _-_, _/_, _%_, _≤_, _<_}
+-- Judging by what is carried is judging the block: a row's code is by its extremes, a ball's by its squares, and the codes of a tree's leaves, joined, are those of
+-- its marks over two blocks; at level L those of its colours at the centres, which are the marks' wherever these are decided.
+use Prim.Native.Nat.{ℕ, zero, suc, _+_, _-_, _*_, _%_, _^_, _≤_, _<_}
 use mathlib.Core.Path.{_≡_, refl, sym, ap, ap₂, _∙_}
 use mathlib.Core.Bool.{Bool, true, false, cond, _&&_}
 use mathlib.Core.List.{List}
 use native.Mathlib.Nat.{le-refl, le-trans}
 use native.Mathlib.Omega.{arith}
 use borrow.Author.Tests.{leb-true}
-use lib.Dec.{eqb, leb, ltb, eqb·suc-zero}
+use lib.Dec.{eqb, leb, ltb, lit≤, eqb·suc-zero}
 use lib.IntN.{ℤ, pos, natAbs}
 use lib.Signed.{_≤ℤ_, leZ}
 use lib.ListN.{length}
@@ -27,28 +26,24 @@ use Rattle.universe.proofs.Universes.{accepted, side-positive, side-last}
 use Rattle.bintree.specs.declared.Colour.{Colour}
 use Rattle.bintree.specs.declared.Colour.the-variants.{White, Black}
 use Rattle.bintree.specs.Shape.{leaf, halved}
-use Rattle.csg.specs.Halfspace.{Halfspace, Mark, decided, undecided, rowCount, rowAt, withinLimits, rowsRefusal, mostRows, rowLength}
-use Rattle.csg.specs.Halfspace.{markOver, colourAtCentre}
-use Rattle.csg.specs.Ball.{Ball, placeAxes, mostPlaces, ballLength, mostBalls, ballCount, ballAt, radiusWithin, ballWithin, ballsRefusal}
+use Rattle.csg.specs.Halfspace.{Halfspace, Mark, decided, undecided, least, greatest, rowCount, rowAt, withinLimits, rowsRefusal, mostRows, rowLength}
 use Rattle.csg.specs.Ball.{ballMark, ballColour}
-use Rattle.csg.specs.Tree.{Tree, intersection, plain}
+use Rattle.csg.specs.Ball.{Ball, placeAxes, mostPlaces, ballLength, mostBalls, ballCount, ballAt, radiusWithin, ballWithin, ballsRefusal}
+use Rattle.csg.specs.Tree.{white, black, surface, intersection, Tree, plain}
+use Rattle.csg.specs.Tree.{leaf as leafTree}
 use Rattle.csg.specs.Surfaces.{Surfaces, named, Surface, halfspace, ball}
-use Rattle.csg.specs.Words.{treeRefusal, treeOf, AllNamed}
+use Rattle.csg.specs.Words.{fold, treeOf}
 use Rattle.csg.specs.Marks.{intersectionMark, surfaceMark, surfaceColour, plainMark, plainColour, treeMark, treeColour}
 use Rattle.csg.specs.Raw.{both, examine}
-use Rattle.csg.proofs.Words.{tree-named}
-use Rattle.csg.proofs.Marks.{mark-over, mark-at, intersection-colours, tree-sound}
+use Rattle.csg.proofs.Halfspace.{voxel-sum}
+use Rattle.csg.proofs.Marks.{markBy, mark-over, mark-at, intersection-colours, tree-sound}
 use Rattle.csg.proofs.Raw.{examine-decided, examine-undecided, examine-voxel}
-use Rattle.convert.specs.Small.{SmallCoefficient, SmallHalfspace, SmallBall, JudgeReady}
-use Rattle.convert.specs.declared.decision.Decision.{Decision}
-use Rattle.convert.specs.Codes.{spreadOf, spreadCode, blackBit, whiteBit, bitsOf, centreUnit, decisionBy, decisionCode, judgedBits, joinCode}
-use Rattle.convert.specs.Codes.{codeOfSurface, codeOfLeaf, codeOfTree}
-use Rattle.convert.specs.Decisions.{decisionOf}
-use Rattle.convert.specs.Blocks.{Ready, Standing, treesOf, blockLeft, judged}
-use Rattle.convert.proofs.Spreads.{black-test, white-test, centre-doubled}
+use Rattle.convert.specs.Small.{SmallCoefficient, SmallHalfspace, SmallBall}
+use Rattle.convert.specs.Codes.{whiteBit, blackBits, whiteBits, withCentres, bitsOf, paired, centreUnit, voxelCode}
+use Rattle.convert.specs.Codes.{judgedBits, valueCode, ballCode, joinCode}
+use Rattle.convert.specs.Blocks.{Ready, Standing, treesOf, blockLeft, judged, codesOf, fullCode, fullCodes}
 use Rattle.convert.proofs.BallMarks.{ball-over, ball-at}
-use Rattle.convert.proofs.Blocks.{low-small, side-small}
-use Rattle.convert.proofs.Codes.{pairCode, pair-join, code-tree, code-voxel, code-of-marks, code-of-colours}
+use Rattle.convert.proofs.Codes.{pairOf, fourOf, code-tree, code-voxels, code-of-marks, code-of-colours}
 
 -- ---- rows that are not refused are small
 limit-most : (b : Bool) → cond b coefficientLimit 0 ≤ coefficientLimit
@@ -135,102 +130,116 @@ module _ (u : Universe) (balls : List ℤ) (e : ballsRefusal u balls ≡ 0) wher
   small-balls i l =
       ball-small u (ballAt balls i) (every-all (ballCount balls) within-ball (and-right shaped-balls (every (ballCount balls) within-ball) good-balls) i l)
 
--- ---- low places and sides are those of a block
-module _ {u : Universe} {surfaces : Surfaces} {first second : List ℕ} (r : Ready u surfaces first second) {left : ℕ} {lows side : List ℕ}
-    (s : Standing u left lows side) where
-  abbrev b : Block
-  b = blockLeft u left lows
+-- ---- a tree is judged by the marks of its surfaces, over a block or, at level L, at its centre
+abbrev marksOf : Surfaces → ℕ → Block → Surface → Mark
+marksOf surfaces zero b s = decided (surfaceColour surfaces (b .universe) s (b .low))
+marksOf surfaces (suc n) b s = surfaceMark surfaces s b
 
-  pub judge-ready : {axes : ℕ} → axes ≡ u .axes → JudgeReady axes surfaces lows side
-  judge-ready e =
-      let a = accepted u (r .accepted-universe) in
-      let small = small-rows u (surfaces .rows) (r .accepted-rows) in
-      let balls = small-balls u (surfaces .balls) (r .accepted-balls) in
-      rw e (record { some = a .some-axes; few = a .few-axes; small = small; small-balls = balls; lows = low-small s; sides = side-small s })
+judged-by : (surfaces : Surfaces) (left : ℕ) (b : Block) (t : Tree) → judged surfaces t left b ≡ markBy (marksOf surfaces left b) (plain t)
+unfolding judged
+judged-by surfaces zero b t = sym (mark-at surfaces (b .universe) (b .low) (plain t))
+judged-by surfaces (suc n) b t = sym (mark-over surfaces b (plain t))
 
-  -- the code of a tree over a block
-  surface-over : (x : Surface) → codeOfSurface (u .axes) surfaces lows side false x ≡ bitsOf (surfaceMark surfaces x b)
-  unfolding codeOfSurface surfaceMark
-  surface-over (halfspace i) =
-      let h = rowAt (surfaces .rows) i in
-      code-of-marks h b (spreadOf (u .axes) h lows side) (black-test h b side (s .along)) (white-test h b side (s .along))
-  surface-over (ball i) = ball-over (ballAt (surfaces .balls) i) b side (s .along)
+-- so the codes of its leaves over two blocks, joined, are its own; at level L those of the marks and those of the colours above them
+marks-by : (surfaces : Surfaces) (b : Block) (t : Tree) → treeMark surfaces t b ≡ markBy (λ s. surfaceMark surfaces s b) (plain t)
+marks-by surfaces b t = sym (mark-over surfaces b (plain t))
 
-  over-block : (t : Tree) → AllNamed (named surfaces) t → codeOfTree (u .axes) surfaces lows side false t ≡ bitsOf (treeMark surfaces t b)
-  unfolding codeOfTree codeOfLeaf
-  over-block t h =
-      code-tree (codeOfLeaf (u .axes) surfaces lows side false) (λ x. surfaceMark surfaces x b) (named surfaces) refl refl (λ x n. surface-over x) t h
-      ∙ ap bitsOf (mark-over surfaces b (plain t))
+colours-by : (surfaces : Surfaces) (b : Block) (t : Tree) →
+    decided (treeColour surfaces (b .universe) t (b .low)) ≡ markBy (λ s. decided (surfaceColour surfaces (b .universe) s (b .low))) (plain t)
+colours-by surfaces b t = sym (mark-at surfaces (b .universe) (b .low) (plain t))
 
--- ---- the code of what is decided at a voxel, of a surface by the bits of both parts; and the two parts of a code
-both-parts : (m : Mark) (c : Colour) → decisionCode (decisionBy (bitsOf m) (bitsOf (decided c))) ≡ pairCode m (decided c)
-unfolding decisionCode decisionBy
-both-parts (decided Black) Black = refl
-both-parts (decided Black) White = refl
-both-parts (decided White) Black = refl
-both-parts (decided White) White = refl
-both-parts undecided Black = refl
-both-parts undecided White = refl
+four-is : (m n x y : ℕ) → paired (m + centreUnit * x) (n + centreUnit * y) ≡ paired x y * 2 ^ 4 + paired m n
+four-is m n x y = omega arith
 
-decided-code : (m : Mark) (c : Colour) {x y : ℕ} → x ≡ bitsOf m → y ≡ bitsOf (decided c) → decisionCode (decisionBy x y) ≡ pairCode m (decided c)
-decided-code m c p q = rw (p, q) (both-parts m c)
+full-voxels : (surfaces : Surfaces) (b c : Block) (t : Tree) → fullCodes surfaces t 0 b c
+    ≡ fourOf (markBy (λ s. surfaceMark surfaces s b) (plain t)) (markBy (λ s. surfaceMark surfaces s c) (plain t))
+    (markBy (λ s. decided (surfaceColour surfaces (b .universe) s (b .low))) (plain t))
+    (markBy (λ s. decided (surfaceColour surfaces (c .universe) s (c .low))) (plain t))
+unfolding fullCode
+full-voxels surfaces b c t =
+    four-is (bitsOf (treeMark surfaces t b)) (bitsOf (treeMark surfaces t c))
+    (bitsOf (decided (treeColour surfaces (b .universe) t (b .low)))) (bitsOf (decided (treeColour surfaces (c .universe) t (c .low))))
+    ∙ rw (marks-by surfaces b t, marks-by surfaces c t, colours-by surfaces b t, colours-by surfaces c t)
 
-colour-of : (m n : Mark) → pairCode m n / centreUnit ≡ bitsOf n
-colour-of (decided Black) n = omega arith
-colour-of (decided White) n = omega arith
-colour-of undecided n = omega arith
+full-blocks : (surfaces : Surfaces) (n : ℕ) (b c : Block) (t : Tree) → fullCodes surfaces t (suc n) b c
+    ≡ pairOf (markBy (λ s. surfaceMark surfaces s b) (plain t)) (markBy (λ s. surfaceMark surfaces s c) (plain t))
+unfolding fullCode
+full-blocks surfaces n b c t = rw (marks-by surfaces b t, marks-by surfaces c t)
 
-decision-back : (m : Mark) (c : Colour) → decisionBy (pairCode m (decided c) % centreUnit) (pairCode m (decided c) / centreUnit) ≡ decisionOf m c
-unfolding decisionBy
-decision-back (decided Black) Black = refl
-decision-back (decided Black) White = refl
-decision-back (decided White) Black = refl
-decision-back (decided White) White = refl
-decision-back undecided Black = refl
-decision-back undecided White = refl
+pub tree-codes : (surfaces : Surfaces) (left : ℕ) (b c : Block) (t : Tree) →
+    fold (λ l. fullCodes surfaces (leafTree l) left b c) joinCode t ≡ fullCodes surfaces t left b c
+tree-codes surfaces zero b c t = code-voxels _ _ _ _ _ (λ l. full-voxels surfaces b c (leafTree l)) t ∙ sym (full-voxels surfaces b c t)
+tree-codes surfaces (suc n) b c t = code-tree _ _ _ (λ l. full-blocks surfaces n b c (leafTree l)) t ∙ sym (full-blocks surfaces n b c t)
 
 -- ---- a voxel's block holds its own low places, and is one unit long along each axis
 pub own-lows : (b : Block) → Within b (b .low)
 own-lows b = record { above = λ i l. le-refl _; below = λ i l. omega (arith, side-positive (b .universe) (b .level) i) }
 
-module _ {u : Universe} {surfaces : Surfaces} {first second : List ℕ} (r : Ready u surfaces first second) {lows side : List ℕ}
-    (s : Standing u 0 lows side) where
-  abbrev v : Block
-  v = blockLeft u 0 lows
+-- a colour's codes
+module _ (surfaces : Surfaces) (b c : Block) where
+  pub white-codes : (left : ℕ) → cond (eqb left 0) (withCentres whiteBits) whiteBits ≡ fullCodes surfaces (leafTree white) left b c
+  unfolding fullCode plain plainMark plainColour
+  white-codes zero = refl
+  white-codes (suc n) = rw (eqb·suc-zero n)
 
-  unit : (i : ℕ) → i < u .axes → blockSide u (levels u - 0) i ≡ 1
-  unit i l = let z : levels u - 0 ≡ levels u = omega arith in rw z (side-last u i l)
+  pub black-codes : (left : ℕ) → cond (eqb left 0) (withCentres blackBits) blackBits ≡ fullCodes surfaces (leafTree black) left b c
+  unfolding fullCode plain plainMark plainColour
+  black-codes zero = refl
+  black-codes (suc n) = rw (eqb·suc-zero n)
 
-  surface-at : (x : Surface) → codeOfSurface (u .axes) surfaces lows side true x
-      ≡ pairCode (surfaceMark surfaces x v) (decided (surfaceColour surfaces u x lows))
-  unfolding codeOfSurface surfaceColour surfaceMark
-  surface-at (halfspace i) =
-      let h = rowAt (surfaces .rows) i in
-      let spread = spreadOf (u .axes) h lows side in
-      let colour : spreadCode (spread .doubled) (pos 0) ≡ bitsOf (decided (colourAtCentre u h lows)) =
-      rw (centre-doubled h v side (s .along) unit) (code-of-colours h u lows) in
-      decided-code (markOver h v) (colourAtCentre u h lows)
-      (code-of-marks h v spread (black-test h v side (s .along)) (white-test h v side (s .along))) colour
-  surface-at (ball i) =
+-- the code of a surface, of its mark and of its colour at the centre
+leaf-mark : (surfaces : Surfaces) (x : Surface) (b : Block) → treeMark surfaces (leafTree (surface x)) b ≡ surfaceMark surfaces x b
+unfolding markBy plain
+leaf-mark surfaces x b = marks-by surfaces b (leafTree (surface x))
+
+leaf-colour : (surfaces : Surfaces) (x : Surface) (b : Block) →
+    decided (treeColour surfaces (b .universe) (leafTree (surface x)) (b .low)) ≡ decided (surfaceColour surfaces (b .universe) x (b .low))
+unfolding markBy plain
+leaf-colour surfaces x b = colours-by surfaces b (leafTree (surface x))
+
+module _ {u : Universe} {lows side : List ℕ} (surfaces : Surfaces) (i : ℕ) where
+  pub row-code : (left : ℕ) → Standing u left lows side →
+      valueCode (eqb left 0) (least (rowAt (surfaces .rows) i) (blockLeft u left lows)) (greatest (rowAt (surfaces .rows) i) (blockLeft u left lows))
+      ≡ fullCode surfaces (leafTree (surface (halfspace i))) left (blockLeft u left lows)
+  unfolding fullCode surfaceMark surfaceColour
+  row-code zero s =
+      let z : levels u - 0 ≡ levels u = omega arith in
+      let b = blockLeft u 0 lows in
+      code-of-colours (rowAt (surfaces .rows) i) u lows b (voxel-sum (rowAt (surfaces .rows) i) b (λ j l. rw z (side-last u j l)))
+      ∙ rw (leaf-mark surfaces (halfspace i) b, leaf-colour surfaces (halfspace i) b)
+  row-code (suc n) s =
+      let b = blockLeft u (suc n) lows in
+      rw (eqb·suc-zero n) (code-of-marks (rowAt (surfaces .rows) i) b ∙ ap bitsOf (sym (leaf-mark surfaces (halfspace i) b)))
+
+  pub ball-code : (left : ℕ) → Standing u left lows side →
+      ballCode (eqb left 0) (u .axes - 1) (ballAt (surfaces .balls) i) lows side ≡ fullCode surfaces (leafTree (surface (ball i))) left (blockLeft u left lows)
+  unfolding fullCode surfaceMark surfaceColour
+  ball-code zero s =
+      let b = blockLeft u 0 lows in
       let x = ballAt (surfaces .balls) i in
-      decided-code (ballMark x v) (ballColour u x lows) (ball-over x v side (s .along)) (ball-at u x lows)
+      ap₂ voxelCode (ball-over x b side (s .along)) (ball-at u x lows)
+      ∙ rw (leaf-mark surfaces (ball i) b, leaf-colour surfaces (ball i) b)
+  ball-code (suc n) s =
+      let b = blockLeft u (suc n) lows in
+      rw (eqb·suc-zero n) (ball-over (ballAt (surfaces .balls) i) b side (s .along) ∙ ap bitsOf (sym (leaf-mark surfaces (ball i) b)))
 
-  pub over-voxel : (t : Tree) → AllNamed (named surfaces) t →
-      codeOfTree (u .axes) surfaces lows side true t ≡ pairCode (treeMark surfaces t v) (decided (treeColour surfaces u t lows))
-  unfolding codeOfTree codeOfLeaf
-  over-voxel t h =
-      code-voxel (codeOfLeaf (u .axes) surfaces lows side true) (λ x. surfaceMark surfaces x v) (named surfaces)
-      (λ x. decided (surfaceColour surfaces u x lows)) refl refl (λ x n. surface-at x) t h
-      ∙ ap₂ pairCode (mark-over surfaces v (plain t)) (mark-at surfaces u lows (plain t))
+-- bits
+mark-few : (m : Mark) → bitsOf m ≤ whiteBit
+mark-few (decided Black) = lit≤ tt
+mark-few (decided White) = lit≤ tt
+mark-few undecided = lit≤ tt
 
--- ---- the code of a tree of the run says how it is judged
-judged-code : {u : Universe} {surfaces : Surfaces} {first second : List ℕ} → Ready u surfaces first second → (left : ℕ) {lows side : List ℕ} →
-    Standing u left lows side → (t : Tree) → AllNamed (named surfaces) t →
-    judgedBits (eqb left 0) (codeOfTree (u .axes) surfaces lows side (eqb left 0) t) ≡ bitsOf (judged surfaces t left (blockLeft u left lows))
-unfolding judged
-judged-code {u} {surfaces} r zero {lows} s t h =
-    rw (over-voxel r s t h) (colour-of (treeMark surfaces t (blockLeft u 0 lows)) (decided (treeColour surfaces u t lows)))
-judged-code r (suc n) s t h = rw (eqb·suc-zero n) (over-block r s t h)
+colour-some : (c : Colour) → 1 ≤ bitsOf (decided c)
+colour-some Black = lit≤ tt
+colour-some White = lit≤ tt
+
+white-pair : (m n x y : Mark) → pairOf m n ≡ whiteBits → whiteBits ≡ pairOf (intersectionMark m x) (intersectionMark n y)
+unfolding intersectionMark
+white-pair (decided White) (decided White) x y e = refl
+white-pair (decided White) (decided Black) x y e = absurd (omega arith)
+white-pair (decided White) undecided x y e = absurd (omega arith)
+white-pair (decided Black) n x y e = absurd (omega (arith, mark-few n))
+white-pair undecided n x y e = absurd (omega (arith, mark-few n))
 
 -- two trees intersected are judged by both
 both-judged : (surfaces : Surfaces) (t w : Tree) (n : ℕ) (b : Block) →
@@ -239,94 +248,43 @@ unfolding judged plain plainMark plainColour
 both-judged surfaces t w zero b = sym (intersection-colours _ _)
 both-judged surfaces t w (suc n) b = refl
 
--- ---- joining two marks by their bits
-white-first : (m n : Mark) → bitsOf m ≡ whiteBit → bitsOf (intersectionMark m n) ≡ whiteBit
-unfolding intersectionMark
-white-first (decided White) n e = refl
-white-first (decided Black) n e = absurd (omega arith)
-white-first undecided n e = absurd (omega arith)
+-- so their codes are those of both, joined
+module _ (surfaces : Surfaces) (first second : List ℕ) (b c : Block) where
+  abbrev codesBy : ℕ → List ℕ → ℕ
+  codesBy left words = fullCodes surfaces (treeOf (named surfaces) words) left b c
 
-white-second : (m n : Mark) → bitsOf n ≡ whiteBit → bitsOf (intersectionMark m n) ≡ whiteBit
-unfolding intersectionMark
-white-second (decided White) n e = refl
-white-second (decided Black) n e = e
-white-second undecided (decided White) e = refl
-white-second undecided (decided Black) e = absurd (omega arith)
-white-second undecided undecided e = absurd (omega arith)
+  both-codes : (left : ℕ) → joinCode intersection (codesBy left first) (codesBy left second) ≡ fullCodes surfaces (treesOf surfaces first second) left b c
+  unfolding fold
+  both-codes left =
+      ap₂ (joinCode intersection) (sym (tree-codes surfaces left b c (treeOf (named surfaces) first)))
+      (sym (tree-codes surfaces left b c (treeOf (named surfaces) second)))
+      ∙ tree-codes surfaces left b c (treesOf surfaces first second)
 
-black-first : (m n : Mark) → bitsOf m ≡ blackBit → bitsOf (intersectionMark m n) ≡ bitsOf n
-unfolding intersectionMark
-black-first (decided Black) n e = refl
-black-first (decided White) n e = absurd (omega arith)
-black-first undecided n e = absurd (omega arith)
+  pub codes-joined : (left : ℕ) {x y r : ℕ} → x ≡ codesBy left first → y ≡ codesBy left second → r ≡ joinCode intersection x y →
+      r ≡ fullCodes surfaces (treesOf surfaces first second) left b c
+  codes-joined left p q e = e ∙ ap₂ (joinCode intersection) p q ∙ both-codes left
 
-open-first : (m n : Mark) → (bitsOf m ≡ whiteBit → ⊥) → (bitsOf m ≡ blackBit → ⊥) → (bitsOf n ≡ whiteBit → ⊥) → bitsOf (intersectionMark m n) ≡ 0
-unfolding intersectionMark
-open-first (decided White) n p q w = absurd (p refl)
-open-first (decided Black) n p q w = absurd (q refl)
-open-first undecided (decided White) p q w = absurd (w refl)
-open-first undecided (decided Black) p q w = refl
-open-first undecided undecided p q w = refl
+  -- above level L a first tree that is WHITE over both blocks decides alone; at level L no code is without its colours
+  pub codes-white : (left : ℕ) {x : ℕ} → x ≡ codesBy left first → x ≡ whiteBits → whiteBits ≡ fullCodes surfaces (treesOf surfaces first second) left b c
+  unfolding fullCode judged
+  codes-white zero {x} p e =
+      absurd (omega (arith, p, e, colour-some (treeColour surfaces (b .universe) (treeOf (named surfaces) first) (b .low))))
+  codes-white (suc n) p e =
+      white-pair (treeMark surfaces (treeOf (named surfaces) first) b) (treeMark surfaces (treeOf (named surfaces) first) c)
+      (treeMark surfaces (treeOf (named surfaces) second) b) (treeMark surfaces (treeOf (named surfaces) second) c) (sym p ∙ e)
+      ∙ ap₂ (λ (m w : Mark). pairOf m w) (sym (both-judged surfaces (treeOf (named surfaces) first) (treeOf (named surfaces) second) (suc n) b))
+      (sym (both-judged surfaces (treeOf (named surfaces) first) (treeOf (named surfaces) second) (suc n) c))
 
--- the bits x and y that are taken of the two trees' codes give how their intersection is judged
-module _ {u : Universe} {surfaces : Surfaces} {first second : List ℕ} (r : Ready u surfaces first second) (left : ℕ) {lows side : List ℕ}
-    (s : Standing u left lows side) {axes : ℕ} (d : axes ≡ u .axes) where
-  abbrev codeBy : List ℕ → ℕ
-  codeBy words = codeOfTree axes surfaces lows side (eqb left 0) (treeOf (named surfaces) words)
+-- the bits by which blocks are judged
+pub judged-codes : (surfaces : Surfaces) (t : Tree) (left : ℕ) (b c : Block) →
+    judgedBits (eqb left 0) (fullCodes surfaces t left b c) ≡ codesOf surfaces t left b c
+unfolding fullCode judged
+judged-codes surfaces t zero b c = omega (arith, mark-few (treeMark surfaces t b), mark-few (treeMark surfaces t c))
+judged-codes surfaces t (suc n) b c = rw (eqb·suc-zero n)
 
-  abbrev judgedBy : List ℕ → Mark
-  judgedBy words = judged surfaces (treeOf (named surfaces) words) left (blockLeft u left lows)
-
-  abbrev whole : Mark
-  whole = judged surfaces (treesOf surfaces first second) left (blockLeft u left lows)
-
-  whole-is : whole ≡ intersectionMark (judgedBy first) (judgedBy second)
-  whole-is = both-judged surfaces (treeOf (named surfaces) first) (treeOf (named surfaces) second) left (blockLeft u left lows)
-
-  bits-by : (words : List ℕ) → treeRefusal (named surfaces) words ≡ 0 → {z code : ℕ} → z ≡ judgedBits (eqb left 0) code → code ≡ codeBy words →
-      z ≡ bitsOf (judgedBy words)
-  bits-by words a e f = e ∙ ap (judgedBits (eqb left 0)) f ∙ rw d (judged-code r left s _ (tree-named (named surfaces) words a))
-
-  module _ (x : ℕ) {code : ℕ} (o : x ≡ judgedBits (eqb left 0) code) (p : code ≡ codeBy first) where
-    bits-one : x ≡ bitsOf (judgedBy first)
-    bits-one = bits-by first (r .accepted-first) o p
-
-    pub first-white : x ≡ whiteBit → whiteBit ≡ bitsOf whole
-    first-white e = rw whole-is (sym (white-first _ _ (sym bits-one ∙ e)))
-
-    module _ (y : ℕ) {other : ℕ} (w : y ≡ judgedBits (eqb left 0) other) (q : other ≡ codeBy second) where
-      bits-other : y ≡ bitsOf (judgedBy second)
-      bits-other = bits-by second (r .accepted-second) w q
-
-      pub second-white : y ≡ whiteBit → whiteBit ≡ bitsOf whole
-      second-white e = rw whole-is (sym (white-second _ _ (sym bits-other ∙ e)))
-
-      pub first-black : x ≡ blackBit → y ≡ bitsOf whole
-      first-black e = rw whole-is (bits-other ∙ sym (black-first _ _ (sym bits-one ∙ e)))
-
-      pub first-open : (x ≡ whiteBit → ⊥) → (y ≡ whiteBit → ⊥) → (x ≡ blackBit → ⊥) → 0 ≡ bitsOf whole
-      first-open f g h = rw whole-is (sym (open-first _ _ (λ e. f (bits-one ∙ e)) (λ e. h (bits-one ∙ e)) (λ e. g (bits-other ∙ e))))
-
--- at a voxel they are joined in both parts
-pub decided-both : {u : Universe} {surfaces : Surfaces} {first second : List ℕ} → Ready u surfaces first second → {lows side : List ℕ} →
-    Standing u 0 lows side → {axes : ℕ} → axes ≡ u .axes → {x y z : ℕ} →
-    x ≡ codeOfTree axes surfaces lows side true (treeOf (named surfaces) first) →
-    y ≡ codeOfTree axes surfaces lows side true (treeOf (named surfaces) second) →
-    z ≡ joinCode intersection x y → {d : Decision} → d ≡ decisionBy (z % centreUnit) (z / centreUnit) →
-    d ≡ decisionOf (treeMark surfaces (treesOf surfaces first second) (blockLeft u 0 lows)) (treeColour surfaces u (treesOf surfaces first second) lows)
-unfolding plain plainMark plainColour
-decided-both {u} {surfaces} {first} {second} r {lows} s {axes} d p q k e =
-    let v = blockLeft u 0 lows in
-    let a = treeOf (named surfaces) first in
-    let b = treeOf (named surfaces) second in
-    let x = rw d at p ∙ over-voxel r s a (tree-named (named surfaces) first (r .accepted-first)) in
-    let y = rw d at q ∙ over-voxel r s b (tree-named (named surfaces) second (r .accepted-second)) in
-    let m = treeMark surfaces a v in
-    let n = treeMark surfaces b v in
-    let joins = pair-join intersection m (decided (treeColour surfaces u a lows)) n (decided (treeColour surfaces u b lows)) in
-    let z = k ∙ ap₂ (joinCode intersection) x y ∙ joins ∙ ap (pairCode (intersectionMark m n)) (intersection-colours _ _) in
-    e ∙ ap (λ (w : ℕ). decisionBy (w % centreUnit) (w / centreUnit)) z
-    ∙ decision-back (treeMark surfaces (treesOf surfaces first second) v) (treeColour surfaces u (treesOf surfaces first second) lows)
+pub judge-told : (surfaces : Surfaces) (t : Tree) (left : ℕ) (b c : Block) {codes r : ℕ} → codes ≡ fullCodes surfaces t left b c →
+    r ≡ judgedBits (eqb left 0) codes → r ≡ codesOf surfaces t left b c
+judge-told surfaces t left b c p e = e ∙ ap (judgedBits (eqb left 0)) p ∙ judged-codes surfaces t left b c
 
 -- ---- what is written for a block, by how it is judged
 module _ (surfaces : Surfaces) (t : Tree) where

@@ -6,8 +6,7 @@ use mathlib.Core.Bool.{Bool, true, false, cond}
 use mathlib.Core.List.{List}
 use native.Mathlib.Omega.{arith}
 use borrow.Author.Needs.{needs}
-use lib.ListN.{getD, set}
-use Rattle.lemmas.proofs.Stores.{restored}
+use lib.IntN.{ℤ}
 use Rattle.universe.specs.declared.Universe.{Universe}
 use Rattle.bintree.specs.declared.Colour.the-variants.{White, Black}
 use Rattle.bintree.specs.Shape.{Shape, leaf, halved, size}
@@ -67,9 +66,9 @@ piece-closed r m left low {x} e n y out at =
     let w = closed r left low x e n in
     rw (w .1, shaped-leaf m (w .0)) (piece-eq (y ∙ w .2) refl, refl)
 
--- ---- both halves of a block: what was changed of the low places and of the sides is put back
-module _ {u : Universe} {surfaces : Surfaces} {first second axes : List ℕ} {left : ℕ} {low side : List ℕ} {axis at : ℕ}
-    (o : Halving u surfaces first second axes left low side axis at) (m : Bool) where
+-- ---- both halves of a block
+module _ {u : Universe} {surfaces : Surfaces} {first second axes turns : List ℕ} {left : ℕ} {low side : List ℕ} {leasts greatests : List ℤ}
+    {amounts : List ℕ} {axis at : ℕ} (o : Halving u surfaces first second axes turns left low side leasts greatests amounts axis at) (m : Bool) where
   abbrev low-part : Shape
   low-part = shapeOf u surfaces first second (left - 1) low
 
@@ -82,26 +81,11 @@ module _ {u : Universe} {surfaces : Surfaces} {first second axes : List ℕ} {le
   whole-is : whole ≡ shaped m (halved low-part high-part)
   whole-is = ap (shaped m) (o .shape)
 
-  -- the low half is laid: its piece, and the low places and the sides after it
-  module _ {below : Piece} {low₁ side₁ : List ℕ} (p : below ≡ pieceOf (at + 1) (shaped m low-part))
-      (k : (low₁ ≡ low) × (side₁ ≡ halvedSides side axis)) where
-    -- the low places that the high half is laid with
-    abbrev high-low : List ℕ
-    high-low = set low₁ axis (getD low axis 0 + halfSide side axis)
-
-    high-lows : high-low ≡ highLows low side axis
-    high-lows = rw (k .0)
-
+  -- the low half is laid: its piece
+  module _ {below : Piece} (p : below ≡ pieceOf (at + 1) (shaped m low-part)) {high-low : List ℕ} (high-lows : high-low ≡ highLows low side axis) where
     -- the places go on: the second half begins no later than the first would end unmerged
-    pub upper-asks : Laying u surfaces first second axes (left - 1) high-low side₁ (below .end)
-    upper-asks = rw (high-lows, k .1) (o .upper (below .end) (omega (arith, ap (λ (x : Piece). x .end) p, shaped-size m low-part)))
-
-    pub put-back : {low₂ side₂ : List ℕ} → (low₂ ≡ high-low) × (side₂ ≡ side₁) →
-        (set low₂ axis (getD low axis 0) ≡ low) × (set side₂ axis (getD side axis 0) ≡ side)
-    put-back e = (
-      rw (e .0, high-lows) (restored low axis (getD low axis 0 + halfSide side axis)),
-      rw (e .1, k .1) (restored side axis (halfSide side axis)),
-    )
+    pub upper-lays : Laying u surfaces first second axes (left - 1) (highLows low side axis) (halvedSides side axis) (below .end)
+    upper-lays = o .upper (below .end) (omega (arith, ap (λ (x : Piece). x .end) p, shaped-size m low-part))
 
     -- the high half is laid too: joined, the two are the whole
     module _ (out one two : List ℕ) {above : Piece} (q : one ≡ laid out (at + 1) (shaped m low-part))

@@ -23,9 +23,10 @@ use Rattle.csg.specs.Surfaces.{Surfaces}
 use Rattle.csg.specs.Tree.{Tree}
 use Rattle.csg.specs.Raw.{examine}
 use Rattle.csg.proofs.Raw.{examine-depth}
+use lib.IntN.{ℤ}
 use lib.ListN.{getD}
 use Rattle.convert.specs.Codes.{bitsOf}
-use Rattle.convert.specs.Blocks.{Ready, Standing, treesOf, blockLeft, axisLeft, highLows, judged}
+use Rattle.convert.specs.Blocks.{Ready, Standing, Halved, Carried, treesOf, blockLeft, axisLeft, highLows, judged}
 use Rattle.convert.specs.Shapes.{shapeOf, shaped, symbolOfBits, endLimit, Laying, Halving}
 use Rattle.convert.proofs.Blocks.{axis-is, axis-few, high-ends, lower-standing, upper-standing, lower-is, upper-is}
 use Rattle.convert.proofs.Judging.{written-decided, written-halved, never-last}
@@ -104,12 +105,13 @@ left-open undecided x e z = refl
 pub one-fits : (s : Shape) (at : ℕ) → at + size s < endLimit → at + 1 < endLimit
 one-fits s at h = omega (arith, size-positive s)
 
-module _ {u : Universe} {surfaces : Surfaces} {first second axes low side : List ℕ} {at : ℕ} where
+module _ {u : Universe} {surfaces : Surfaces} {first second axes turns low side : List ℕ} {leasts greatests : List ℤ} {amounts : List ℕ} {at : ℕ} where
   halving-below : (n axis : ℕ) → axis ≡ axisLeft axes (suc n) → Laying u surfaces first second axes (suc n) low side at →
+      Halved u turns → Carried u surfaces first second (suc n) low leasts greatests amounts →
       judged surfaces (treesOf surfaces first second) (suc n) (blockLeft u (suc n) low) ≡ undecided →
-      Halving u surfaces first second axes (suc n) low side axis at
+      Halving u surfaces first second axes turns (suc n) low side leasts greatests amounts axis at
   unfolding shapeOf size
-  halving-below n axis turn l f =
+  halving-below n axis turn l d c f =
       let t = treesOf surfaces first second in
       let p : suc n - 1 ≡ n = omega arith in
       let e = l .ready .accepted-universe in
@@ -125,6 +127,9 @@ module _ {u : Universe} {surfaces : Surfaces} {first second axes low side : List
       let lower = lower-standing u e n low side s axis at-level in
       let upper = upper-standing u e n low side s axis at-level in
       record {
+        ready = l .ready;
+        standing = s;
+        turn = at-level;
         some = omega arith;
         place = omega (arith, s .above, levels-few u (accepted u e));
         within = axis-few u e n low side s axis at-level;
@@ -133,15 +138,18 @@ module _ {u : Universe} {surfaces : Surfaces} {first second axes low side : List
         shape = rw p is;
         lower = rw p (record { ready = l .ready; order = l .order; standing = lower; fits = omega (arith, long, l .fits) });
         upper = rw p (λ middle h. record { ready = l .ready; order = l .order; standing = upper; fits = omega (arith, long, l .fits) });
+        counted = d;
+        carried = c;
       }
 
-  pub halving : {left x : ℕ} → Laying u surfaces first second axes left low side at →
+  pub halving : {left x : ℕ} → Laying u surfaces first second axes left low side at → Halved u turns →
+      Carried u surfaces first second left low leasts greatests amounts →
       x ≡ bitsOf (judged surfaces (treesOf surfaces first second) left (blockLeft u left low)) → x ≡ 0 →
-      Halving u surfaces first second axes left low side (axisLeft axes left) at
-  halving {left} {x} l e z = by left l (left-open _ x e z)
+      Halving u surfaces first second axes turns left low side leasts greatests amounts (axisLeft axes left) at
+  halving {left} {x} l d c e z = by left l c (left-open _ x e z)
     where
-      by : (n : ℕ) → Laying u surfaces first second axes n low side at →
+      by : (n : ℕ) → Laying u surfaces first second axes n low side at → Carried u surfaces first second n low leasts greatests amounts →
           judged surfaces (treesOf surfaces first second) n (blockLeft u n low) ≡ undecided →
-          Halving u surfaces first second axes n low side (axisLeft axes n) at
-      by zero k f = absurd (never-last surfaces (treesOf surfaces first second) (blockLeft u 0 low) f)
-      by (suc n) k f = halving-below n (axisLeft axes (suc n)) refl k f
+          Halving u surfaces first second axes turns n low side leasts greatests amounts (axisLeft axes n) at
+      by zero k c f = absurd (never-last surfaces (treesOf surfaces first second) (blockLeft u 0 low) f)
+      by (suc n) k c f = halving-below n (axisLeft axes (suc n)) refl k d c f

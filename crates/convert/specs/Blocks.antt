@@ -1,22 +1,26 @@
 -- The state of the recursion by which rule 4.2 is met: a block's low places and its sides, the levels left below it,
 -- and the axis to halve.
-use Prim.Native.Nat.{ℕ, zero, suc, _+_, _-_, _/_, _≤_, _<_}
+use Prim.Native.Nat.{ℕ, zero, suc, _+_, _-_, _*_, _/_, _≤_, _<_}
 use mathlib.Core.Path.{_≡_}
+use mathlib.Core.Bool.{true}
 use mathlib.Core.List.{List}
-use lib.ListN.{length, getD, set}
+use lib.IntN.{ℤ, pos, _+ℤ_, _-ℤ_}
+use lib.ListN.{length, getD, set, take}
 use Rattle.lemmas.specs.Grid.{listed}
 use Rattle.universe.specs.declared.Universe.{Universe}
 use Rattle.universe.specs.declared.Block.{Block}
-use Rattle.universe.specs.Universe.{mostAxes, universeRefusal, levels, blockSide}
+use Rattle.universe.specs.Universe.{mostAxes, mostLevels, universeRefusal, levels, axisAt, halvings, blockSide}
 use Rattle.universe.specs.Questions.{sideAnswer}
-use Rattle.csg.specs.Halfspace.{Mark, decided, rowsRefusal}
+use Rattle.csg.specs.Halfspace.{Mark, decided, rowsRefusal, least, greatest}
 use Rattle.csg.specs.Ball.{ballsRefusal}
 use Rattle.csg.specs.Surfaces.{Surfaces, named}
 use Rattle.csg.specs.Tree.{Tree}
-use Rattle.csg.specs.Words.{mostWords, treeRefusal, treeOf}
+use Rattle.csg.specs.Words.{mostWords, treeRefusal, treeOf, namesHalfspace, firstHalfspace}
 use Rattle.csg.specs.Marks.{treeMark, treeColour}
 use Rattle.csg.specs.Raw.{both}
 use Rattle.convert.specs.Small.{SmallPlace}
+use Rattle.convert.specs.Slots.{rowsNamed, slotsOf, rowIn, mostSlots, halvedBy, Movable, Extremes, Amounts}
+use Rattle.convert.specs.Codes.{bitsOf, paired, centreUnit}
 
 -- two trees that are intersected: what a run converts
 abbrev pub treesOf : Surfaces → List ℕ → List ℕ → Tree
@@ -70,3 +74,62 @@ highLows low side axis = set low axis (getD low axis 0 + halfSide side axis)
 unfoldable pub judged : Surfaces → Tree → ℕ → Block → Mark
 judged surfaces t zero b = decided (treeColour surfaces (b .universe) t (b .low))
 judged surfaces t (suc n) b = treeMark surfaces t b
+
+-- an array holds, for a block with n + 1 levels left, how often its halves have been halved across its axis
+pub record Halved (u : Universe) (turns : List ℕ) : Type 0 where
+  pub places : length turns ≡ mostLevels
+  pub often : (n : ℕ) → n < levels u →
+      getD turns n 0 ≡ halvings u (levels u - n) (axisAt u (levels u - suc n))
+
+-- that many times for the halves of a block with so many levels left
+abbrev pub turnsLeft : List ℕ → ℕ → ℕ
+turnsLeft turns left = getD turns (left - 1) 0
+
+-- what is carried of a block: the extremes of the slots' rows over it, and the amounts of the whole universe's sides
+pub record Carried (u : Universe) (surfaces : Surfaces) (first second : List ℕ) (left : ℕ) (low : List ℕ)
+    (leasts greatests : List ℤ) (amounts : List ℕ) : Type 0 where
+  pub extremes : Extremes (surfaces .rows) (slotsOf first second) (blockLeft u left low) leasts greatests
+  pub moves : Amounts (u .axes) (surfaces .rows) (slotsOf first second) (wholeSides u) amounts
+  pub least-places : length leasts ≡ mostSlots
+  pub greatest-places : length greatests ≡ mostSlots
+
+-- the codes of how a tree is judged over two blocks
+abbrev pub codesOf : Surfaces → Tree → ℕ → Block → Block → ℕ
+codesOf surfaces t left b c = paired (bitsOf (judged surfaces t left b)) (bitsOf (judged surfaces t left c))
+
+-- the code of what is found of a tree over a block: its mark, at level L with its colour at the centre; and over two
+unfoldable pub fullCode : Surfaces → Tree → ℕ → Block → ℕ
+fullCode surfaces t zero b =
+    bitsOf (treeMark surfaces t b) + centreUnit * bitsOf (decided (treeColour surfaces (b .universe) t (b .low)))
+fullCode surfaces t (suc n) b = bitsOf (treeMark surfaces t b)
+
+abbrev pub fullCodes : Surfaces → Tree → ℕ → Block → Block → ℕ
+fullCodes surfaces t left b c = paired (fullCode surfaces t left b) (fullCode surfaces t left c)
+
+-- what judging over two blocks asks: slot by slot, with the amounts from one place added to the least and those from
+-- another taken off the greatest value stand the extremes of one block, the other way round those of the other
+pub record Judging (u : Universe) (surfaces : Surfaces) (first second : List ℕ) (left : ℕ) (low high side : List ℕ)
+    (leasts greatests : List ℤ) (amounts : List ℕ) (one other times : ℕ) : Type 0 where
+  pub ready : Ready u surfaces first second
+  pub below : Standing u left low side
+  pub above : Standing u left high side
+  pub least-moves : Movable leasts amounts one times (length (slotsOf first second))
+  pub greatest-moves : Movable greatests amounts other times (length (slotsOf first second))
+  pub below-least : (k : ℕ) → k < length (slotsOf first second) →
+      getD leasts k (pos 0) +ℤ pos (getD (halvedBy times amounts) (one + k) 0)
+      ≡ least (rowIn (surfaces .rows) (slotsOf first second) k) (blockLeft u left low)
+  pub below-greatest : (k : ℕ) → k < length (slotsOf first second) →
+      getD greatests k (pos 0) -ℤ pos (getD (halvedBy times amounts) (other + k) 0)
+      ≡ greatest (rowIn (surfaces .rows) (slotsOf first second) k) (blockLeft u left low)
+  pub above-least : (k : ℕ) → k < length (slotsOf first second) →
+      getD leasts k (pos 0) +ℤ pos (getD (halvedBy times amounts) (other + k) 0)
+      ≡ least (rowIn (surfaces .rows) (slotsOf first second) k) (blockLeft u left high)
+  pub above-greatest : (k : ℕ) → k < length (slotsOf first second) →
+      getD greatests k (pos 0) -ℤ pos (getD (halvedBy times amounts) (one + k) 0)
+      ≡ greatest (rowIn (surfaces .rows) (slotsOf first second) k) (blockLeft u left high)
+
+-- the rows that a tree's words name stand in the slots from one on
+pub record Slots (slots words : List ℕ) (from : ℕ) : Type 0 where
+  pub named : (i slot : ℕ) → slot ≡ from + length (rowsNamed (take i words)) → i < length words →
+      namesHalfspace (getD words i 0) ≡ true →
+      (slot < length slots) × (getD slots slot 0 ≡ getD words i 0 - firstHalfspace)

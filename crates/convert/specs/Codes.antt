@@ -1,36 +1,24 @@
--- How code judges a tree by rules 2.3, 2.4, 2.8, 2.9 and 3.3 to 3.5: a row's value at the centre of a block and how far
--- it reaches, a ball's nearest and farthest squares, and a pending shape's mark in two bits, its code. At a voxel the
--- code is of what is decided there (14.1): the mark's two bits and, above them, two for the colour at the centre.
-use Prim.Native.Nat.{ℕ, zero, suc, _+_, _*_, _-_, _/_}
+-- How code judges a tree over two blocks at once, by rules 2.3, 2.4, 2.8, 2.9 and 3.3 to 3.5: a mark in two bits, its
+-- code, by a row's least and greatest value or by a ball's nearest and farthest squares; and the codes over two blocks
+-- in one number.
+use Prim.Native.Nat.{ℕ, _+_, _*_, _/_}
 use mathlib.Core.Bool.{Bool, true, false, cond}
 use mathlib.Core.List.{List}
 use lib.Bits.{bitAnd, bitOr}
 use lib.Dec.{eqb, leb, ltb}
-use lib.IntN.{ℤ, pos, natAbs, _+ℤ_, _*ℤ_}
+use lib.IntN.{ℤ, pos, natAbs, _+ℤ_}
 use lib.ListN.{getD}
 use lib.Signed.{leZ}
 use Rattle.lemmas.specs.Sums.{sum}
 use Rattle.bintree.specs.declared.Colour.{Colour}
 use Rattle.bintree.specs.declared.Colour.the-variants.{White, Black}
-use Rattle.csg.specs.Halfspace.{Halfspace, Mark, decided, undecided, rowAt}
-use Rattle.csg.specs.Ball.{Ball, ballAt, square, radiusSquared, nearest, farthest, off}
-use Rattle.csg.specs.Surfaces.{Surfaces, Surface, halfspace, ball}
-use Rattle.csg.specs.Tree.{Leaf, white, black, surface, Operator, union, intersection, minus, Tree}
-use Rattle.csg.specs.Words.{fold}
-use Rattle.convert.specs.declared.spread.Spread.{Spread}
+use Rattle.csg.specs.Halfspace.{Mark, decided, undecided}
+use Rattle.csg.specs.Ball.{Ball, square, radiusSquared, nearest, farthest, off}
+use Rattle.csg.specs.Tree.{Operator, union, intersection, minus}
+use Rattle.convert.specs.declared.ball.Squares.{Squares}
 use Rattle.convert.specs.declared.decision.Crossing.{Crossing}
 use Rattle.convert.specs.declared.decision.Crossing.the-variants.{In, Out, Crossed}
 use Rattle.convert.specs.declared.decision.Decision.{Decision}
-
--- a halfspace's values over a block: twice that at its centre, which is least + greatest, and how far the doubled
--- values at the block's ends reach from it, which is greatest − least
-abbrev pub spreadWith : Spread → ℤ → ℕ → ℕ → Spread
-spreadWith s a low side =
-    record { doubled = s .doubled +ℤ a *ℤ pos (2 * low + side); reach = s .reach +ℤ pos (natAbs a * side) }
-
-unfoldable pub spreadOf : ℕ → Halfspace → List ℕ → List ℕ → Spread
-spreadOf zero h low side = record { doubled = h .offset +ℤ h .offset; reach = pos 0 }
-spreadOf (suc n) h low side = spreadWith (spreadOf n h low side) (h .coefficient n) (getD low n 0) (getD side n 0)
 
 -- a mark in two bits
 abbrev pub blackBit : ℕ
@@ -44,6 +32,19 @@ bitsOf (decided Black) = blackBit
 bitsOf (decided White) = whiteBit
 bitsOf undecided = 0
 
+-- the codes over two blocks in one number, and the two colours' bits in both
+abbrev pub pairUnit : ℕ
+pairUnit = 4
+
+abbrev pub paired : ℕ → ℕ → ℕ
+paired one other = one + pairUnit * other
+
+abbrev pub blackBits : ℕ
+blackBits = paired blackBit blackBit
+
+abbrev pub whiteBits : ℕ
+whiteBits = paired whiteBit whiteBit
+
 -- what is decided at a voxel, by the bits of the mark over its own block and those of the colour at its centre
 abbrev pub crossingBy : ℕ → Crossing
 crossingBy mark = cond (eqb mark blackBit) In (cond (eqb mark whiteBit) Out Crossed)
@@ -54,45 +55,61 @@ colourBy colour = cond (eqb colour blackBit) Black White
 unfoldable pub decisionBy : ℕ → ℕ → Decision
 decisionBy mark colour = record { crossing = crossingBy mark; centre = colourBy colour }
 
--- its code: the colour's bits stand above the mark's
+-- the code of a voxel: the colour's bits stand above those of two marks, so that the codes of two voxels are paired as
+-- marks are
 abbrev pub centreUnit : ℕ
-centreUnit = 4
+centreUnit = 16
 
-abbrev pub crossingBits : Crossing → ℕ
-crossingBits In = blackBit
-crossingBits Out = whiteBit
-crossingBits Crossed = 0
+abbrev pub voxelCode : ℕ → ℕ → ℕ
+voxelCode mark colour = mark + centreUnit * colour
 
-abbrev pub colourBits : Colour → ℕ
-colourBits Black = blackBit
-colourBits White = whiteBit
+-- no code is more
+abbrev pub mostCode : ℕ
+mostCode = whiteBit + centreUnit * whiteBit
 
-unfoldable pub decisionCode : Decision → ℕ
-decisionCode d = crossingBits (d .crossing) + centreUnit * colourBits (d .centre)
+-- codes over two blocks that are voxels, with the colours' bits too; and the masks of either colour
+abbrev pub withCentres : ℕ → ℕ
+withCentres codes = codes + centreUnit * codes
 
--- a shape that is BLACK, or WHITE, in both parts
-abbrev pub blackBits : ℕ
-blackBits = blackBit + centreUnit * blackBit
+abbrev pub blackMask : ℕ
+blackMask = withCentres blackBits
 
-abbrev pub whiteBits : ℕ
-whiteBits = whiteBit + centreUnit * whiteBit
+abbrev pub whiteMask : ℕ
+whiteMask = withCentres whiteBits
 
--- the bits by which a block is judged: the mark's or, at level L, the colour's
+-- the bits by which blocks are judged: the marks' or, at level L, the colours'
 abbrev pub judgedBits : Bool → ℕ → ℕ
-judgedBits false code = code
-judgedBits true code = code / centreUnit
+judgedBits false codes = codes
+judgedBits true codes = codes / centreUnit
 
--- the code of a halfspace with this spread: BLACK where least ≥ 0, else WHITE where greatest ≤ 0
+-- the code by two tests, the first of which decides where both hold
 abbrev pub testedCode : Bool → Bool → ℕ
 testedCode least greatest = cond least blackBit (cond greatest whiteBit 0)
 
-abbrev pub spreadCode : ℤ → ℤ → ℕ
-spreadCode doubled reach = testedCode (leZ reach doubled) (leZ (doubled +ℤ reach) (pos 0))
+-- the mark's bits of a halfspace with this least and this greatest value: BLACK where least ≥ 0, else WHITE where
+-- greatest ≤ 0; and those of its colour at the centre of a voxel, by both together, which are twice the value there
+abbrev pub markByValues : ℤ → ℤ → ℕ
+markByValues least greatest = testedCode (leZ (pos 0) least) (leZ greatest (pos 0))
 
--- at the centre of a voxel twice the value there decides alone
-abbrev pub leafCode : Bool → Spread → ℕ
-leafCode false s = spreadCode (s .doubled) (s .reach)
-leafCode true s = decisionCode (decisionBy (spreadCode (s .doubled) (s .reach)) (spreadCode (s .doubled) (pos 0)))
+abbrev pub colourByValues : ℤ → ℤ → ℕ
+colourByValues least greatest = testedCode (leZ (pos 0) (least +ℤ greatest)) true
+
+-- its code over a block, and of the voxel that the block is
+abbrev pub valueCode : Bool → ℤ → ℤ → ℕ
+valueCode false least greatest = markByValues least greatest
+valueCode true least greatest = voxelCode (markByValues least greatest) (colourByValues least greatest)
+
+-- the squares of a ball's distances along one axis, with this number of its centre: to the nearest and to the farthest
+-- point of a block, and to the centre of the voxel that begins at a place, which is a quarter more than a whole number
+unfoldable pub middleSquare : ℕ → ℤ → ℕ
+middleSquare begin centre = square (natAbs (off 2 (2 * begin + 1) centre)) / 4
+
+unfoldable pub squaresAlong : ℕ → ℕ → ℤ → Squares
+squaresAlong begin length centre = record {
+  near = square (nearest begin (begin + length) centre);
+  far = square (farthest begin (begin + length) centre);
+  middle = middleSquare begin centre;
+}
 
 -- the squares of a ball's distances to the nearest and to the farthest points of a block, and four times that to its
 -- centre where it is a voxel, added up over the first n axes
@@ -118,34 +135,18 @@ ballCodeAt n b low = testedCode (leb (offOver n b low) (4 * radiusSquared b)) tr
 
 abbrev pub ballCode : Bool → ℕ → Ball → List ℕ → List ℕ → ℕ
 ballCode false n b low side = ballCodeOver n b low side
-ballCode true n b low side = decisionCode (decisionBy (ballCodeOver n b low side) (ballCodeAt n b low))
+ballCode true n b low side = voxelCode (ballCodeOver n b low side) (ballCodeAt n b low)
 
--- the bits of one mask where either code has them, those of another where both have them
-abbrev pub mixed : ℕ → ℕ → ℕ → ℕ → ℕ
-mixed either both a b = bitOr (bitAnd (bitOr a b) either) (bitAnd (bitAnd a b) both)
+-- the bits of a mask where either code has them, the others where both have them
+abbrev pub mixed : ℕ → ℕ → ℕ → ℕ
+mixed either a b = bitAnd (bitOr a (bitAnd b either)) (bitOr b either)
 
--- the code of the opposite: the two bits of each part exchanged
+-- the codes of the opposite marks: the two bits of each exchanged
 abbrev pub oppositeCode : ℕ → ℕ
-oppositeCode a = bitAnd a blackBits * whiteBit + bitAnd a whiteBits / whiteBit
+oppositeCode a = bitAnd a blackMask * 2 + bitAnd (a / 2) blackMask
 
 -- UNION is BLACK where either shape is, and WHITE where both are; MINUS is INTERSECTION with the opposite
 unfoldable pub joinCode : Operator → ℕ → ℕ → ℕ
-joinCode union a b = mixed blackBits whiteBits a b
-joinCode intersection a b = mixed whiteBits blackBits a b
-joinCode minus a b = mixed whiteBits blackBits a (oppositeCode b)
-
--- the code of a surface, of a leaf and of a tree over a block; `centre` where the block is a voxel, at which the centre
--- is judged too
-unfoldable pub codeOfSurface : ℕ → Surfaces → List ℕ → List ℕ → Bool → Surface → ℕ
-codeOfSurface axes surfaces low side centre (halfspace i) =
-    leafCode centre (spreadOf axes (rowAt (surfaces .rows) i) low side)
-codeOfSurface axes surfaces low side centre (ball i) =
-    ballCode centre (axes - 1) (ballAt (surfaces .balls) i) low side
-
-unfoldable pub codeOfLeaf : ℕ → Surfaces → List ℕ → List ℕ → Bool → Leaf → ℕ
-codeOfLeaf axes surfaces low side centre white = cond centre whiteBits whiteBit
-codeOfLeaf axes surfaces low side centre black = cond centre blackBits blackBit
-codeOfLeaf axes surfaces low side centre (surface s) = codeOfSurface axes surfaces low side centre s
-
-unfoldable pub codeOfTree : ℕ → Surfaces → List ℕ → List ℕ → Bool → Tree → ℕ
-codeOfTree axes surfaces low side centre t = fold (codeOfLeaf axes surfaces low side centre) joinCode t
+joinCode union a b = mixed blackMask a b
+joinCode intersection a b = mixed whiteMask a b
+joinCode minus a b = mixed whiteMask a (oppositeCode b)

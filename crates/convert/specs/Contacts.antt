@@ -1,18 +1,21 @@
 -- Rules 14.2 and 14.3: what the question for sure and possible contact answers; and how one recursion meets it, which
 -- counts the voxels of a block in the window.
-use Prim.Native.Nat.{ℕ, _+_, _-_, _*_, _/_, _^_, _≤_, _<_}
+use Prim.Native.Nat.{ℕ, _+_, _-_, _*_, _/_, _%_, _^_, _≤_, _<_}
 use mathlib.Core.Path.{_≡_}
 use mathlib.Core.Bool.{cond}
 use mathlib.Core.List.{List}
 use lib.Dec.{eqb}
+use lib.IntN.{ℤ}
 use lib.ListN.{getD}
 use Rattle.universe.specs.declared.Universe.{Universe}
 use Rattle.universe.specs.Universe.{mostLevels, longestSide, levels, frameAxis}
 use Rattle.bintree.specs.declared.Colour.the-variants.{White, Black}
 use Rattle.bintree.specs.Answers.{unlessRefused}
 use Rattle.bintree.specs.Counts.{frames}
+use Rattle.universe.specs.declared.Block.{Block}
 use Rattle.csg.specs.Surfaces.{Surfaces}
-use Rattle.csg.specs.Halfspace.{undecided}
+use Rattle.csg.specs.Tree.{Tree}
+use Rattle.csg.specs.Halfspace.{decided, undecided}
 use Rattle.csg.specs.Marks.{treeMark, treeColour}
 use Rattle.demands.specs.Voxels.{Colouring}
 use Rattle.contacts.specs.Contacts.{sureColour, possibleColour, windowVoxels}
@@ -21,8 +24,9 @@ use Rattle.convert.specs.declared.counting.Contacts.{Contacts}
 use Rattle.convert.specs.declared.counting.Found.{Found}
 use Rattle.convert.specs.declared.counting.Found.the-variants.{Whole, Open}
 use Rattle.convert.specs.declared.decision.Tally.{Tally}
-use Rattle.convert.specs.Codes.{whiteBit}
-use Rattle.convert.specs.Blocks.{Ready, Standing, treesOf, blockLeft}
+use Rattle.convert.specs.Codes.{whiteBit, bitsOf, pairUnit, centreUnit}
+use Rattle.convert.specs.Blocks.{Ready, Standing, treesOf, blockLeft, highLows, halvedSides, judged}
+use Rattle.convert.specs.Shapes.{Half, Halving}
 use Rattle.convert.specs.Answers.{clearanceRefusal}
 
 -- the answer, refused as a verdict is but for 6 (rule 14.3), or the three counts of the window's voxels (14.2)
@@ -92,10 +96,39 @@ pub record Counting (u : Universe) (surfaces : Surfaces) (first second : List �
   pub times : ℕ
   pub begins : getD low (frameAxis u) 0 ≡ times * frames u (levels u - left)
 
--- what is found of a block: its tally, or that it has levels left and is undecided
+-- a code tells how the trees lie over a block: by the bits of their mark and, at level L, of their colour at its centre
+pub record Told (u : Universe) (surfaces : Surfaces) (first second : List ℕ) (left : ℕ) (low : List ℕ) (code : ℕ)
+    : Type 0 where
+  pub mark : code % pairUnit ≡ bitsOf (treeMark surfaces (treesOf surfaces first second) (blockLeft u left low))
+  pub colour : left ≡ 0 → code / centreUnit % pairUnit
+      ≡ bitsOf (decided (treeColour surfaces u (treesOf surfaces first second) low))
+
+-- a block that has levels left, and over which a tree is undecided
+pub record Opened (surfaces : Surfaces) (t : Tree) (left : ℕ) (b : Block) : Type 0 where
+  pub some : 0 < left
+  pub mark : treeMark surfaces t b ≡ undecided
+
+-- what is found of a block: its tally, or that it is open
 pub data Finds (u : Universe) (surfaces : Surfaces) (first second : List ℕ) (from to left : ℕ) (low : List ℕ)
     : Found → Type 0 where
   whole : {t : Tally} → t ≡ blockTally u surfaces first second from to left low →
       Finds u surfaces first second from to left low (Whole t)
-  opened : 0 < left → treeMark surfaces (treesOf surfaces first second) (blockLeft u left low) ≡ undecided →
+  opened : Opened surfaces (treesOf surfaces first second) left (blockLeft u left low) →
       Finds u surfaces first second from to left low Open
+
+-- what counting both halves of a block that is open asks: their counts are the block's
+pub record CountingHalves (u : Universe) (surfaces : Surfaces) (first second axes turns : List ℕ) (from to left : ℕ)
+    (low side : List ℕ) (leasts greatests : List ℤ) (amounts : List ℕ) (axis : ℕ) : Type 0 where
+  pub halving : Halving u surfaces first second axes turns left low side leasts greatests amounts axis 0
+  pub counts : blockTally u surfaces first second from to left low
+      ≡ tallied (blockTally u surfaces first second from to (left - 1) low)
+      (blockTally u surfaces first second from to (left - 1) (highLows low side axis))
+  pub lower : Counting u surfaces first second from to (left - 1) low (halvedSides side axis)
+  pub upper : Counting u surfaces first second from to (left - 1) (highLows low side axis) (halvedSides side axis)
+
+-- what counting a half asks, from what is carried of the whole
+pub record CountingHalf (u : Universe) (surfaces : Surfaces) (first second axes turns : List ℕ) (from to left : ℕ)
+    (low side : List ℕ) (leasts greatests : List ℤ) (amounts : List ℕ) (one other times : ℕ) : Type 0 where
+  pub half : Half u surfaces first second axes turns left low side leasts greatests amounts one other times 0
+      (bitsOf (judged surfaces (treesOf surfaces first second) left (blockLeft u left low)))
+  pub counting : Counting u surfaces first second from to left low side

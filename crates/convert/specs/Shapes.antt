@@ -5,9 +5,10 @@ use mathlib.Core.Path.{_≡_}
 use mathlib.Core.Bool.{Bool, true, false, cond, _&&_}
 use mathlib.Core.List.{List}
 use lib.Dec.{eqb}
-use lib.ListN.{getD}
+use lib.IntN.{ℤ}
+use lib.ListN.{length, getD}
 use Rattle.universe.specs.declared.Universe.{Universe}
-use Rattle.universe.specs.Universe.{mostAxes, mostLevels}
+use Rattle.universe.specs.Universe.{mostAxes, mostLevels, levels, axisAt}
 use Rattle.universe.specs.Questions.{axesLeft}
 use Rattle.bintree.specs.declared.Colour.the-variants.{White, Black}
 use Rattle.bintree.specs.Shape.{Shape, halved, symbolOf, size}
@@ -16,8 +17,10 @@ use Rattle.bintree.specs.Walks.{leafSymbol, isAlike, joinedHalves}
 use Rattle.csg.specs.Surfaces.{Surfaces}
 use Rattle.csg.specs.Raw.{examine}
 use Rattle.convert.specs.declared.lay.Piece.{Piece}
-use Rattle.convert.specs.Codes.{blackBit}
-use Rattle.convert.specs.Blocks.{Ready, Standing, treesOf, blockLeft, halfSide, halvedSides, highLows}
+use Rattle.convert.specs.Codes.{blackBit, bitsOf}
+use Rattle.convert.specs.Slots.{slotsOf, mostSlots, raised, lowered, halvedBy, Movable}
+use Rattle.convert.specs.Blocks.{Ready, Standing, Halved, Carried, treesOf, blockLeft, halfSide, halvedSides}
+use Rattle.convert.specs.Blocks.{highLows, judged}
 
 -- the raw shape of the block with so many levels left and these low places
 unfoldable pub shapeOf : Universe → Surfaces → List ℕ → List ℕ → ℕ → List ℕ → Shape
@@ -69,7 +72,7 @@ unfoldable pub joinedRoom : Bool → List ℕ → ℕ → Piece → Piece → Li
 joinedRoom merging out at below above =
     cond (isOne merging (below .held) (above .held)) out (joinedHalves out at (below .held) (below .end) (above .held))
 
--- what laying a block from a place on asks
+-- what laying a block from a place on asks of the block
 pub record Laying (u : Universe) (surfaces : Surfaces) (first second axes : List ℕ)
     (left : ℕ) (low side : List ℕ) (at : ℕ) : Type 0 where
   pub ready : Ready u surfaces first second
@@ -77,9 +80,13 @@ pub record Laying (u : Universe) (surfaces : Surfaces) (first second axes : List
   pub standing : Standing u left low side
   pub fits : at + size (shapeOf u surfaces first second left low) < endLimit
 
--- what laying both halves of a block asks: one that is undecided is halved, across the axis of the levels left
-pub record Halving (u : Universe) (surfaces : Surfaces) (first second axes : List ℕ)
-    (left : ℕ) (low side : List ℕ) (axis at : ℕ) : Type 0 where
+-- what laying both halves of a block asks: one that is undecided is halved, across the axis of the levels left; the
+-- extremes over it are carried, and it is known how often the amounts are halved for its halves
+pub record Halving (u : Universe) (surfaces : Surfaces) (first second axes turns : List ℕ)
+    (left : ℕ) (low side : List ℕ) (leasts greatests : List ℤ) (amounts : List ℕ) (axis at : ℕ) : Type 0 where
+  pub ready : Ready u surfaces first second
+  pub standing : Standing u left low side
+  pub turn : axis ≡ axisAt u (levels u - left)
   pub some : 1 ≤ left
   pub place : left - 1 < mostLevels
   pub within : axis < mostAxes
@@ -92,3 +99,21 @@ pub record Halving (u : Universe) (surfaces : Surfaces) (first second axes : Lis
   pub lower : Laying u surfaces first second axes (left - 1) low (halvedSides side axis) (at + 1)
   pub upper : (middle : ℕ) → middle ≤ at + 1 + size (shapeOf u surfaces first second (left - 1) low)
       → Laying u surfaces first second axes (left - 1) (highLows low side axis) (halvedSides side axis) middle
+  pub counted : Halved u turns
+  pub carried : Carried u surfaces first second left low leasts greatests amounts
+
+-- what laying a half asks, from what is carried of the whole: its mark is known, and with the amounts from one place
+-- added to the least and those from another taken off the greatest value stand the extremes over it
+pub record Half (u : Universe) (surfaces : Surfaces) (first second axes turns : List ℕ) (left : ℕ) (low side : List ℕ)
+    (leasts greatests : List ℤ) (amounts : List ℕ) (one other times at mark : ℕ) : Type 0 where
+  pub laying : Laying u surfaces first second axes left low side at
+  pub told : mark ≡ bitsOf (judged surfaces (treesOf surfaces first second) left (blockLeft u left low))
+  pub counted : Halved u turns
+  pub least-moves : Movable leasts amounts one times (length (slotsOf first second))
+  pub greatest-moves : Movable greatests amounts other times (length (slotsOf first second))
+  pub least-places : length leasts ≡ mostSlots
+  pub greatest-places : length greatests ≡ mostSlots
+  pub carried : Carried u surfaces first second left low
+      (raised (halvedBy times amounts) one (length (slotsOf first second)) leasts)
+      (lowered (halvedBy times amounts) other (length (slotsOf first second)) greatests)
+      amounts

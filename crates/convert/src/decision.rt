@@ -1,10 +1,9 @@
 // What is decided at a voxel: how its own block lies, and apart from that the colour at its centre.
 use crate::marks::BLACK_BIT;
-use crate::marks::CENTRE_UNIT;
 use crate::marks::WHITE_BIT;
 use bintree::Colour;
 ghost use mathlib.Core.Path.{_≡_};
-ghost use Rattle.convert.specs.Codes.{crossingBy, colourBy, crossingBits, colourBits, decisionBy, decisionCode};
+ghost use Rattle.convert.specs.Codes.{crossingBy, colourBy, decisionBy};
 ghost use Rattle.convert.specs.Decisions.{countsSure, countsCentre, countsPossible, tallyAt};
 
 // How a voxel's block lies to a shape: in it, out of it, or crossed by its edge.
@@ -58,36 +57,6 @@ pub(crate) fn decision_by(mark: u8, colour: u8) -> Decision
         crossing: crossing_by(mark),
         centre: colour_by(colour),
     }
-}
-
-// The mark's bits.
-fn crossing_bits(crossing: Crossing) -> u8
-    ensures { λ r. ⌜ r ≡ crossingBits crossing ⌝ }
-{
-    match crossing {
-        Crossing::In => BLACK_BIT,
-        Crossing::Out => WHITE_BIT,
-        Crossing::Crossed => 0,
-    }
-}
-
-// The colour's bits.
-fn colour_bits(colour: Colour) -> u8
-    ensures { λ r. ⌜ r ≡ colourBits colour ⌝ }
-{
-    match colour {
-        Colour::Black => BLACK_BIT,
-        Colour::White => WHITE_BIT,
-    }
-}
-
-// The code of what is decided at a voxel.
-pub(crate) fn decision_code(decision: Decision) -> u8
-    ensures { λ r. ⌜ r ≡ decisionCode decision ⌝ }
-{
-    let crossing = decision.crossing;
-    let colour = decision.centre;
-    crossing_bits(crossing) + CENTRE_UNIT * colour_bits(colour)
 }
 
 // 1 where a voxel is sure.

@@ -1,7 +1,18 @@
 // The recursion over blocks, which lays the raw or the merged expression of two trees intersected into room.
+use crate::block::high_lows;
+use crate::block::turns_left;
 use crate::block::whole_sides;
+use crate::carried::MOST_AMOUNTS;
+use crate::carried::MOST_SLOTS;
+use crate::carried::NO_PLACE;
+use crate::carried::begin;
+use crate::carried::fall_place;
+use crate::carried::move_back;
+use crate::carried::move_to;
+use crate::carried::name_rows;
 use crate::judge::judge;
 use crate::marks::BLACK_BIT;
+use crate::marks::PAIR_UNIT;
 use universe::Universe;
 ghost use mathlib.Core.Path.{_≡_};
 ghost use Rattle.csg.specs.Surfaces.{surfacesOf};
@@ -10,7 +21,7 @@ ghost use lib.ListN.{length};
 ghost use lib.Seq.{sets};
 ghost use Rattle.bintree.specs.Walks.{laid};
 ghost use Rattle.convert.specs.Answers.{writtenOfTwo};
-ghost use Rattle.convert.specs.Blocks.{Ready, axisLeft};
+ghost use Rattle.convert.specs.Blocks.{Ready};
 ghost use Rattle.convert.specs.Shapes.{
   symbolOfBits,
   laidShape,
@@ -21,9 +32,9 @@ ghost use Rattle.convert.specs.Shapes.{
   endLimit,
   joinedPiece,
   joinedRoom,
-  Laying,
-  Halving,
+  Half,
 };
+ghost use Rattle.convert.specs.Slots.{rowsNamed, slotsOf};
 
 // What laying a block's shape comes to: the symbol of a shape that is one leaf, which is held back, or else 0; and the
 // place past what is written or held back.
@@ -90,26 +101,37 @@ fn unpacked(number: usize) -> Piece
     }
 }
 
-// Lays a block's shape, merged or as it is, from `at` on, as far as there is room; a leaf is held back. The low places
-// and the sides come back as they were. Its piece comes back packed, since two numbers would go through memory.
-fn lay_block(
+// Lays the shape of a half, merged or as it is, from `at` on, as far as there is room; a leaf is held back. What is
+// carried is of the whole. Its piece comes back packed, since two numbers would go through memory.
+fn lay_half(
     universe: Universe,
-    count: usize,
     rows: &[i64],
     balls: &[i64],
     first: &[u16],
     second: &[u16],
     axes: &[usize; Universe::MOST_LEVELS as usize],
-    low: &mut [u64; Universe::MOST_AXES as usize],
+    turns: &[u64; Universe::MOST_LEVELS as usize],
+    low: &[u64; Universe::MOST_AXES as usize],
     side: &mut [u64; Universe::MOST_AXES as usize],
+    least: &mut [i64; MOST_SLOTS],
+    greatest: &mut [i64; MOST_SLOTS],
+    amounts: &[u64; MOST_AMOUNTS],
+    from: usize,
+    slots: usize,
+    one: usize,
+    other: usize,
+    times: u64,
     left: u64,
     merging: bool,
     out: &mut [u8],
     at: usize,
+    mark: u8,
 ) -> usize
     requires { let surfaces = surfacesOf (now rows) (now balls) in
-        ⌜ Laying universe surfaces (now first) (now second) (now axes) left (now low) (now side) at ⌝ }
-    requires { ⌜ count ≡ universe .axes ⌝ }
+        ⌜ Half universe surfaces (now first) (now second) (now axes) (now turns) left (now low) (now side)
+        (now least) (now greatest) (now amounts) one other times at mark ⌝ }
+    requires { ⌜ from ≡ length (rowsNamed (now first)) ⌝ }
+    requires { ⌜ slots ≡ length (slotsOf (now first) (now second)) ⌝ }
     ensures { λ r. let surfaces = surfacesOf (now (rows .entry)) (now (balls .entry)) in
         let first = now (first .entry) in
         let second = now (second .entry) in
@@ -119,9 +141,9 @@ fn lay_block(
         let second = now (second .entry) in
         ⌜ now (out .exit)
         ≡ laid (now (out .entry)) at (laidShape merging universe surfaces first second left (now (low .entry))) ⌝ }
-    ensures { λ _. ⌜ (now (low .exit) ≡ now (low .entry)) × (now (side .exit) ≡ now (side .entry)) ⌝ }
+    ensures { λ _. ⌜ now (side .exit) ≡ now (side .entry) ⌝ }
+    ensures { λ _. ⌜ (now (least .exit) ≡ now (least .entry)) × (now (greatest .exit) ≡ now (greatest .entry)) ⌝ }
 {
-    let mark = judge(universe, count, rows, balls, first, second, low, side, left);
     if mark != 0 {
         return packed(Piece {
             held: symbol_of(mark),
@@ -135,8 +157,17 @@ fn lay_block(
         first,
         second,
         axes,
+        turns,
         low,
         side,
+        least,
+        greatest,
+        amounts,
+        from,
+        slots,
+        one,
+        other,
+        times,
         left,
         merging,
         out,
@@ -144,7 +175,8 @@ fn lay_block(
     )
 }
 
-// The same of a block that is undecided: both halves are laid, and joined.
+// The same of a half that is undecided: what is carried is moved to it, its own halves are judged, laid and joined, and
+// what is carried is moved back.
 fn lay_halves(
     universe: Universe,
     rows: &[i64],
@@ -152,16 +184,27 @@ fn lay_halves(
     first: &[u16],
     second: &[u16],
     axes: &[usize; Universe::MOST_LEVELS as usize],
-    low: &mut [u64; Universe::MOST_AXES as usize],
+    turns: &[u64; Universe::MOST_LEVELS as usize],
+    low: &[u64; Universe::MOST_AXES as usize],
     side: &mut [u64; Universe::MOST_AXES as usize],
+    least: &mut [i64; MOST_SLOTS],
+    greatest: &mut [i64; MOST_SLOTS],
+    amounts: &[u64; MOST_AMOUNTS],
+    from: usize,
+    slots: usize,
+    one: usize,
+    other: usize,
+    times: u64,
     left: u64,
     merging: bool,
     out: &mut [u8],
     at: usize,
 ) -> usize
     requires { let surfaces = surfacesOf (now rows) (now balls) in
-        let axis = axisLeft (now axes) left in
-        ⌜ Halving universe surfaces (now first) (now second) (now axes) left (now low) (now side) axis at ⌝ }
+        ⌜ Half universe surfaces (now first) (now second) (now axes) (now turns) left (now low) (now side)
+        (now least) (now greatest) (now amounts) one other times at 0 ⌝ }
+    requires { ⌜ from ≡ length (rowsNamed (now first)) ⌝ }
+    requires { ⌜ slots ≡ length (slotsOf (now first) (now second)) ⌝ }
     ensures { λ r. let surfaces = surfacesOf (now (rows .entry)) (now (balls .entry)) in
         let first = now (first .entry) in
         let second = now (second .entry) in
@@ -171,48 +214,87 @@ fn lay_halves(
         let second = now (second .entry) in
         ⌜ now (out .exit)
         ≡ laid (now (out .entry)) at (laidShape merging universe surfaces first second left (now (low .entry))) ⌝ }
-    ensures { λ _. ⌜ (now (low .exit) ≡ now (low .entry)) × (now (side .exit) ≡ now (side .entry)) ⌝ }
+    ensures { λ _. ⌜ now (side .exit) ≡ now (side .entry) ⌝ }
+    ensures { λ _. ⌜ (now (least .exit) ≡ now (least .entry)) × (now (greatest .exit) ≡ now (greatest .entry)) ⌝ }
 {
-    let count = universe.axes as usize;
+    move_to(least, greatest, amounts, one, other, times, slots);
     let axis = axes[(left - 1) as usize];
-    let near = low[axis];
+    let next = turns[(left - 1) as usize];
     let whole = side[axis];
     let half = whole / 2;
+    let high = high_lows(low, axis, half);
+    let fall = fall_place(axis);
+    let rise = fall + MOST_SLOTS;
     side[axis] = half;
-    let below = unpacked(lay_block(
+    let codes = judge(
         universe,
-        count,
+        rows,
+        balls,
+        first,
+        second,
+        from,
+        low,
+        &high,
+        side,
+        least,
+        greatest,
+        amounts,
+        fall,
+        rise,
+        next,
+        left - 1,
+    );
+    let below = unpacked(lay_half(
+        universe,
         rows,
         balls,
         first,
         second,
         axes,
+        turns,
         low,
         side,
+        least,
+        greatest,
+        amounts,
+        from,
+        slots,
+        fall,
+        rise,
+        next,
         left - 1,
         merging,
         out,
         at + 1,
+        codes % PAIR_UNIT,
     ));
-    low[axis] = near + half;
     let middle = below.end;
-    let above = unpacked(lay_block(
+    let above = unpacked(lay_half(
         universe,
-        count,
         rows,
         balls,
         first,
         second,
         axes,
-        low,
+        turns,
+        &high,
         side,
+        least,
+        greatest,
+        amounts,
+        from,
+        slots,
+        rise,
+        fall,
+        next,
         left - 1,
         merging,
         out,
         middle,
+        codes / PAIR_UNIT,
     ));
-    low[axis] = near;
     side[axis] = whole;
+    move_back(least, greatest, amounts, one, other, times, slots);
     packed(join(merging, out, at, below, above))
 }
 
@@ -234,26 +316,50 @@ pub(crate) fn write_whole(
         let written = writtenOfTwo merging universe surfaces (now (first .entry)) (now (second .entry)) in
         ⌜ now (out .exit) ≡ sets (now (out .entry)) 0 written ⌝ }
 {
-    let mut low = [0u64; Universe::MOST_AXES as usize];
+    let low = [0u64; Universe::MOST_AXES as usize];
     let mut side = whole_sides(universe);
     let levels = universe.levels();
-    let count = universe.axes as usize;
-    let mark = judge(
-        universe,
+    let mut slots = [0usize; MOST_SLOTS];
+    let from = name_rows(first, 0, &mut slots);
+    let count = name_rows(second, from, &mut slots);
+    let mut least = [0i64; MOST_SLOTS];
+    let mut greatest = [0i64; MOST_SLOTS];
+    let mut amounts = [0u64; MOST_AMOUNTS];
+    begin(
+        universe.axes as usize,
+        rows,
+        &slots,
         count,
+        &side,
+        &mut least,
+        &mut greatest,
+        &mut amounts,
+    );
+    let codes = judge(
+        universe,
         rows,
         balls,
         first,
         second,
+        from,
+        &low,
         &low,
         &side,
+        &least,
+        &greatest,
+        &amounts,
+        NO_PLACE,
+        NO_PLACE,
+        0,
         levels,
     );
+    let mark = codes % PAIR_UNIT;
     if mark != 0 {
         bintree::note(out, 0, symbol_of(mark));
         return 1;
     }
     let axes = universe.axes_left();
+    let turns = turns_left(universe, &axes);
     let piece = unpacked(lay_halves(
         universe,
         rows,
@@ -261,8 +367,17 @@ pub(crate) fn write_whole(
         first,
         second,
         &axes,
-        &mut low,
+        &turns,
+        &low,
         &mut side,
+        &mut least,
+        &mut greatest,
+        &amounts,
+        from,
+        count,
+        NO_PLACE,
+        NO_PLACE,
+        0,
         levels,
         merging,
         out,

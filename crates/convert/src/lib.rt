@@ -2,6 +2,7 @@
 // the length is what was written where it is 0, what is needed where it is 6, and else 0.
 mod ball;
 mod block;
+mod carried;
 mod conversion;
 mod counting;
 mod decision;
@@ -10,7 +11,6 @@ mod lay;
 mod marks;
 mod scene;
 mod scratch;
-mod spread;
 mod verdict;
 
 pub use conversion::merged_of_one;

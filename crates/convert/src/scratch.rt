@@ -13,7 +13,7 @@ ghost use Rattle.convert.specs.Blocks.{Ready};
 pub(crate) const SHORT: usize = 4096;
 
 // Scratch room for where more is lent.
-const LONG: usize = 65536;
+const LONG: usize = 32768;
 
 // The expression is written into scratch room first, and again only where it is longer.
 fn through(

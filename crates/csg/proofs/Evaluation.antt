@@ -3,11 +3,12 @@
 -- tree.
 use Prim.Native.Nat.{ℕ, zero, suc, _+_, _-_, _≤_, _<_}
 use native.Mathlib.Omega.{arith}
+use native.Mathlib.Decide.{decLt}
 use native.Mathlib.Numerals.{add-one}
 use mathlib.Core.Path.{_≡_, refl, ap}
-use mathlib.Core.Bool.{true, false}
+use mathlib.Core.Bool.{true, false, false≢true}
 use mathlib.Core.List.{List, [], _∷_}
-use lib.ListN.{length, getD, drop, set, length-set, drop-of-length-le}
+use lib.ListN.{length, getD, drop, set, length-set, drop-of-length-le, List·getD-eq-default}
 use lib.Seq.{getD-set-same, getD-set-other}
 use Rattle.csg.specs.Surfaces.{Named}
 use Rattle.csg.specs.Tree.{Leaf, Operator}
@@ -137,3 +138,25 @@ module _ {A : Type 0} {ofLeaf : Leaf → A} {ofNode : Operator → A → A → A
             long = v .long;
             midway = rw (pending-join d array n x r, e) (midway-join (rw (pending-two d array top n r) at (v .midway)) h o);
           }
+
+      -- past the last word stands no operator
+      pub evaluating-there : isOperator (getD ws (i + 1) 0) ≡ true → i + 1 < length ws
+      evaluating-there p = by (decLt (i + 1) (length ws))
+        where
+          by : Dec (i + 1 < length ws) → i + 1 < length ws
+          by (yes l) = l
+          by (no l) =
+              let z : getD ws (i + 1) 0 ≡ 0 = List·getD-eq-default ws 0 {n = i + 1} (omega arith) in
+              absurd (false≢true (rw z at p))
+
+      -- a leaf that an operator follows may be joined at once: nothing is stored
+      pub evaluating-both : isOperator (getD ws i 0) ≡ false → isOperator (getD ws (i + 1) 0) ≡ true → (x y : A) → x ≡ ofLeaf (leafOf (getD ws i 0)) →
+          y ≡ ofNode (operatorOf (getD ws (i + 1) 0)) top x → Evaluating ofLeaf ofNode names ws d array y n (i + 2)
+      evaluating-both o p x y e f =
+          let m = midway-push (v .midway) h o in
+          record { few = v .few; long = v .long; midway = joined n m (omega (arith, midway-two m (evaluating-there p) p, length-pending d array top n)) }
+        where
+          joined : (k : ℕ) → Midway ofLeaf ofNode names ws (ofLeaf (leafOf (getD ws i 0)) ∷ pendingIn d array top k) (i + 1) → 1 ≤ k →
+              Midway ofLeaf ofNode names ws (pendingIn d array y k) (i + 2)
+          joined zero m l = absurd (omega arith)
+          joined (suc k) m l = let z : i + 2 ≡ i + 1 + 1 = omega arith in rw (z, f, e) (midway-join m (evaluating-there p) p)

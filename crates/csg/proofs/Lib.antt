@@ -1,6 +1,7 @@
 -- Laws of the definitions.
 pub mod Halfspace
 pub mod Nested
+pub mod Extremes
 pub mod Distances
 pub mod Balls
 pub mod Limits

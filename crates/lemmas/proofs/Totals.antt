@@ -3,11 +3,12 @@
 use Prim.Native.Nat.{ℕ, zero, suc, _+_, _*_, _≤_, _<_}
 use mathlib.Core.Path.{_≡_, refl, ap}
 use native.Mathlib.Omega.{arith}
-use native.Mathlib.Nat.{mul-le-mul-left}
+use native.Mathlib.Nat.{mul-le-mul-left, not-suc-le-zero}
+use native.Mathlib.Decide.{ℕ-discrete}
 use lib.IntN.{ℤ}
 use lib.Signed.{_≤ℤ_}
 use Rattle.lemmas.specs.Sums.{sum, total}
-use Rattle.lemmas.proofs.Sums.{below, top, sum-mono}
+use Rattle.lemmas.proofs.Sums.{below, top, sum-cong, sum-mono}
 use Rattle.lemmas.proofs.Whole.{Is, is-nat, is-add, le-in, le-out}
 
 -- whole numbers in order
@@ -35,6 +36,25 @@ pub weighted-add : (n : ℕ) (u x y : ℕ → ℕ) → sum n (λ i. u i * (x i +
 unfolding sum
 weighted-add zero u x y = refl
 weighted-add (suc n) u x y = omega (arith, weighted-add n u x y)
+
+-- one of those weighed made greater by k, the others kept
+pub weighted-moved : (n : ℕ) (u x y : ℕ → ℕ) (a k : ℕ) → a < n → ((i : ℕ) → i < n → (a ≡ i → ⊥) → y i ≡ x i) → y a ≡ x a + k
+    → sum n (λ i. u i * y i) ≡ sum n (λ i. u i * x i) + u a * k
+unfolding sum
+weighted-moved zero u x y a k l kept e = absurd (not-suc-le-zero l)
+weighted-moved (suc n) u x y a k l kept e = go (ℕ-discrete a n) (weighted-moved n u x y a k)
+  where
+    go : Dec (a ≡ n) → (a < n → ((i : ℕ) → i < n → (a ≡ i → ⊥) → y i ≡ x i) → y a ≡ x a + k → sum n (λ i. u i * y i) ≡ sum n (λ i. u i * x i) + u a * k)
+        → sum n (λ i. u i * y i) + u n * y n ≡ sum n (λ i. u i * x i) + u n * x n + u a * k
+    go (yes q) ih =
+        let p : sum n (λ i. u i * y i) ≡ sum n (λ i. u i * x i) =
+        sum-cong n (λ i. u i * y i) (λ i. u i * x i) (λ i j. ap (λ (t : ℕ). u i * t) (kept i (omega arith) (λ z. omega arith))) in
+        let s : y n ≡ x n + k = rw q at e in
+        rw (q, p, s) (omega arith)
+    go (no q) ih =
+        let p : sum n (λ i. u i * y i) ≡ sum n (λ i. u i * x i) + u a * k = ih (omega arith) (below kept) e in
+        let s : y n ≡ x n = kept n (omega arith) q in
+        rw (p, s) (omega arith)
 
 -- no weight, no sum
 pub weightless : (n : ℕ) (u x : ℕ → ℕ) → sum n u ≡ 0 → sum n (λ i. u i * x i) ≡ 0

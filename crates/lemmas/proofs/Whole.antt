@@ -221,6 +221,9 @@ is-self z = is-of (ι z)
 pub is-add : {a b : ℤ} {p n q m : ℕ} → Is a p n → Is b q m → Is (a +ℤ b) (p + q) (n + m)
 is-add {a} {b} i j = record { is = omega (arith, add-parts a b, i .is, j .is) }
 
+pub is-sub : {a b : ℤ} {p n q m : ℕ} → Is a p n → Is b q m → Is (a -ℤ b) (p + m) (n + q)
+is-sub {a} {b} i j = record { is = omega (arith, is-of (ι a ⊖ ι b) .is, i .is, j .is) }
+
 pub is-mul : {a : ℤ} {p n : ℕ} → Is a p n → (k : ℕ) → Is (a *ℤ pos k) (p * k) (n * k)
 is-mul {a} {p} {n} i k = record { is = omega (arith, mul-is a (pos k) p n k 0 (i .is) (is-nat k .is)) }
 

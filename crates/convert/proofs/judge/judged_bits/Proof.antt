@@ -1,4 +1,4 @@
--- `judged_bits` takes the colour's bits of a code at a voxel.
+-- `judged_bits` takes the colours' bits of codes at level L.
 use borrow.Author.Needs.{needs}
 use Rattle.convert.proofs.judge.judged_bits.Statement.{statement}
 use Rattle.convert.proofs.judge.judged_bits.Tie as tie
