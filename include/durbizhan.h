@@ -7,7 +7,8 @@
  * The numbers have names below, and DURBIZHAN_ is left off where one is named in a comment.
  *
  * A lent buffer is a pointer and the number of its elements. It is not written to where the call is refused, nor past
- * what is written where it is not; `answer`, and the rows of a proxy, are always written, whole. What the caller owes:
+ * what is written where it is not, but for the work room of a pruned conversion; `answer`, and the rows of a proxy, are
+ * always written, whole. What the caller owes:
  * each pointer is aligned and points to as many elements as are said, no pointer is NULL, that of an empty buffer
  * neither, and what a call writes to overlaps nothing else of that call. No function keeps a pointer or allocates; a
  * conversion, a verdict or durbizhan_contacts takes up to 80 KiB of the stack, durbizhan_lines and durbizhan_sweep up
@@ -49,7 +50,8 @@
 #define DURBIZHAN_BAD_TREE 4
 /* more than 255 words, or more than 32 shapes pending */
 #define DURBIZHAN_OVERFULL_TREE 5
-/* more symbols (of a file: bytes, of a report: counts) than are lent; how many it takes is in the answer */
+/* more symbols (of a file: bytes, of a report: counts, of a pruned conversion: or nodes) than are lent; how many it takes
+ * is in the answer */
 #define DURBIZHAN_NO_ROOM 6
 /* expression not well-formed, no list of up to 256 such, or no octree */
 #define DURBIZHAN_BAD_EXPRESSION 7
@@ -118,6 +120,46 @@ uint64_t durbizhan_merged_two(uint64_t axes, uint64_t bits, uint64_t frame_bits,
                               const uint16_t *second, size_t second_count,
                               uint8_t *out, size_t out_count,
                               uint64_t answer[1]);
+
+/* The same expressions by the pruned conversion: from a block to its halves it carries only what is still undecided of
+ * the trees, in lent work room, three numbers to a node. It takes (L + 1) times the words of the trees in nodes, L being
+ * the levels: bits times one less than the axes, and frame_bits. answer: 1 where NO_ROOM is for the work room and else
+ * 0; the length written, or on NO_ROOM the need, which is in nodes where the first is 1; the nodes looked at, 0 on a
+ * refusal. The work room is asked for after the trees and before the symbols. It is scratch: BAD_UNIVERSE to
+ * OVERFULL_TREE and its own NO_ROOM leave it as it was, after all else it holds anything. */
+uint64_t durbizhan_pruned_raw_one(uint64_t axes, uint64_t bits, uint64_t frame_bits,
+                                  const int64_t *rows, size_t rows_count,
+                                  const int64_t *balls, size_t balls_count,
+                                  const uint16_t *words, size_t words_count,
+                                  int64_t *work, size_t work_count,
+                                  uint8_t *out, size_t out_count,
+                                  uint64_t answer[3]);
+
+uint64_t durbizhan_pruned_raw_two(uint64_t axes, uint64_t bits, uint64_t frame_bits,
+                                  const int64_t *rows, size_t rows_count,
+                                  const int64_t *balls, size_t balls_count,
+                                  const uint16_t *first, size_t first_count,
+                                  const uint16_t *second, size_t second_count,
+                                  int64_t *work, size_t work_count,
+                                  uint8_t *out, size_t out_count,
+                                  uint64_t answer[3]);
+
+uint64_t durbizhan_pruned_merged_one(uint64_t axes, uint64_t bits, uint64_t frame_bits,
+                                     const int64_t *rows, size_t rows_count,
+                                     const int64_t *balls, size_t balls_count,
+                                     const uint16_t *words, size_t words_count,
+                                     int64_t *work, size_t work_count,
+                                     uint8_t *out, size_t out_count,
+                                     uint64_t answer[3]);
+
+uint64_t durbizhan_pruned_merged_two(uint64_t axes, uint64_t bits, uint64_t frame_bits,
+                                     const int64_t *rows, size_t rows_count,
+                                     const int64_t *balls, size_t balls_count,
+                                     const uint16_t *first, size_t first_count,
+                                     const uint16_t *second, size_t second_count,
+                                     int64_t *work, size_t work_count,
+                                     uint8_t *out, size_t out_count,
+                                     uint64_t answer[3]);
 
 /* Whether two trees share space in frames first_frame to last_frame, both ends in; their raw expression goes into out.
  * answer: hit (0 Clear, 1 Hit), first frame, last frame, black voxels, raw length (needed on NO_ROOM). Read the number

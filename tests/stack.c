@@ -46,6 +46,11 @@ static uint64_t number, answer[10], counts[FRAMES];
 static int64_t rows[1280], balls[256];
 static uint16_t first[255], second[255];
 
+/* The work room of the pruned conversions, and whether it is lacking. */
+static int64_t work[3 * (LEVELS + 1) * 2 * COUNT(first)];
+static size_t work_count = COUNT(work);
+static uint64_t lacks;
+
 /* The calls. */
 static void leaves(void) { number = durbizhan_leaves(scene.first, scene.first_count); }
 
@@ -79,6 +84,44 @@ static void merged_two(void)
     number = durbizhan_merged_two(scene.axes, scene.bits, scene.frame_bits, scene.rows, scene.rows_count,
                                   scene.balls, scene.balls_count, scene.first, scene.first_count,
                                   scene.second, scene.second_count, out, lent, answer);
+}
+
+static void pruned_raw_one(void)
+{
+    number = durbizhan_pruned_raw_one(scene.axes, scene.bits, scene.frame_bits, scene.rows, scene.rows_count,
+                                      scene.balls, scene.balls_count, scene.first, scene.first_count,
+                                      work, work_count, out, lent, answer);
+    lacks = answer[0];
+    answer[0] = answer[1];
+}
+
+static void pruned_raw_two(void)
+{
+    number = durbizhan_pruned_raw_two(scene.axes, scene.bits, scene.frame_bits, scene.rows, scene.rows_count,
+                                      scene.balls, scene.balls_count, scene.first, scene.first_count,
+                                      scene.second, scene.second_count,
+                                      work, work_count, out, lent, answer);
+    lacks = answer[0];
+    answer[0] = answer[1];
+}
+
+static void pruned_merged_one(void)
+{
+    number = durbizhan_pruned_merged_one(scene.axes, scene.bits, scene.frame_bits, scene.rows, scene.rows_count,
+                                         scene.balls, scene.balls_count, scene.first, scene.first_count,
+                                         work, work_count, out, lent, answer);
+    lacks = answer[0];
+    answer[0] = answer[1];
+}
+
+static void pruned_merged_two(void)
+{
+    number = durbizhan_pruned_merged_two(scene.axes, scene.bits, scene.frame_bits, scene.rows, scene.rows_count,
+                                         scene.balls, scene.balls_count, scene.first, scene.first_count,
+                                         scene.second, scene.second_count,
+                                         work, work_count, out, lent, answer);
+    lacks = answer[0];
+    answer[0] = answer[1];
 }
 
 static void verdict(void)
@@ -278,7 +321,7 @@ static void refused_runs(void (*call)(void), int windowed)
         DEEPEST(high_ball, high_ball), LARGEST, DEEPEST(strip, black), \
     }
 
-static void conversions(const char *named, void (*call)(void))
+static void conversions(const char *named, void (*call)(void), int in_work_room)
 {
     const struct scene deep[] = DEEP_RUNS;
     begin(named);
@@ -296,6 +339,13 @@ static void conversions(const char *named, void (*call)(void))
     }
     expect("the strip is past the scratch room", answer[0] > 32768, 1);
     refused_runs(call, call == verdict);
+    if (in_work_room) {
+        scene = deep[0];
+        work_count = 0;
+        take(call, DURBIZHAN_NO_ROOM);
+        expect("it is work room that is lacking", lacks, 1);
+        work_count = COUNT(work);
+    }
     end();
 }
 
@@ -578,11 +628,15 @@ int main(void)
     frame_bits = FRAME_BITS + 1;
     take(room, DURBIZHAN_BAD_UNIVERSE);
     end();
-    conversions("durbizhan_raw_one", raw_one);
-    conversions("durbizhan_raw_two", raw_two);
-    conversions("durbizhan_merged_one", merged_one);
-    conversions("durbizhan_merged_two", merged_two);
-    conversions("durbizhan_verdict", verdict);
+    conversions("durbizhan_raw_one", raw_one, 0);
+    conversions("durbizhan_raw_two", raw_two, 0);
+    conversions("durbizhan_merged_one", merged_one, 0);
+    conversions("durbizhan_merged_two", merged_two, 0);
+    conversions("durbizhan_pruned_raw_one", pruned_raw_one, 1);
+    conversions("durbizhan_pruned_raw_two", pruned_raw_two, 1);
+    conversions("durbizhan_pruned_merged_one", pruned_merged_one, 1);
+    conversions("durbizhan_pruned_merged_two", pruned_merged_two, 1);
+    conversions("durbizhan_verdict", verdict, 0);
     contact_counts();
     begin("durbizhan_well_formed");
     questions(well_formed, DURBIZHAN_ACCEPTED, DURBIZHAN_ACCEPTED);

@@ -8,7 +8,8 @@ mod durbizhan;
 mod face;
 
 use durbizhan::{
-    Clearance, Contacts, Merged, Numbers, Refused, Report, Swept, Universe, Verdict, Window, ACCEPTED, NO_ROOM,
+    Clearance, Contacts, Merged, Numbers, Pruned, PrunedRefused, Refused, Report, Swept, Universe, Verdict, Window,
+    ACCEPTED, NO_ROOM,
 };
 
 /// The numbers that each function has.
@@ -22,6 +23,7 @@ const SWEEP: &[u64] = &[0, 2, 6, 7];
 const OCTREE: &[u64] = &[0, 2, 6, 7];
 const SCENE: &[u64] = &[0, 1, 2, 3, 4, 5, 9];
 const MERGED_ONE: &[u64] = &[0, 2, 3, 4, 5, 6];
+const PRUNED: &[u64] = &[0, 2, 3, 4, 5, 6];
 const SHAPE_WRITE: &[u64] = &[0, 2, 6, 7, 8];
 const LINES: &[u64] = &[0, 1, 2, 3, 4, 5, 6, 9];
 
@@ -497,6 +499,45 @@ fn mergeds() -> Vec<u64> {
     cases.iter().map(|case| case.0).collect()
 }
 
+fn pruneds() -> Vec<u64> {
+    // two trees of 255 words in 4 levels: 5 times 510 nodes
+    let longest: Vec<u16> = std::iter::once(256).chain((0..127).flat_map(|_| [257, 2])).collect();
+    let cases = [
+        (0, example(), 30, 100),
+        (0, example(), 30, 13),
+        (0, Scene { balls: vec![2, 0, 0, 1], first: vec![512], ..example() }, 20, 100),
+        (0, Scene { first: longest.clone(), second: longest.clone(), ..example() }, 2550, 100),
+        (2, Scene { axes: 5, ..example() }, 30, 100),
+        (3, Scene { rows: vec![0; 6], ..example() }, 30, 100),
+        (4, Scene { second: vec![], ..example() }, 0, 0),
+        (5, Scene { first: vec![1; 33], ..example() }, 0, 0),
+        (6, example(), 29, 100),
+        (6, example(), 29, 0),
+        (6, example(), 30, 12),
+        (6, example(), 0, 100),
+        (6, Scene { first: longest.clone(), second: longest, ..example() }, 2549, 100),
+    ];
+    for (wanted, scene, nodes, lent) in &cases {
+        let Scene { axes, bits, frame_bits, rows, balls, first, second, .. } = scene.clone();
+        let [mut room, mut other_room] = [vec![b'.'; *lent], vec![b'.'; *lent]];
+        let [mut work, mut other_work] = [vec![7; 3 * nodes], vec![7; 3 * nodes]];
+        let (trees, mut answer): ([&[u16]; 2], _) = ([&first, &second], [u64::MAX; 3]);
+        let number = face::pruned(
+            axes, bits, frame_bits, &rows, &balls, &trees, &mut other_work, &mut other_room, &mut answer, true,
+        );
+        let wrapped =
+            durbizhan::pruned_merged_two(Universe { axes, bits, frame_bits }, &rows, &balls, trees, &mut work, &mut room);
+        let faced = match number {
+            ACCEPTED => Ok(Pruned { length: answer[1] as usize, looked: answer[2] }),
+            _ => Err(PrunedRefused { number, needed: answer[1], of_work: answer[0] == 1 }),
+        };
+        let kept = number != ACCEPTED && (number != NO_ROOM || answer[0] == 1);
+        assert!(!kept || work == vec![7; 3 * nodes], "pruned_merged_two: the work room of number {number}");
+        held("pruned_merged_two", *wanted, number, (wrapped, room), (faced, other_room));
+    }
+    cases.iter().map(|case| case.0).collect()
+}
+
 fn shape_files() -> Vec<u64> {
     let cases: [(u64, [u64; 3], &[u8], usize); 9] = [
         (0, [2, 2, 2], b"(B(B(B(BW", 21),
@@ -553,6 +594,7 @@ fn main() {
         (OCTREE, octree_imports()),
         (SCENE, scene_files()),
         (MERGED_ONE, mergeds()),
+        (PRUNED, pruneds()),
         (SHAPE_WRITE, shape_files()),
         (LINES, lines()),
     ];

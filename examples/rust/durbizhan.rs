@@ -147,6 +147,25 @@ mod face {
             answer: *mut [u64; 1],
         ) -> u64;
 
+        pub fn durbizhan_pruned_merged_two(
+            axes: u64,
+            bits: u64,
+            frame_bits: u64,
+            rows: *const i64,
+            rows_count: usize,
+            balls: *const i64,
+            balls_count: usize,
+            first: *const u16,
+            first_count: usize,
+            second: *const u16,
+            second_count: usize,
+            work: *mut i64,
+            work_count: usize,
+            out: *mut u8,
+            out_count: usize,
+            answer: *mut [u64; 3],
+        ) -> u64;
+
         pub fn durbizhan_shape_write(
             axes: u64,
             bits: u64,
@@ -215,6 +234,22 @@ pub struct Report {
 pub struct Merged {
     pub length: usize,
     pub held: u64,
+}
+
+/// The length of the expression that a pruned conversion wrote, and the nodes that it looked at.
+#[derive(Debug, PartialEq)]
+pub struct Pruned {
+    pub length: usize,
+    pub looked: u64,
+}
+
+/// Why a pruned conversion was refused: the number, and on NO_ROOM what is needed, nodes where it is work room that is
+/// lacking and else symbols.
+#[derive(Debug, PartialEq)]
+pub struct PrunedRefused {
+    pub number: u64,
+    pub needed: u64,
+    pub of_work: bool,
 }
 
 /// What a scene file holds: five numbers to a row, four to a ball, and the words of its two trees.
@@ -561,6 +596,45 @@ pub fn merged_one(
         )
     };
     length_of(number, answer)
+}
+
+/// The merged expression of two trees intersected, pruned, in lent work room: three numbers to a node, and as many nodes
+/// as the levels and one times the words. What the work room holds afterwards is of no use.
+pub fn pruned_merged_two(
+    universe: Universe,
+    rows: &[i64],
+    balls: &[i64],
+    trees: [&[u16]; 2],
+    work: &mut [i64],
+    out: &mut [u8],
+) -> Result<Pruned, PrunedRefused> {
+    let mut answer = [0; 3];
+    let number = unsafe {
+        face::durbizhan_pruned_merged_two(
+            universe.axes,
+            universe.bits,
+            universe.frame_bits,
+            rows.as_ptr(),
+            rows.len(),
+            balls.as_ptr(),
+            balls.len(),
+            trees[0].as_ptr(),
+            trees[0].len(),
+            trees[1].as_ptr(),
+            trees[1].len(),
+            work.as_mut_ptr(),
+            work.len(),
+            out.as_mut_ptr(),
+            out.len(),
+            &mut answer,
+        )
+    };
+    let [lacks, length, looked] = answer;
+    if number == ACCEPTED {
+        Ok(Pruned { length: length as usize, looked })
+    } else {
+        Err(PrunedRefused { number, needed: length, of_work: lacks == 1 })
+    }
 }
 
 /// The shape file of a merged expression, written at the front of `out`: its length, which is 12 more.

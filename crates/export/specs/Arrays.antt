@@ -2,6 +2,7 @@
 -- answer's fields in the order of its array. An answer's refusal is the number that a function returns; the array holds
 -- the rest.
 use Prim.Native.Nat.{ℕ}
+use mathlib.Core.Bool.{Bool, true, false}
 use mathlib.Core.List.{List, [], _∷_}
 use lib.Ieee.{Float}
 use Rattle.universe.specs.declared.Universe.{Universe}
@@ -17,6 +18,7 @@ use Rattle.bintree.specs.declared.Coloured.{Coloured}
 use Rattle.bintree.specs.declared.Placed.{Placed}
 use Rattle.convert.specs.declared.counting.Contacts.{Contacts}
 use Rattle.convert.specs.declared.verdict.Clearance.{Clearance}
+use Rattle.pruned.specs.declared.answer.Conversion.{Conversion}
 use Rattle.files.specs.declared.Scene.{Scene}
 use Rattle.files.specs.declared.ShapeRead.{ShapeRead}
 use Rattle.report.specs.declared.Report.{Report}
@@ -37,6 +39,14 @@ roomArray a = a .symbols ∷ []
 -- the length written, or needed on 6
 abbrev pub lengthArray : Written → List ℕ
 lengthArray a = a .length ∷ []
+
+-- rule 16.4: whether a pruned conversion lacks work room, the length written, or needed on 6, and the nodes looked at
+abbrev pub lackNumber : Bool → ℕ
+lackNumber true = 1
+lackNumber false = 0
+
+abbrev pub conversionArray : Conversion → List ℕ
+conversionArray a = lackNumber (a .«short_of_work») ∷ a .length ∷ a .looked ∷ []
 
 -- the same of merging, and the largest count of symbols that are held back
 abbrev pub mergedArray : Merged → List ℕ

@@ -6,6 +6,7 @@ pub mod documents;
 pub mod expressions;
 pub mod octrees;
 pub mod proxies;
+pub mod prunings;
 pub mod reports;
 pub mod sweeps;
 pub mod verdicts;

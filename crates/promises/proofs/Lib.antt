@@ -11,3 +11,4 @@ pub mod Swept
 pub mod Octrees
 pub mod Located
 pub mod Contacts
+pub mod Pruned

@@ -52,6 +52,10 @@ module _ (w : World) where
   pub three : {a b c a′ b′ c′ χ : Type 0} → (a × b × c → a′ × b′ × c′ → χ) → Shown 2 (a, (b, c)) (a′, (b′, c′)) χ
   three {a} {b} {c} {a′} {b′} {c′} f = follows 2 (a, (b, c)) (a′, (b′, c′)) (λ p q. f (p .0, p .1 .0, p .1 .1) (q .0, q .1 .0, q .1 .1))
 
+  pub four : {a b c d a′ b′ c′ d′ χ : Type 0} → (a × b × c × d → a′ × b′ × c′ × d′ → χ) → Shown 3 (a, (b, (c, d))) (a′, (b′, (c′, d′))) χ
+  four {a} {b} {c} {d} {a′} {b′} {c′} {d′} f =
+      follows 3 (a, (b, (c, d))) (a′, (b′, (c′, d′))) (λ p q. f (p .0, p .1 .0, p .1 .1 .0, p .1 .1 .1) (q .0, q .1 .0, q .1 .1 .0, q .1 .1 .1))
+
   pub five : {a b c d e a′ b′ c′ d′ e′ χ : Type 0} → (a × b × c × d × e → a′ × b′ × c′ × d′ × e′ → χ) →
       Shown 4 (a, (b, (c, (d, e)))) (a′, (b′, (c′, (d′, e′)))) χ
   five {a} {b} {c} {d} {e} {a′} {b′} {c′} {d′} {e′} f =

@@ -6,6 +6,7 @@ pub mod OfBintree
 pub mod OfReader
 pub mod OfReport
 pub mod OfConvert
+pub mod OfPruned
 pub mod OfSweep
 pub mod OfOctree
 pub mod OfFiles

@@ -1,9 +1,13 @@
 -- Of each function of the face for C and Rust: its contract asks nothing, and two answers that it allows are equal, and so is what every lent buffer holds.
-use mathlib.Core.Path.{refl}
+use mathlib.Core.Path.{_≡_, refl}
+use denote.Ref.{now}
 use borrow.Fn.World.{World}
+use Rattle.csg.specs.Surfaces.{surfacesOf}
+use Rattle.pruned.specs.Answers.{workOfOne, workOfTwo}
+use Rattle.export.specs.Arrays.{universeOf}
 use Rattle.export.proofs as export
-use Rattle.told_apart.specs.Answers.{TellsApart}
-use Rattle.told_apart.proofs.Alike.{same, one, two, three, six, behind}
+use Rattle.told_apart.specs.Answers.{TellsApart, TellsApartBut, KeptBy}
+use Rattle.told_apart.proofs.Alike.{same, one, two, three, four, six, behind}
 
 pub durbizhan-room : (w : World) → TellsApart w export.conversions.durbizhan_room.ended export.conversions.durbizhan_room.clauses
 durbizhan-room w _ _ = ((tt, refl), λ _ _ _ _ _. two w (λ p q. (same (p .0) (q .0), λ i. behind 5 (same (p .1) (q .1) i, tt))))
@@ -85,3 +89,39 @@ durbizhan-box w _ _ = ((tt, refl), λ _ _ _ _ _. two w (λ p q. (same (p .0) (q 
 
 pub durbizhan-cut : (w : World) → TellsApart w export.proxies.durbizhan_cut.ended export.proxies.durbizhan_cut.clauses
 durbizhan-cut w _ _ = ((tt, refl), λ _ _ _ _ _. two w (λ p q. (same (p .0) (q .0), λ i. behind 7 (same (p .1) (q .1) i, tt))))
+
+pub durbizhan-pruned-raw-one : (w : World) →
+    TellsApartBut w export.prunings.durbizhan_pruned_raw_one.ended
+    (λ lifetimes a x y. (x .1 .1 .1 .1 .1 .1 .1 ≡ y .1 .1 .1 .1 .1 .1 .1) × KeptBy (workOfOne (universeOf (a .0) (a .1 .0) (a .1 .1 .0)) (surfacesOf (now (a .1 .1 .1 .0)) (now (a .1 .1 .1 .1 .0))) (now (a .1 .1 .1 .1 .1 .0)) (now (a .1 .1 .1 .1 .1 .1 .0))) (x .1 .1 .1 .1 .1 .1 .0) (y .1 .1 .1 .1 .1 .1 .0))
+    export.prunings.durbizhan_pruned_raw_one.clauses
+durbizhan-pruned-raw-one w _ _ = (
+  (tt, refl),
+  λ _ _ _ _ _. four w (λ p q. (same (p .0) (q .0), (λ i. (same (p .2) (q .2) i, (same (p .1) (q .1) i, tt)), λ n. same (p .3 n) (q .3 n)))),
+)
+
+pub durbizhan-pruned-raw-two : (w : World) →
+    TellsApartBut w export.prunings.durbizhan_pruned_raw_two.ended
+    (λ lifetimes a x y. (x .1 .1 .1 .1 .1 .1 .1 .1 ≡ y .1 .1 .1 .1 .1 .1 .1 .1) × KeptBy (workOfTwo (universeOf (a .0) (a .1 .0) (a .1 .1 .0)) (surfacesOf (now (a .1 .1 .1 .0)) (now (a .1 .1 .1 .1 .0))) (now (a .1 .1 .1 .1 .1 .0)) (now (a .1 .1 .1 .1 .1 .1 .0)) (now (a .1 .1 .1 .1 .1 .1 .1 .0))) (x .1 .1 .1 .1 .1 .1 .1 .0) (y .1 .1 .1 .1 .1 .1 .1 .0))
+    export.prunings.durbizhan_pruned_raw_two.clauses
+durbizhan-pruned-raw-two w _ _ = (
+  (tt, refl),
+  λ _ _ _ _ _. four w (λ p q. (same (p .0) (q .0), (λ i. (same (p .2) (q .2) i, (same (p .1) (q .1) i, tt)), λ n. same (p .3 n) (q .3 n)))),
+)
+
+pub durbizhan-pruned-merged-one : (w : World) →
+    TellsApartBut w export.prunings.durbizhan_pruned_merged_one.ended
+    (λ lifetimes a x y. (x .1 .1 .1 .1 .1 .1 .1 ≡ y .1 .1 .1 .1 .1 .1 .1) × KeptBy (workOfOne (universeOf (a .0) (a .1 .0) (a .1 .1 .0)) (surfacesOf (now (a .1 .1 .1 .0)) (now (a .1 .1 .1 .1 .0))) (now (a .1 .1 .1 .1 .1 .0)) (now (a .1 .1 .1 .1 .1 .1 .0))) (x .1 .1 .1 .1 .1 .1 .0) (y .1 .1 .1 .1 .1 .1 .0))
+    export.prunings.durbizhan_pruned_merged_one.clauses
+durbizhan-pruned-merged-one w _ _ = (
+  (tt, refl),
+  λ _ _ _ _ _. four w (λ p q. (same (p .0) (q .0), (λ i. (same (p .2) (q .2) i, (same (p .1) (q .1) i, tt)), λ n. same (p .3 n) (q .3 n)))),
+)
+
+pub durbizhan-pruned-merged-two : (w : World) →
+    TellsApartBut w export.prunings.durbizhan_pruned_merged_two.ended
+    (λ lifetimes a x y. (x .1 .1 .1 .1 .1 .1 .1 .1 ≡ y .1 .1 .1 .1 .1 .1 .1 .1) × KeptBy (workOfTwo (universeOf (a .0) (a .1 .0) (a .1 .1 .0)) (surfacesOf (now (a .1 .1 .1 .0)) (now (a .1 .1 .1 .1 .0))) (now (a .1 .1 .1 .1 .1 .0)) (now (a .1 .1 .1 .1 .1 .1 .0)) (now (a .1 .1 .1 .1 .1 .1 .1 .0))) (x .1 .1 .1 .1 .1 .1 .1 .0) (y .1 .1 .1 .1 .1 .1 .1 .0))
+    export.prunings.durbizhan_pruned_merged_two.clauses
+durbizhan-pruned-merged-two w _ _ = (
+  (tt, refl),
+  λ _ _ _ _ _. four w (λ p q. (same (p .0) (q .0), (λ i. (same (p .2) (q .2) i, (same (p .1) (q .1) i, tt)), λ n. same (p .3 n) (q .3 n)))),
+)

@@ -29,6 +29,26 @@ mod c {
             balls_count: usize, first: *const u16, first_count: usize, second: *const u16, second_count: usize,
             out: *mut u8, out_count: usize, answer: *mut [u64; 1],
         ) -> u64;
+        pub fn durbizhan_pruned_raw_one(
+            axes: u64, bits: u64, frame_bits: u64, rows: *const i64, rows_count: usize, balls: *const i64,
+            balls_count: usize, words: *const u16, words_count: usize,
+            work: *mut i64, work_count: usize, out: *mut u8, out_count: usize, answer: *mut [u64; 3],
+        ) -> u64;
+        pub fn durbizhan_pruned_raw_two(
+            axes: u64, bits: u64, frame_bits: u64, rows: *const i64, rows_count: usize, balls: *const i64,
+            balls_count: usize, first: *const u16, first_count: usize, second: *const u16, second_count: usize,
+            work: *mut i64, work_count: usize, out: *mut u8, out_count: usize, answer: *mut [u64; 3],
+        ) -> u64;
+        pub fn durbizhan_pruned_merged_one(
+            axes: u64, bits: u64, frame_bits: u64, rows: *const i64, rows_count: usize, balls: *const i64,
+            balls_count: usize, words: *const u16, words_count: usize,
+            work: *mut i64, work_count: usize, out: *mut u8, out_count: usize, answer: *mut [u64; 3],
+        ) -> u64;
+        pub fn durbizhan_pruned_merged_two(
+            axes: u64, bits: u64, frame_bits: u64, rows: *const i64, rows_count: usize, balls: *const i64,
+            balls_count: usize, first: *const u16, first_count: usize, second: *const u16, second_count: usize,
+            work: *mut i64, work_count: usize, out: *mut u8, out_count: usize, answer: *mut [u64; 3],
+        ) -> u64;
         pub fn durbizhan_verdict(
             axes: u64, bits: u64, frame_bits: u64, rows: *const i64, rows_count: usize, balls: *const i64,
             balls_count: usize, first: *const u16, first_count: usize, second: *const u16, second_count: usize,
@@ -161,6 +181,36 @@ pub fn merged_two(
             axes, bits, frame_bits, rows.as_ptr(), rows.len(), balls.as_ptr(), balls.len(), first.as_ptr(),
             first.len(), second.as_ptr(), second.len(), out.as_mut_ptr(), out.len(), answer,
         )
+    }
+}
+
+/// The pruned conversion of one tree or of two, raw or merged.
+#[allow(clippy::too_many_arguments)]
+pub fn pruned(
+    axes: u64, bits: u64, frame_bits: u64, rows: &[i64], balls: &[i64], trees: &[&[u16]], work: &mut [i64],
+    out: &mut [u8], answer: &mut [u64; 3], merged: bool,
+) -> u64 {
+    match trees {
+        [words] => {
+            let call = if merged { c::durbizhan_pruned_merged_one } else { c::durbizhan_pruned_raw_one };
+            unsafe {
+                call(
+                    axes, bits, frame_bits, rows.as_ptr(), rows.len(), balls.as_ptr(), balls.len(), words.as_ptr(),
+                    words.len(), work.as_mut_ptr(), work.len(), out.as_mut_ptr(), out.len(), answer,
+                )
+            }
+        }
+        [first, second] => {
+            let call = if merged { c::durbizhan_pruned_merged_two } else { c::durbizhan_pruned_raw_two };
+            unsafe {
+                call(
+                    axes, bits, frame_bits, rows.as_ptr(), rows.len(), balls.as_ptr(), balls.len(), first.as_ptr(),
+                    first.len(), second.as_ptr(), second.len(), work.as_mut_ptr(), work.len(), out.as_mut_ptr(),
+                    out.len(), answer,
+                )
+            }
+        }
+        _ => unreachable!("one tree or two"),
     }
 }
 

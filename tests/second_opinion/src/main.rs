@@ -329,6 +329,37 @@ fn compare_two_trees(line: &mut Line, case: &generate::RunCase, lent: usize, pla
     line.compare(plain, library, || run_text(case, 2, lent));
 }
 
+type Pruned = fn(u64, u64, u64, &[i64], &[i64], &[&[u16]], &mut [i64], &mut [u8], &mut [u64; 3], bool) -> u64;
+
+/// The pruned conversions. What the work room holds is compared where it is to be as it was lent (rule 16.4).
+fn pruned(line: &mut Line, random: &mut Random, count: usize, merged: bool) {
+    let case = generate::run(random);
+    let both: [&[u16]; 2] = [&case.first, &case.second];
+    let trees = &both[..count];
+    let Some((blocks, formula)) = needed(&case, trees) else { return };
+    let call = |convert: Pruned, nodes: usize, lent: usize| {
+        let (mut work, mut out, mut answer) = (rows_lent(3 * nodes + 2), bytes(lent), longs(3));
+        let number = convert(
+            case.axes, case.bits, case.frame_bits, &case.rows, &case.balls, trees, work.lent(), out.lent(),
+            answer.array(), merged,
+        );
+        let scratch = number == ACCEPTED || (number == NO_ROOM && answer.lent()[0] == 0);
+        let told: [u64; 3] = *answer.array();
+        let mut contents = vec![("answer", answer.into()), ("out", out.into())];
+        if !scratch {
+            contents.push(("work", work.into()));
+        }
+        (Outcome { number, contents }, told)
+    };
+    let (_, [lacks, nodes, _]) = call(plain::pruned, 0, 0);
+    let nodes = if lacks == 1 { nodes as usize } else { 3 };
+    let (_, [_, need, _]) = call(plain::pruned, nodes, 0);
+    let lent = lent_for(random, if merged { need } else { blocks }, formula);
+    let nodes = nodes + random.pick(&[0, 0, 0, 1]) - random.pick(&[0, 0, 0, 1]);
+    let [plain, library] = [plain::pruned as Pruned, face::pruned as Pruned].map(|convert| call(convert, nodes, lent).0);
+    line.compare(plain, library, || format!("{}, work: {nodes} nodes lent", run_text(&case, count, lent)));
+}
+
 fn verdicts(line: &mut Line, random: &mut Random) {
     let case = generate::run(random);
     let Some((blocks, formula)) = needed(&case, &[&case.first, &case.second]) else { return };
@@ -631,6 +662,10 @@ const ENTRY_POINTS: &[(&str, u64, &[u64], Compare)] = &[
     ("durbizhan_raw_two", 1000, CONVERSION, |l, r| two_trees(l, r, plain::raw_two, face::raw_two, false)),
     ("durbizhan_merged_one", 1000, CONVERSION, |l, r| one_tree(l, r, plain::merged_one, face::merged_one, true)),
     ("durbizhan_merged_two", 1000, CONVERSION, |l, r| two_trees(l, r, plain::merged_two, face::merged_two, true)),
+    ("durbizhan_pruned_raw_one", 1000, CONVERSION, |l, r| pruned(l, r, 1, false)),
+    ("durbizhan_pruned_raw_two", 1000, CONVERSION, |l, r| pruned(l, r, 2, false)),
+    ("durbizhan_pruned_merged_one", 1000, CONVERSION, |l, r| pruned(l, r, 1, true)),
+    ("durbizhan_pruned_merged_two", 1000, CONVERSION, |l, r| pruned(l, r, 2, true)),
     ("durbizhan_verdict", 1000, VERDICT, verdicts),
     ("durbizhan_contacts", 1000, CONTACTS, contacts),
     ("durbizhan_raw_two, long", 1, &[NO_ROOM], |l, r| long_two_trees(l, r, plain::raw_two, face::raw_two)),

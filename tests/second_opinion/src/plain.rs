@@ -886,6 +886,43 @@ pub fn contacts_by_blocks(universe: &Universe, tree: &Tree, block: &Block, first
     }
 }
 
+// --------------------------------------------------------------------------------------- the pruned conversion
+
+/// What is left of a tree with no MINUS over a block (rule 16.1): nothing where it is decided.
+fn left_over(universe: &Universe, tree: &Tree, block: &Block) -> Option<Tree> {
+    if mark(universe, tree, block) != Mark::Undecided {
+        return None;
+    }
+    let (one, two) = match tree {
+        Union(one, two) | Intersection(one, two) => (one, two),
+        _ => return Some(tree.clone()),
+    };
+    match (left_over(universe, one, block), left_over(universe, two, block)) {
+        (Some(one), Some(two)) if matches!(tree, Union(..)) => Some(Union(Box::new(one), Box::new(two))),
+        (Some(one), Some(two)) => Some(Intersection(Box::new(one), Box::new(two))),
+        (handed_over, None) => handed_over,
+        (None, handed_over) => handed_over,
+    }
+}
+
+/// The nodes of a tree: its leaves, constants and operators (rule 16.2).
+fn nodes(tree: &Tree) -> u64 {
+    match tree {
+        Union(one, two) | Intersection(one, two) => 1 + nodes(one) + nodes(two),
+        _ => 1,
+    }
+}
+
+/// The nodes looked at in a block that is given so many, and in all that are examined below it (rule 16.2).
+fn nodes_looked(universe: &Universe, trees: &[Tree], block: &Block, given: u64) -> u64 {
+    if mark(universe, &joined(trees), block) != Mark::Undecided || block.level == universe.levels() {
+        return given;
+    }
+    let left = trees.iter().filter_map(|tree| left_over(universe, tree, block)).map(|tree| nodes(&tree)).sum();
+    let halves = [false, true].map(|high| nodes_looked(universe, trees, &block.half(universe, high), left));
+    given + halves[0] + halves[1]
+}
+
 // ------------------------------------------------------------------------------------------- the swept space
 
 /// The universe without one of two or more axes, counted from 1 (rule 12.1).
@@ -1271,6 +1308,37 @@ pub fn merged_two(
 ) -> u64 {
     let raw = raw(axes, bits, frame_bits, rows, balls, &[first, second]);
     length_answer(raw.and_then(|symbols| delivered(&merged_by_replacement(&symbols), out)), answer)
+}
+
+/// The pruned conversion of one tree or of two (rules 16.3 and 16.4). Its work room is scratch, and left alone here.
+#[allow(clippy::too_many_arguments)]
+pub fn pruned(
+    axes: u64, bits: u64, frame_bits: u64, rows: &[i64], balls: &[i64], trees: &[&[u16]], work: &mut [i64],
+    out: &mut [u8], answer: &mut [u64; 3], merged: bool,
+) -> u64 {
+    *answer = [0; 3];
+    let (universe, read) = match run_checked(axes, bits, frame_bits, rows, balls, trees) {
+        Ok(run) => run,
+        Err(refusal) => return refusal.number,
+    };
+    let words: usize = trees.iter().map(|words| words.len()).sum();
+    let needed = (universe.levels() + 1) * words;
+    if work.len() / 3 < needed {
+        *answer = [1, needed as u64, 0];
+        return NO_ROOM;
+    }
+    let raw = raw_of(&universe, &joined(&read));
+    let symbols = if merged { merged_by_replacement(&raw) } else { raw };
+    match delivered(&symbols, out) {
+        Ok(length) => {
+            *answer = [0, length, nodes_looked(&universe, &read, &Block::whole(&universe), words as u64)];
+            ACCEPTED
+        }
+        Err(refusal) => {
+            *answer = [0, refusal.needed, 0];
+            refusal.number
+        }
+    }
 }
 
 #[allow(clippy::too_many_arguments)]

@@ -1,0 +1,144 @@
+-- What the machine computes of a halfspace's least and greatest value over a half. The amount, a coefficient times half a length, is small; where it is not
+-- negative it is what rises and nothing falls, else the other way round.
+use Prim.Native.Nat.{ℕ, _+_, _*_, _≤_, _<_}
+use mathlib.Core.Path.{_≡_, refl, sym, ap, _∙_}
+use mathlib.Core.Bool.{Bool, true, false}
+use native.Mathlib.Omega.{arith}
+use lib.Dec.{lit≤}
+use lib.IntN.{ℤ, pos, natAbs, _+ℤ_, _-ℤ_, _*ℤ_}
+use lib.Signed.{leZ}
+use mir.Syntax.{w64}
+use mir.Val.{SFits, toZ, ofZ}
+use Rattle.lemmas.proofs.Machine.{Near, near, near-cast, near-add, near-sub, near-mul, near-back, near-fits}
+use Rattle.lemmas.proofs.Whole.{up, dn, one-part, Is, is-nat, is-self, is-add, is-sub, is-mul, is-eq, le-is, lt-is, leZ-true, leZ-false}
+use Rattle.universe.specs.Universe.{coefficientLimit, longestSide}
+use Rattle.csg.proofs.Extremes.{above-is, below-is}
+use Rattle.convert.specs.Codes.{testedCode}
+use Rattle.convert.specs.Small.{SmallCoefficient, SmallPlace}
+use Rattle.pruned.specs.Nodes.{rises, falls, movedLeast, movedGreatest, extremeLimit, SmallExtreme, valueCode}
+
+-- what the machine reads of a number that it holds
+abbrev pub held : ℤ → ℤ
+held z = toZ w64 (ofZ w64 z)
+
+pub extreme-near : {x : ℤ} → SmallExtreme x → Near (held x) x extremeLimit
+extreme-near s = near (record { most = s .most }) tt
+
+-- ---- what rises and what falls, by the amount
+module _ (a : ℤ) (half : ℕ) where
+  amount-is : Is (a *ℤ pos half) (up a * half) (dn a * half)
+  amount-is = is-mul (is-self a) half
+
+  pub rise-is : Is (rises a half) (up a * half) 0
+  rise-is = record { is = omega (arith, is-mul (above-is a) half .is) }
+
+  pub fall-is : Is (falls a half) 0 (dn a * half)
+  fall-is = record { is = omega (arith, is-mul (below-is a) half .is) }
+
+  parts : (P : Type 0) → (up a * half ≡ 0 → P) → (dn a * half ≡ 0 → P) → P
+  parts P f g = one-part a P (λ e. g (rw e (omega arith))) (λ e. f (rw e (omega arith)))
+
+  pub rises-all : leZ (pos 0) (a *ℤ pos half) ≡ true → (rises a half ≡ a *ℤ pos half) × (falls a half ≡ pos 0)
+  rises-all t =
+      let le = le-is (is-nat 0) amount-is (leZ-true _ _ t) in
+      parts _
+      (λ e. (is-eq rise-is amount-is (omega (arith, le)), is-eq fall-is (is-nat 0) (omega (arith, le))))
+      (λ e. (is-eq rise-is amount-is (omega (arith, le)), is-eq fall-is (is-nat 0) (omega (arith, le))))
+
+  pub falls-all : leZ (pos 0) (a *ℤ pos half) ≡ false → (rises a half ≡ pos 0) × (falls a half ≡ a *ℤ pos half)
+  falls-all t =
+      let lt = lt-is amount-is (is-nat 0) (leZ-false _ _ t) in
+      parts _
+      (λ e. (is-eq rise-is (is-nat 0) (omega (arith, lt)), is-eq fall-is amount-is (omega (arith, lt))))
+      (λ e. (is-eq rise-is (is-nat 0) (omega (arith, lt)), is-eq fall-is amount-is (omega (arith, lt))))
+
+-- adding and taking nothing
+pub plus-nothing : (x : ℤ) → x +ℤ pos 0 ≡ x
+plus-nothing x = is-eq (is-add (is-self x) (is-nat 0)) (is-self x) (omega arith)
+
+pub less-nothing : (x : ℤ) → x -ℤ pos 0 ≡ x
+less-nothing x = is-eq (is-sub (is-self x) (is-nat 0)) (is-self x) (omega arith)
+
+-- ---- as the machine computes it
+module _ {a : ℤ} {half : ℕ} {x y : ℤ} (sa : SmallCoefficient a) (sh : SmallPlace half) (sx : SmallExtreme x) (sy : SmallExtreme y) where
+  amount-near : Near (held a *ℤ toZ w64 half) (a *ℤ pos half) (coefficientLimit * longestSide)
+  amount-near = near-mul {x = a} {y = pos half} (near (record { most = sa .most }) tt) (near-cast half longestSide (sh .most) tt)
+
+  pub amount-fits : SFits w64 (held a *ℤ toZ w64 half)
+  amount-fits = near-fits {x = a *ℤ pos half} amount-near tt
+
+  amount-held : Near (held (held a *ℤ toZ w64 half)) (a *ℤ pos half) (coefficientLimit * longestSide)
+  amount-held = near-back {x = a *ℤ pos half} amount-near tt
+
+  abbrev amount : ℤ
+  amount = held (held a *ℤ toZ w64 half)
+
+  sum-near : (z : ℤ) → SmallExtreme z → Near (held z +ℤ amount) (z +ℤ a *ℤ pos half) (extremeLimit + coefficientLimit * longestSide)
+  sum-near z s = near-add {x = z} {y = a *ℤ pos half} (extreme-near s) amount-held
+
+  less-near : (z : ℤ) → SmallExtreme z → Near (held z -ℤ amount) (z -ℤ a *ℤ pos half) (extremeLimit + coefficientLimit * longestSide)
+  less-near z s = near-sub {x = z} {y = a *ℤ pos half} (extreme-near s) amount-held
+
+  pub sum-fits : SFits w64 (held x +ℤ amount) × SFits w64 (held y +ℤ amount)
+  sum-fits = (near-fits {x = x +ℤ a *ℤ pos half} (sum-near x sx) tt, near-fits {x = y +ℤ a *ℤ pos half} (sum-near y sy) tt)
+
+  pub less-fits : SFits w64 (held x -ℤ amount) × SFits w64 (held y -ℤ amount)
+  less-fits = (near-fits {x = x -ℤ a *ℤ pos half} (less-near x sx) tt, near-fits {x = y -ℤ a *ℤ pos half} (less-near y sy) tt)
+
+  test-is : {t : Bool} → leZ (pos 0) amount ≡ t → leZ (pos 0) (a *ℤ pos half) ≡ t
+  test-is e = rw (amount-held .same) at e
+
+  pub high-rises : {high : Bool} → high ≡ true → leZ (pos 0) amount ≡ true →
+      (held (held x +ℤ amount) ≡ movedLeast high a half x) × (held y ≡ movedGreatest high a half y)
+  high-rises h t =
+      let w = rises-all a half (test-is t) in
+      rw h (
+        near-back {x = x +ℤ a *ℤ pos half} (sum-near x sx) tt .same ∙ ap (λ (z : ℤ). x +ℤ z) (sym (w .0)),
+        extreme-near sy .same ∙ sym (plus-nothing y) ∙ ap (λ (z : ℤ). y +ℤ z) (sym (w .1)),
+      )
+
+  pub high-falls : {high : Bool} → high ≡ true → leZ (pos 0) amount ≡ false →
+      (held x ≡ movedLeast high a half x) × (held (held y +ℤ amount) ≡ movedGreatest high a half y)
+  high-falls h t =
+      let w = falls-all a half (test-is t) in
+      rw h (
+        extreme-near sx .same ∙ sym (plus-nothing x) ∙ ap (λ (z : ℤ). x +ℤ z) (sym (w .0)),
+        near-back {x = y +ℤ a *ℤ pos half} (sum-near y sy) tt .same ∙ ap (λ (z : ℤ). y +ℤ z) (sym (w .1)),
+      )
+
+  pub low-rises : {high : Bool} → high ≡ false → leZ (pos 0) amount ≡ true →
+      (held x ≡ movedLeast high a half x) × (held (held y -ℤ amount) ≡ movedGreatest high a half y)
+  low-rises h t =
+      let w = rises-all a half (test-is t) in
+      rw h (
+        extreme-near sx .same ∙ sym (less-nothing x) ∙ ap (λ (z : ℤ). x -ℤ z) (sym (w .1)),
+        near-back {x = y -ℤ a *ℤ pos half} (less-near y sy) tt .same ∙ ap (λ (z : ℤ). y -ℤ z) (sym (w .0)),
+      )
+
+  pub low-falls : {high : Bool} → high ≡ false → leZ (pos 0) amount ≡ false →
+      (held (held x -ℤ amount) ≡ movedLeast high a half x) × (held y ≡ movedGreatest high a half y)
+  low-falls h t =
+      let w = falls-all a half (test-is t) in
+      rw h (
+        near-back {x = x -ℤ a *ℤ pos half} (less-near x sx) tt .same ∙ ap (λ (z : ℤ). x -ℤ z) (sym (w .1)),
+        extreme-near sy .same ∙ sym (less-nothing y) ∙ ap (λ (z : ℤ). y -ℤ z) (sym (w .0)),
+      )
+
+-- ---- the code by the two values
+module _ {x y : ℤ} (sx : SmallExtreme x) (sy : SmallExtreme y) where
+  total-near : Near (held x +ℤ held y) (x +ℤ y) (extremeLimit + extremeLimit)
+  total-near = near-add {x = x} {y = y} (extreme-near sx) (extreme-near sy)
+
+  pub total-fits : SFits w64 (held x +ℤ held y)
+  total-fits = near-fits {x = x +ℤ y} total-near tt
+
+  pub centre-code : {centre t : Bool} → centre ≡ true → leZ (pos 0) (held (held x +ℤ held y)) ≡ t → testedCode t true ≡ valueCode centre x y
+  centre-code h e =
+      let p : leZ (pos 0) (x +ℤ y) ≡ _ = rw (near-back {x = x +ℤ y} total-near tt .same) at e in
+      rw (h, p)
+
+  pub block-code : {centre s t : Bool} → centre ≡ false → leZ (pos 0) (held x) ≡ s → leZ (held y) (pos 0) ≡ t → testedCode s t ≡ valueCode centre x y
+  block-code h e f =
+      let p : leZ (pos 0) x ≡ _ = rw (extreme-near sx .same) at e in
+      let q : leZ y (pos 0) ≡ _ = rw (extreme-near sy .same) at f in
+      rw (h, p, q)

@@ -1,0 +1,9 @@
+-- The pruned conversion (rules, section 16): what is left of trees over a block, the nodes looked at, and answers.
+pub mod Balls
+pub mod Left
+pub mod Looked
+pub mod Nodes
+pub mod Laying
+pub mod Loading
+pub mod Answers
+pub mod Whole
