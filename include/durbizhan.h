@@ -11,8 +11,8 @@
  * always written, whole. What the caller owes:
  * each pointer is aligned and points to as many elements as are said, no pointer is NULL, that of an empty buffer
  * neither, and what a call writes to overlaps nothing else of that call. No function keeps a pointer or allocates; a
- * conversion, a verdict or durbizhan_contacts takes up to 80 KiB of the stack, durbizhan_lines and durbizhan_sweep up
- * to 128 KiB, any other function up to 16 KiB.
+ * conversion, a verdict or durbizhan_contacts takes up to 80 KiB of the stack, durbizhan_lines, durbizhan_mover and
+ * durbizhan_sweep up to 128 KiB, any other function up to 16 KiB.
  *
  * axes, bits, frame_bits: a universe of 1 to 4 axes. The last counts frames, of which there are 2^frame_bits, 0 to 12
  * bits; along each other it is 2^bits units long, 0 to 10 bits. One axis counts frames alone, and bits is 0. The axes
@@ -39,11 +39,11 @@
 /* no scene or no shape: its mark, a version that is not 1 or 2 (of a scene 1 to 3), the zero byte of a scene of version
  * 1, or its length */
 #define DURBIZHAN_BAD_FILE 1
-/* axes not 1 to 4, bits over 10, frame bits over 12, or bits not 0 where there is one axis; of a sweep, no such axis to
- * drop; of octrees, not three axes or bits that differ */
+/* axes not 1 to 4 (of a mover: not 4), bits over 10, frame bits over 12, or bits not 0 where there is one axis; of a
+ * sweep, no such axis to drop; of octrees, not three axes or bits that differ */
 #define DURBIZHAN_BAD_UNIVERSE 2
-/* a row that is not five numbers or a ball that is not four, over 256 rows or 64 balls, a number past its limit, or not
- * 0 for an axis that is not there (of a ball's centre: or that is the last) */
+/* a row that is not five numbers or a ball that is not four, over 256 rows (beside a mover: 250) or 64 balls, a number
+ * past its limit, or not 0 for an axis that is not there (of a ball's centre: or that is the last) */
 #define DURBIZHAN_BAD_ROWS 3
 /* words that do not make one shape: none, one that means nothing or names no row and no ball, too few shapes for an
  * operator, or too many left */
@@ -59,8 +59,14 @@
 #define DURBIZHAN_NOT_MERGED 8
 /* a voxel, path or window that the universe does not hold, or a window that ends before it begins */
 #define DURBIZHAN_OUTSIDE 9
-/* a number of a proxy that is no whole number of sixteenths or is past its limit, or near over far */
+/* a number of a proxy that is no whole number of sixteenths or is past its limit, or near over far; of a mover, also a
+ * number of a corner, or a displacement that is not 0 */
 #define DURBIZHAN_BAD_PROXY 10
+/* a mover's keys under 2 or over 64, not three corner numbers to a key, or moments that do not rise or are past the end
+ * of the last frame */
+#define DURBIZHAN_BAD_KEYS 11
+/* a mover's step that is no whole number of sixteenths, or over 64 in size */
+#define DURBIZHAN_BAD_STEP 12
 
 /* The words that name the first halfspace and the first ball. */
 #define DURBIZHAN_FIRST_HALFSPACE 256
@@ -186,6 +192,29 @@ uint64_t durbizhan_contacts(uint64_t axes, uint64_t bits, uint64_t frame_bits,
                             const uint16_t *second, size_t second_count,
                             uint64_t first_frame, uint64_t last_frame,
                             uint64_t answer[3]);
+
+/* The same for a mover over its keys: whether it and a static tree share space, every frame by its own stretch. The
+ * mover is a Box from near to far, which gives its size alone and whose displacement is 0, with 2 to 64 keys: moments,
+ * which rise from 0 to 2^frame_bits at the most, and the near corner at each, three numbers to a corner. From a key at
+ * moment a to the next at moment b the Box moves evenly, by a step of a whole number of sixteenths, at most 64, each
+ * frame; that stretch judges the frames a to b - 1, at their middles. Frames before the first key and from the last key
+ * on are not judged. There are four axes. The static tree has at most 250 rows, and its words name these and its balls
+ * alone. Each stretch's raw expression is written into out over the one before, so that the last stands at the front,
+ * and what is left of longer ones behind it. answer: hit (0 Clear, 1 Hit), first frame, last frame, voxels, and the
+ * length of the last stretch's raw expression, or on NO_ROOM the largest need of any stretch. Refusals: BAD_UNIVERSE,
+ * BAD_PROXY, BAD_KEYS, BAD_STEP, BAD_ROWS, BAD_TREE or OVERFULL_TREE, NO_ROOM. Read the number first: a refused
+ * verdict is Clear. */
+uint64_t durbizhan_mover(uint64_t axes, uint64_t bits, uint64_t frame_bits,
+                         double near_x, double near_y, double near_z,
+                         double far_x, double far_y, double far_z,
+                         double displacement_x, double displacement_y, double displacement_z,
+                         const uint64_t *moments, size_t moments_count,
+                         const double *corners, size_t corners_count,
+                         const int64_t *rows, size_t rows_count,
+                         const int64_t *balls, size_t balls_count,
+                         const uint16_t *words, size_t words_count,
+                         uint8_t *out, size_t out_count,
+                         uint64_t answer[5]);
 
 /* Whether an expression is well-formed: ACCEPTED, or BAD_UNIVERSE or BAD_EXPRESSION. */
 uint64_t durbizhan_well_formed(uint64_t axes, uint64_t bits, uint64_t frame_bits,

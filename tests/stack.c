@@ -139,6 +139,16 @@ static void contacts(void)
                                 scene.second, scene.second_count, 0, last_frame, answer);
 }
 
+/* A cube of so many units that stays near the origin from the first frame to the last, and then goes by. */
+static void mover(void)
+{
+    static const uint64_t moments[] = {0, FRAMES - 1, FRAMES};
+    const double corners[] = {corner, 0, 0, corner, 0, 0, corner + 1, 0, 0};
+    number = durbizhan_mover(scene.axes, scene.bits, scene.frame_bits, 0, 0, 0, 1, 1, 1, 0, 0, 0, moments, 3, corners,
+                             9, scene.rows, scene.rows_count, scene.balls, scene.balls_count, scene.first,
+                             scene.first_count, out, lent, answer);
+}
+
 static void well_formed(void) { number = durbizhan_well_formed(axes, bits, frame_bits, bytes, bytes_count); }
 
 static void numbers(void)
@@ -488,6 +498,30 @@ static void octrees(void)
     end();
 }
 
+/* The calls of a mover: against the deepest and the largest trees, with all room, with too little, and refused. */
+static void movers(void)
+{
+    begin("durbizhan_mover");
+    corner = 0;
+    scene = DEEPEST(low_voxel, low_voxel);
+    lent = 0;
+    take(mover, DURBIZHAN_NO_ROOM);
+    lent = answer[4] - 1;
+    take(mover, DURBIZHAN_NO_ROOM);
+    lent = ROOM;
+    take(mover, DURBIZHAN_ACCEPTED);
+    scene = LARGEST;
+    take(mover, DURBIZHAN_BAD_ROWS);
+    scene.rows_count = 5 * 250;
+    take(mover, DURBIZHAN_ACCEPTED);
+    scene = DEEPEST(low_voxel, low_voxel);
+    corner = 1.0 / 32;
+    take(mover, DURBIZHAN_BAD_PROXY);
+    scene.axes = 3;
+    take(mover, DURBIZHAN_BAD_UNIVERSE);
+    end();
+}
+
 /* The low bytes of a number, behind what stands in `bytes`. */
 static void put(uint64_t value, int length)
 {
@@ -668,6 +702,7 @@ int main(void)
     end();
     sweeps();
     octrees();
+    movers();
     scenes("durbizhan_scene", read_scene, DURBIZHAN_ACCEPTED);
     scenes("durbizhan_lines", lines, DURBIZHAN_NO_ROOM);
     shapes();

@@ -8,7 +8,7 @@ mod durbizhan;
 mod face;
 
 use durbizhan::{
-    Clearance, Contacts, Merged, Numbers, Pruned, PrunedRefused, Refused, Report, Swept, Universe, Verdict, Window,
+    Clearance, Contacts, Key, Merged, Numbers, Pruned, PrunedRefused, Refused, Report, Swept, Universe, Verdict, Window,
     ACCEPTED, NO_ROOM,
 };
 
@@ -16,6 +16,7 @@ use durbizhan::{
 const ROOM: &[u64] = &[0, 2];
 const VERDICT: &[u64] = &[0, 2, 3, 4, 5, 6, 9];
 const CONTACTS: &[u64] = &[0, 2, 3, 4, 5, 9];
+const MOVER: &[u64] = &[0, 2, 3, 4, 5, 6, 10, 11, 12];
 const NUMBERS: &[u64] = &[0, 2, 7, 9];
 const REPORT: &[u64] = &[0, 2, 6, 7, 9];
 const MERGE: &[u64] = &[0, 2, 6, 7];
@@ -153,6 +154,18 @@ fn rooms() -> Vec<u64> {
     cases.map(|(wanted, ..)| wanted).to_vec()
 }
 
+/// A verdict as the face answers it.
+fn clearance_of(number: u64, answer: [u64; 5]) -> Result<Clearance, Refused> {
+    match (number, answer) {
+        (ACCEPTED, [0, 0, 0, 0, length]) => Ok(Clearance { verdict: Verdict::Clear, length: length as usize }),
+        (ACCEPTED, [1, first, last, voxels, length]) => {
+            Ok(Clearance { verdict: Verdict::Hit { first, last, voxels }, length: length as usize })
+        }
+        (number, [0, 0, 0, 0, needed]) => Err(Refused { number, needed }),
+        _ => panic!("a verdict: number {number}, answer {answer:?}"),
+    }
+}
+
 /// The verdict of a scene with so much room lent.
 fn verdict(wanted: u64, scene: &Scene, lent: usize) {
     let Scene { axes, bits, frame_bits, rows, balls, first, second, window, .. } = scene.clone();
@@ -175,15 +188,7 @@ fn verdict(wanted: u64, scene: &Scene, lent: usize) {
         &mut other_room,
         &mut answer,
     );
-    let faced = match (number, answer) {
-        (ACCEPTED, [0, 0, 0, 0, length]) => Ok(Clearance { verdict: Verdict::Clear, length: length as usize }),
-        (ACCEPTED, [1, first, last, voxels, length]) => {
-            Ok(Clearance { verdict: Verdict::Hit { first, last, voxels }, length: length as usize })
-        }
-        (number, [0, 0, 0, 0, needed]) => Err(Refused { number, needed }),
-        _ => panic!("verdict: number {number}, answer {answer:?}"),
-    };
-    held("verdict", wanted, number, (wrapped, room), (faced, other_room));
+    held("verdict", wanted, number, (wrapped, room), (clearance_of(number, answer), other_room));
 }
 
 fn verdicts() -> Vec<u64> {
@@ -193,6 +198,91 @@ fn verdicts() -> Vec<u64> {
     cases.extend([1, 2, 3, 5].map(|count| (3, Scene { balls: vec![0; count], ..example() }, 100)));
     for (wanted, scene, lent) in &cases {
         verdict(*wanted, scene, *lent);
+    }
+    cases.iter().map(|case| case.0).collect()
+}
+
+/// A Box with keys, against a static tree.
+#[derive(Clone)]
+struct Moving {
+    axes: u64,
+    corners: [[f64; 3]; 2],
+    keys: Vec<Key>,
+    rows: Vec<i64>,
+    balls: Vec<i64>,
+    words: Vec<u16>,
+}
+
+fn key(moment: u64, x: f64) -> Key {
+    Key { moment, corner: [x, 0.0, 0.0] }
+}
+
+/// A cube that comes from -3 in one frame and stands at 1 for two: a hit in frames 1 and 2; its first stretch needs 19
+/// symbols, its last 7.
+fn coming() -> Moving {
+    let keys = vec![key(0, -3.0), key(1, 1.0), key(3, 1.0)];
+    let corners = [[0.0; 3], [1.0; 3]];
+    Moving { axes: 4, corners, keys, rows: vec![], balls: vec![], words: vec![1] }
+}
+
+/// The verdict of a mover with so much room lent.
+fn mover(wanted: u64, moving: &Moving, lent: usize) {
+    let Moving { axes, corners, keys, rows, balls, words } = moving.clone();
+    let (bits, frame_bits) = (1, 2);
+    let [mut room, mut other_room] = [vec![b'.'; lent], vec![b'.'; lent]];
+    let universe = Universe { axes, bits, frame_bits };
+    let wrapped = durbizhan::mover(universe, corners, &keys, &rows, &balls, &words, &mut room);
+    let moments: Vec<u64> = keys.iter().map(|key| key.moment).collect();
+    let numbers: Vec<f64> = keys.iter().flat_map(|key| key.corner).collect();
+    let mut answer = [u64::MAX; 5];
+    let number = face::mover(
+        axes,
+        bits,
+        frame_bits,
+        [corners[0], corners[1], [0.0; 3]],
+        &moments,
+        &numbers,
+        &rows,
+        &balls,
+        &words,
+        &mut other_room,
+        &mut answer,
+    );
+    held("mover", wanted, number, (wrapped, room), (clearance_of(number, answer), other_room));
+}
+
+fn movers() -> Vec<u64> {
+    let changed = |number, change: fn(&mut Moving)| {
+        let mut moving = coming();
+        change(&mut moving);
+        (number, moving, 64)
+    };
+    let mut cases = vec![
+        changed(0, |_| ()),
+        changed(0, |moving| moving.words = vec![0]),
+        changed(0, |moving| moving.rows = vec![0; 1250]),
+        changed(0, |moving| {
+            moving.balls = vec![0, 0, 0, 1];
+            moving.words = vec![512];
+        }),
+        changed(2, |moving| moving.axes = 3),
+        changed(2, |moving| moving.axes = 5),
+        changed(3, |moving| moving.rows = vec![0; 1255]),
+        changed(3, |moving| moving.rows = vec![0; 4]),
+        changed(3, |moving| moving.balls = vec![0; 5]),
+        changed(4, |moving| moving.words = vec![256]),
+        changed(5, |moving| moving.words = vec![1; 33]),
+        changed(10, |moving| moving.corners[1][2] = -0.0625),
+        changed(10, |moving| moving.keys[1].corner[1] = f64::NAN),
+        changed(11, |moving| moving.keys.truncate(1)),
+        changed(11, |moving| moving.keys[1].moment = 3),
+        changed(11, |moving| moving.keys[2].moment = 5),
+        changed(12, |moving| moving.keys[2].corner[0] = 1.0625),
+        changed(12, |moving| moving.keys[1].corner[0] = 61.0625),
+    ];
+    cases.extend([(ACCEPTED, coming(), 19), (NO_ROOM, coming(), 18), (NO_ROOM, coming(), 0)]);
+    for (wanted, moving, lent) in &cases {
+        mover(*wanted, moving, *lent);
     }
     cases.iter().map(|case| case.0).collect()
 }
@@ -586,6 +676,7 @@ fn main() {
         (ROOM, rooms()),
         (VERDICT, verdicts()),
         (CONTACTS, contacts()),
+        (MOVER, movers()),
         (NUMBERS, numbers()),
         (REPORT, reports()),
         (MERGE, merges()),

@@ -77,6 +77,33 @@ mod face {
             answer: *mut [u64; 2],
         ) -> u64;
 
+        pub fn durbizhan_mover(
+            axes: u64,
+            bits: u64,
+            frame_bits: u64,
+            near_x: f64,
+            near_y: f64,
+            near_z: f64,
+            far_x: f64,
+            far_y: f64,
+            far_z: f64,
+            displacement_x: f64,
+            displacement_y: f64,
+            displacement_z: f64,
+            moments: *const u64,
+            moments_count: usize,
+            corners: *const f64,
+            corners_count: usize,
+            rows: *const i64,
+            rows_count: usize,
+            balls: *const i64,
+            balls_count: usize,
+            words: *const u16,
+            words_count: usize,
+            out: *mut u8,
+            out_count: usize,
+            answer: *mut [u64; 5],
+        ) -> u64;
         pub fn durbizhan_sweep(
             axes: u64,
             bits: u64,
@@ -333,6 +360,64 @@ pub fn verdict(
             second.len(),
             window.first,
             window.last,
+            out.as_mut_ptr(),
+            out.len(),
+            &mut answer,
+        )
+    };
+    let [hit, first, last, voxels, length] = answer;
+    if number != ACCEPTED {
+        return Err(Refused { number, needed: length });
+    }
+    Ok(Clearance { verdict: verdict_of(hit, first, last, voxels), length: length as usize })
+}
+
+/// A key of a mover: a moment, and the near corner of its Box there.
+#[derive(Clone, Copy, Debug, PartialEq)]
+pub struct Key {
+    pub moment: u64,
+    pub corner: [f64; 3],
+}
+
+/// The verdict of a mover, a Box from near to far that moves evenly from key to key, against one static tree: every
+/// frame by its own stretch. The length is that of the last stretch's raw expression, which stands at the front of
+/// `out`; each stretch's is written over the one before.
+pub fn mover(
+    universe: Universe,
+    [near, far]: [[f64; 3]; 2],
+    keys: &[Key],
+    rows: &[i64],
+    balls: &[i64],
+    words: &[u16],
+    out: &mut [u8],
+) -> Result<Clearance, Refused> {
+    let moments: Vec<u64> = keys.iter().map(|key| key.moment).collect();
+    let corners: Vec<f64> = keys.iter().flat_map(|key| key.corner).collect();
+    let mut answer = [0; 5];
+    let number = unsafe {
+        face::durbizhan_mover(
+            universe.axes,
+            universe.bits,
+            universe.frame_bits,
+            near[0],
+            near[1],
+            near[2],
+            far[0],
+            far[1],
+            far[2],
+            0.0,
+            0.0,
+            0.0,
+            moments.as_ptr(),
+            moments.len(),
+            corners.as_ptr(),
+            corners.len(),
+            rows.as_ptr(),
+            rows.len(),
+            balls.as_ptr(),
+            balls.len(),
+            words.as_ptr(),
+            words.len(),
             out.as_mut_ptr(),
             out.len(),
             &mut answer,

@@ -8,3 +8,4 @@ pub mod Balls
 pub mod Swept
 pub mod Octrees
 pub mod Contacts
+pub mod Movers

@@ -4,6 +4,7 @@
 pub mod conversions;
 pub mod documents;
 pub mod expressions;
+pub mod movers;
 pub mod octrees;
 pub mod proxies;
 pub mod prunings;

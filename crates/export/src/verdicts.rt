@@ -17,7 +17,7 @@ pub(crate) struct Told {
     pub(crate) voxels: u64,
 }
 
-fn told_of(verdict: Verdict) -> Told
+pub(crate) fn told_of(verdict: Verdict) -> Told
     ensures { λ r. ⌜ r ≡ toldOf verdict ⌝ }
 {
     match verdict {

@@ -1,26 +1,20 @@
 -- Sure and possible contact, of the call: each field is a theorem of crate `contacts` on the definitions that the answer is made of.
-use Prim.Native.Nat.{ℕ, _%_, _≤_}
+use Prim.Native.Nat.{ℕ, _≤_}
 use mathlib.Core.Path.{_≡_, sym, ap, _∙_, fun-ext}
-use mathlib.Core.Bool.{Bool, true, false, cond, _&&_}
-use mathlib.Core.List.{List, [], _∷_}
+use mathlib.Core.Bool.{_&&_}
+use mathlib.Core.List.{List, []}
 use native.Mathlib.Decide.{ℕ-discrete}
 use native.Mathlib.Omega.{arith}
 use borrow.Author.Tests.{eq-eqb, ne-eqb}
-use lib.Dec.{eqb, leb, ltb}
-use lib.IntN.{ℤ}
-use lib.ListN.{length}
-use Rattle.lemmas.specs.Sums.{every}
+use lib.Dec.{leb, ltb}
 use Rattle.universe.specs.declared.Universe.{Universe}
-use Rattle.universe.specs.Refusals.{badUniverse, badRows, outside, noRoom, unless, firstRefusal}
-use Rattle.universe.specs.Universe.{leastAxes, mostAxes, mostBitsOf, mostFrameBits, universeRefusal, frameCount}
+use Rattle.universe.specs.Refusals.{outside, noRoom}
+use Rattle.universe.specs.Universe.{universeRefusal, frameCount}
 use Rattle.universe.specs.Voxel.{windowRefusal}
-use Rattle.csg.specs.Halfspace.{rowLength, mostRows, rowCount, rowAt, withinLimits, rowsRefusal}
-use Rattle.csg.specs.Ball.{ballLength, mostBalls, ballCount, ballAt, ballWithin, ballsRefusal}
 use Rattle.csg.specs.Surfaces.{Surfaces, named}
 use Rattle.csg.specs.Tree.{Tree}
-use Rattle.csg.specs.Words.{Outcome, refused, made, malformed, overfull, outcomeRefusal, parse, treeRefusal, treeOf}
+use Rattle.csg.specs.Words.{treeRefusal, treeOf}
 use Rattle.csg.specs.Marks.{treeColour}
-use Rattle.csg.specs.Raw.{both}
 use Rattle.demands.specs.Voxels.{Colouring}
 use Rattle.demands.proofs.Colours.{both-colour}
 use Rattle.contacts.specs.Contacts.{sureColour, possibleColour, windowVoxels}
@@ -28,78 +22,31 @@ use Rattle.contacts.proofs.Contacts as contacts
 use Rattle.contacts.proofs.Middle.{verdict-middle, no-contact}
 use Rattle.convert.specs.declared.counting.Contacts.{Contacts}
 use Rattle.convert.specs.Blocks.{treesOf}
-use Rattle.convert.specs.Answers.{twoTreesChecks, clearanceChecks, clearanceRefusal, clearanceAnswer}
+use Rattle.convert.specs.Answers.{twoTreesChecks, clearanceChecks, clearanceRefusal}
 use Rattle.convert.specs.Contacts.{refusedContacts, doneContacts, contactsAnswer}
 use Rattle.promises.specs.Contacts.{sharedColour, Contacted}
+use Rattle.promises.proofs.Never.{NoneIs, no-more, and-then, unless-not, first-not, universe-not, rows-not, balls-not, tree-not}
 use Rattle.promises.proofs.Located.{point-held}
 use Rattle.promises.proofs.Promises.{accepts, window-accepted, verdict-passed, verdict-is}
 
--- ---- number 6 is none of the checks'
-not-six : (good : Bool) (n : ℕ) → (n ≡ noRoom → ⊥) → unless good n ≡ noRoom → ⊥
-not-six true n h e = omega arith
-not-six false n h e = h e
-
-tree-not-six : {A : Type 0} (o : Outcome A) → outcomeRefusal o ≡ noRoom → ⊥
-tree-not-six (refused malformed) e = omega arith
-tree-not-six (refused overfull) e = omega arith
-tree-not-six (made a) e = omega arith
-
-data NoneSix : List ℕ → Type 0 where
-  no-more : NoneSix []
-  and-then : {n : ℕ} {ns : List ℕ} → (n ≡ noRoom → ⊥) → NoneSix ns → NoneSix (n ∷ ns)
-
-first-not-six : {ns : List ℕ} → NoneSix ns → firstRefusal ns ≡ noRoom → ⊥
-first-not-six no-more e = omega arith
-first-not-six (and-then {n = n} {ns = ns} h k) e = by (eqb n 0) (first-not-six k) e
-  where
-    by : (b : Bool) → (firstRefusal ns ≡ noRoom → ⊥) → cond b (firstRefusal ns) n ≡ noRoom → ⊥
-    by true f e = f e
-    by false f e = h e
-
 module _ (u : Universe) (surfaces : Surfaces) (first second : List ℕ) (from to : ℕ) where
-  universe-not-six : universeRefusal u ≡ noRoom → ⊥
-  unfolding universeRefusal
-  universe-not-six =
-      not-six
-      (leb leastAxes (u .axes) && leb (u .axes) mostAxes && leb (u .bits) (mostBitsOf (u .axes)) && leb (u .«frame_bits») mostFrameBits)
-      badUniverse (λ e. omega arith)
-
-  rows-not-six : rowsRefusal u (surfaces .rows) ≡ noRoom → ⊥
-  unfolding rowsRefusal
-  rows-not-six =
-      not-six
-      (eqb (length rows % rowLength) 0 && leb (rowCount rows) mostRows && every (rowCount rows) (λ i. withinLimits u (rowAt rows i)))
-      badRows (λ e. omega arith)
-    where
-      rows : List ℤ
-      rows = surfaces .rows
-
-  balls-not-six : ballsRefusal u (surfaces .balls) ≡ noRoom → ⊥
-  unfolding ballsRefusal
-  balls-not-six =
-      not-six
-      (eqb (length balls % ballLength) 0 && leb (ballCount balls) mostBalls && every (ballCount balls) (λ i. ballWithin u (ballAt balls i)))
-      badRows (λ e. omega arith)
-    where
-      balls : List ℤ
-      balls = surfaces .balls
-
-  words-not-six : (words : List ℕ) → treeRefusal (named surfaces) words ≡ noRoom → ⊥
-  unfolding treeRefusal
-  words-not-six words = tree-not-six (parse (named surfaces) words)
-
-  window-not-six : windowRefusal u from to ≡ noRoom → ⊥
-  unfolding windowRefusal
-  window-not-six = not-six (leb from to && ltb to (frameCount u)) outside (λ e. omega arith)
-
   never : clearanceRefusal u surfaces first second from to ≡ noRoom → ⊥
-  unfolding clearanceChecks twoTreesChecks
-  never = first-not-six (and-then (first-not-six trees-none) (and-then window-not-six no-more))
+  unfolding clearanceChecks twoTreesChecks windowRefusal
+  never =
+      first-not noRoom
+      (and-then (first-not noRoom trees-none (omega arith))
+      (and-then (unless-not noRoom (leb from to && ltb to (frameCount u)) outside (λ e. omega arith) (omega arith)) no-more))
+      (omega arith)
     where
-      trees-none : NoneSix (twoTreesChecks u surfaces first second)
+      words-not : (words : List ℕ) → treeRefusal (named surfaces) words ≡ noRoom → ⊥
+      words-not = tree-not noRoom (named surfaces) (λ e. omega arith) (λ e. omega arith) (omega arith)
+
+      trees-none : NoneIs noRoom (twoTreesChecks u surfaces first second)
       trees-none =
-          and-then universe-not-six
-          (and-then rows-not-six (and-then balls-not-six (and-then (words-not-six first) (and-then (words-not-six second) no-more))))
+          and-then (universe-not noRoom u (λ e. omega arith) (omega arith))
+          (and-then (rows-not noRoom u (surfaces .rows) (λ e. omega arith) (omega arith))
+          (and-then (balls-not noRoom u (surfaces .balls) (λ e. omega arith) (omega arith))
+          (and-then (words-not first) (and-then (words-not second) no-more))))
 
   -- ---- the answer, refused or done
   abbrev answer : Contacts

@@ -10,5 +10,7 @@ pub mod CutFromItself
 pub mod Swept
 pub mod Octrees
 pub mod Located
+pub mod Never
 pub mod Contacts
 pub mod Pruned
+pub mod Movers

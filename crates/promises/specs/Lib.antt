@@ -10,3 +10,4 @@ pub mod Swept
 pub mod Octrees
 pub mod Contacts
 pub mod Pruned
+pub mod Movers

@@ -9,6 +9,7 @@ pub mod OfConvert
 pub mod OfPruned
 pub mod OfSweep
 pub mod OfOctree
+pub mod OfMover
 pub mod OfFiles
 pub mod OfLines
 pub mod OfStandin

@@ -36,6 +36,9 @@ durbizhan-verdict w _ _ = ((tt, refl), λ _ _ _ _ _. three w (λ p q. (same (p .
 pub durbizhan-contacts : (w : World) → TellsApart w export.verdicts.durbizhan_contacts.ended export.verdicts.durbizhan_contacts.clauses
 durbizhan-contacts w _ _ = ((tt, refl), λ _ _ _ _ _. two w (λ p q. (same (p .0) (q .0), λ i. behind 9 (same (p .1) (q .1) i, tt))))
 
+pub durbizhan-mover : (w : World) → TellsApart w export.movers.durbizhan_mover.ended export.movers.durbizhan_mover.clauses
+durbizhan-mover w _ _ = ((tt, refl), λ _ _ _ _ _. three w (λ p q. (same (p .0) (q .0), λ i. behind 17 (same (p .2) (q .2) i, (same (p .1) (q .1) i, tt)))))
+
 pub durbizhan-numbers : (w : World) → TellsApart w export.verdicts.durbizhan_numbers.ended export.verdicts.durbizhan_numbers.clauses
 durbizhan-numbers w _ _ = ((tt, refl), λ _ _ _ _ _. two w (λ p q. (same (p .0) (q .0), λ i. behind 6 (same (p .1) (q .1) i, tt))))
 

@@ -35,6 +35,12 @@ outside = 9
 abbrev pub badProxy : ℕ
 badProxy = 10
 
+abbrev pub badKeys : ℕ
+badKeys = 11
+
+abbrev pub badStep : ℕ
+badStep = 12
+
 -- the first number of the checks, in their order, that is not 0; 0 where all accept
 abbrev pub firstRefusal : List ℕ → ℕ
 firstRefusal [] = 0

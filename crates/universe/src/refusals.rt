@@ -27,5 +27,11 @@ pub const NOT_MERGED: u64 = 8;
 // A voxel, path or window that the universe does not hold.
 pub const OUTSIDE: u64 = 9;
 
-// A proxy's number that is not taken, or near > far.
+// A proxy's number that is not taken, or near > far; of a mover, also a displacement that is not 0.
 pub const BAD_PROXY: u64 = 10;
+
+// A mover's keys that are too few or too many, lack a whole corner, do not rise, or lie outside the frames.
+pub const BAD_KEYS: u64 = 11;
+
+// A mover's step that is no whole number of sixteenths, or too large.
+pub const BAD_STEP: u64 = 12;

@@ -59,6 +59,13 @@ mod c {
             balls_count: usize, first: *const u16, first_count: usize, second: *const u16, second_count: usize,
             first_frame: u64, last_frame: u64, answer: *mut [u64; 3],
         ) -> u64;
+        pub fn durbizhan_mover(
+            axes: u64, bits: u64, frame_bits: u64, near_x: f64, near_y: f64, near_z: f64, far_x: f64, far_y: f64,
+            far_z: f64, displacement_x: f64, displacement_y: f64, displacement_z: f64, moments: *const u64,
+            moments_count: usize, corners: *const f64, corners_count: usize, rows: *const i64, rows_count: usize,
+            balls: *const i64, balls_count: usize, words: *const u16, words_count: usize, out: *mut u8,
+            out_count: usize, answer: *mut [u64; 5],
+        ) -> u64;
         pub fn durbizhan_well_formed(
             axes: u64, bits: u64, frame_bits: u64, expression: *const u8, expression_count: usize,
         ) -> u64;
@@ -236,6 +243,21 @@ pub fn contacts(
         c::durbizhan_contacts(
             axes, bits, frame_bits, rows.as_ptr(), rows.len(), balls.as_ptr(), balls.len(), first.as_ptr(),
             first.len(), second.as_ptr(), second.len(), first_frame, last_frame, answer,
+        )
+    }
+}
+
+#[allow(clippy::too_many_arguments)]
+pub fn mover(
+    axes: u64, bits: u64, frame_bits: u64, [near, far, step]: [[f64; 3]; 3], moments: &[u64], corners: &[f64],
+    rows: &[i64], balls: &[i64], words: &[u16], out: &mut [u8], answer: &mut [u64; 5],
+) -> u64 {
+    let ([a, b, c], [d, e, f], [g, h, i]) = (near, far, step);
+    unsafe {
+        self::c::durbizhan_mover(
+            axes, bits, frame_bits, a, b, c, d, e, f, g, h, i, moments.as_ptr(), moments.len(), corners.as_ptr(),
+            corners.len(), rows.as_ptr(), rows.len(), balls.as_ptr(), balls.len(), words.as_ptr(), words.len(),
+            out.as_mut_ptr(), out.len(), answer,
         )
     }
 }

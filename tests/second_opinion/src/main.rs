@@ -12,7 +12,8 @@ use second_opinion::fast::Run;
 use second_opinion::generate::{self, Random};
 use second_opinion::plain::{self, ACCEPTED};
 use second_opinion::plain::{
-    BAD_EXPRESSION, BAD_FILE, BAD_PROXY, BAD_ROWS, BAD_TREE, BAD_UNIVERSE, NOT_MERGED, NO_ROOM, OUTSIDE, OVERFULL_TREE,
+    BAD_EXPRESSION, BAD_FILE, BAD_KEYS, BAD_PROXY, BAD_ROWS, BAD_STEP, BAD_TREE, BAD_UNIVERSE, NOT_MERGED, NO_ROOM,
+    OUTSIDE, OVERFULL_TREE,
 };
 use std::collections::BTreeMap;
 use std::fmt::Write;
@@ -250,6 +251,9 @@ type Rewrite<const N: usize> = fn(u64, u64, u64, &[u8], &mut [u8], &mut [u64; N]
 type SceneRead =
     fn(&[u8], &mut [i64; 1280], &mut [i64; 256], &mut [u16; 255], &mut [u16; 255], &mut [u64; 10]) -> u64;
 type ShapeRead = fn(&[u8], &mut [u8], &mut [u64; 4]) -> u64;
+type MoverVerdict = fn(
+    u64, u64, u64, [[f64; 3]; 3], &[u64], &[f64], &[i64], &[i64], &[u16], &mut [u8], &mut [u64; 5],
+) -> u64;
 type BoxRows = fn([f64; 3], [f64; 3], [f64; 3], &mut [i64; 30]) -> u64;
 type CutRow = fn([f64; 3], f64, [f64; 3], &mut [i64; 5]) -> u64;
 
@@ -519,6 +523,25 @@ fn sweeps(line: &mut Line, random: &mut Random) {
     line.compare(plain, library, || format!("{}\naxis = {axis}\nout: {lent} bytes lent", reading_text(&case)));
 }
 
+fn movers(line: &mut Line, random: &mut Random) {
+    let case = generate::mover(random);
+    let [axes, bits, frame_bits] = case.universe;
+    let ask = |judge: MoverVerdict, out: &mut [u8], answer: &mut [u64; 5]| {
+        let (moments, corners, rows) = (&case.moments, &case.corners, &case.rows);
+        judge(axes, bits, frame_bits, case.solid, moments, corners, rows, &case.balls, &case.words, out, answer)
+    };
+    let mut need = [0; 5];
+    ask(plain::mover, &mut [], &mut need);
+    // around the largest need, at times more than the formula says
+    let lent = if random.chance(10) { need[4] as usize + 20_000 } else { generate::room(random, need[4]) };
+    let [plain, library] = [plain::mover as MoverVerdict, face::mover].map(|judge| {
+        let (mut out, mut answer) = (bytes(lent), longs(5));
+        let number = ask(judge, out.lent(), answer.array());
+        Outcome { number, contents: vec![("answer", answer.into()), ("out", out.into())] }
+    });
+    line.compare(plain, library, || format!("{case:?}\nout: {lent} bytes lent"));
+}
+
 /// Merging and shape writing: an expression in, bytes out, and an answer that begins with their length.
 fn rewriting<const N: usize>(line: &mut Line, random: &mut Random, plain: Rewrite<N>, library: Rewrite<N>) {
     let case = generate::reading(random);
@@ -642,6 +665,8 @@ fn cuts(line: &mut Line, random: &mut Random) {
 const CONVERSION: &[u64] = &[BAD_UNIVERSE, BAD_ROWS, BAD_TREE, OVERFULL_TREE, NO_ROOM];
 const VERDICT: &[u64] = &[BAD_UNIVERSE, BAD_ROWS, BAD_TREE, OVERFULL_TREE, OUTSIDE, NO_ROOM];
 const CONTACTS: &[u64] = &[BAD_UNIVERSE, BAD_ROWS, BAD_TREE, OVERFULL_TREE, OUTSIDE];
+const MOVER: &[u64] =
+    &[BAD_UNIVERSE, BAD_PROXY, BAD_KEYS, BAD_STEP, BAD_ROWS, BAD_TREE, OVERFULL_TREE, NO_ROOM];
 const READING: &[u64] = &[BAD_UNIVERSE, BAD_EXPRESSION];
 const READING_AT: &[u64] = &[BAD_UNIVERSE, BAD_EXPRESSION, OUTSIDE];
 const REPORT: &[u64] = &[BAD_UNIVERSE, BAD_EXPRESSION, OUTSIDE, NO_ROOM];
@@ -668,6 +693,7 @@ const ENTRY_POINTS: &[(&str, u64, &[u64], Compare)] = &[
     ("durbizhan_pruned_merged_two", 1000, CONVERSION, |l, r| pruned(l, r, 2, true)),
     ("durbizhan_verdict", 1000, VERDICT, verdicts),
     ("durbizhan_contacts", 1000, CONTACTS, contacts),
+    ("durbizhan_mover", 1000, MOVER, movers),
     ("durbizhan_raw_two, long", 1, &[NO_ROOM], |l, r| long_two_trees(l, r, plain::raw_two, face::raw_two)),
     ("durbizhan_merged_two, long", 1, &[NO_ROOM], |l, r| long_two_trees(l, r, plain::merged_two, face::merged_two)),
     ("durbizhan_verdict, long", 1, &[OUTSIDE, NO_ROOM], long_verdicts),

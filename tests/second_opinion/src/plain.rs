@@ -19,6 +19,8 @@ pub const BAD_EXPRESSION: u64 = 7;
 pub const NOT_MERGED: u64 = 8;
 pub const OUTSIDE: u64 = 9;
 pub const BAD_PROXY: u64 = 10;
+pub const BAD_KEYS: u64 = 11;
+pub const BAD_STEP: u64 = 12;
 
 /// A refusal: its number, and with number 6 the length needed.
 #[derive(Clone, Copy, Debug, PartialEq, Eq)]
@@ -1064,6 +1066,86 @@ pub fn cut_row(normal: [f64; 3], offset: f64, step: [f64; 3]) -> Answer<Row> {
     Ok([16 * offset, 16 * normal[0], 16 * normal[1], 16 * normal[2], -along])
 }
 
+// ----------------------------------------------------------------------------------------------------- movers
+
+const LEAST_KEYS: usize = 2;
+const MOST_KEYS: usize = 64;
+const BOX_ROWS: usize = 6;
+
+/// A stretch of rule 15.4 in sixteenths: its two moments, the corners there, and the size of the Box.
+pub struct Stretch {
+    pub begins: u64,
+    pub ends: u64,
+    pub from: [i64; 3],
+    pub to: [i64; 3],
+    pub size: [i64; 3],
+}
+
+impl Stretch {
+    /// The step along an axis, in sixteenths, where it is whole and not too large.
+    fn step(&self, axis: usize) -> Answer<i64> {
+        let (change, frames) = (self.to[axis] - self.from[axis], (self.ends - self.begins) as i64);
+        if change % frames != 0 || (change / frames).abs() > 16 * STEP_LIMIT as i64 {
+            return refused(BAD_STEP);
+        }
+        Ok(change / frames)
+    }
+
+    /// Whether the Box holds the centre of a voxel of one of its frames. At the middle of frame c it has gone
+    /// (2(c − a) + 1) / 2(b − a) of the way from corner to corner: all is taken times 16 and times 2(b − a).
+    pub fn holds(&self, voxel: &[i64; 4]) -> bool {
+        let frames = 2 * (self.ends - self.begins) as i128;
+        let gone = 2 * (voxel[3] as i128 - self.begins as i128) + 1;
+        (0..3).all(|axis| {
+            let near = frames * self.from[axis] as i128 + gone * (self.to[axis] - self.from[axis]) as i128;
+            let centre = frames * 8 * (2 * voxel[axis] as i128 + 1);
+            near <= centre && centre <= near + frames * self.size[axis] as i128
+        })
+    }
+
+    /// Its six rows: the Box worked back to time 0, displaced by its step (rule 15.5).
+    pub fn rows(&self) -> Answer<[Row; BOX_ROWS]> {
+        let mut rows = [[0; 5]; BOX_ROWS];
+        for axis in 0..3 {
+            let step = self.step(axis)?;
+            let near = self.from[axis] - self.begins as i64 * step;
+            (rows[2 * axis][0], rows[2 * axis][axis + 1], rows[2 * axis][4]) = (-near, 16, -step);
+            let far = near + self.size[axis];
+            (rows[2 * axis + 1][0], rows[2 * axis + 1][axis + 1], rows[2 * axis + 1][4]) = (far, -16, step);
+        }
+        Ok(rows)
+    }
+}
+
+/// The stretches of a mover, of its Box (near, far and displacement) and its keys: 10, 11, 12 in this order.
+pub fn stretches_checked(
+    universe: &Universe, [near, far, step]: [[f64; 3]; 3], moments: &[u64], corners: &[f64],
+) -> Answer<Vec<Stretch>> {
+    box_rows(near, far, step)?;
+    if step.iter().any(|&number| number != 0.0) {
+        return refused(BAD_PROXY);
+    }
+    let (near, far) = (three(near, CORNER_LIMIT)?, three(far, CORNER_LIMIT)?);
+    let size = [0, 1, 2].map(|axis| far[axis] - near[axis]);
+    let corners: Vec<i64> = corners.iter().map(|&number| sixteenths(number, CORNER_LIMIT)).collect::<Answer<_>>()?;
+    if moments.len() < LEAST_KEYS
+        || moments.len() > MOST_KEYS
+        || corners.len() != 3 * moments.len()
+        || moments.windows(2).any(|two| two[0] >= two[1])
+        || moments.iter().any(|&moment| moment > universe.frames())
+    {
+        return refused(BAD_KEYS);
+    }
+    let corner = |key: usize| [corners[3 * key], corners[3 * key + 1], corners[3 * key + 2]];
+    let stretches: Vec<Stretch> = (0..moments.len() - 1)
+        .map(|i| Stretch { begins: moments[i], ends: moments[i + 1], from: corner(i), to: corner(i + 1), size })
+        .collect();
+    for stretch in &stretches {
+        stretch.rows()?;
+    }
+    Ok(stretches)
+}
+
 // ------------------------------------------------------------------------------------------------------ files
 
 fn u16_at(bytes: &[u8], place: usize) -> u16 {
@@ -1342,6 +1424,26 @@ pub fn pruned(
 }
 
 #[allow(clippy::too_many_arguments)]
+
+/// A verdict's answer: the length needed on 6, zeros beside it on every refusal.
+fn verdict_answer(result: Answer<(Hit, u64)>, answer: &mut [u64; 5]) -> u64 {
+    match result {
+        Ok((None, length)) => {
+            *answer = [0, 0, 0, 0, length];
+            ACCEPTED
+        }
+        Ok((Some((from, to, voxels)), length)) => {
+            *answer = [1, from, to, voxels, length];
+            ACCEPTED
+        }
+        Err(refusal) => {
+            *answer = [0, 0, 0, 0, refusal.needed];
+            refusal.number
+        }
+    }
+}
+
+#[allow(clippy::too_many_arguments)]
 pub fn verdict(
     axes: u64, bits: u64, frame_bits: u64, rows: &[i64], balls: &[i64], first: &[u16], second: &[u16],
     first_frame: u64, last_frame: u64, out: &mut [u8], answer: &mut [u64; 5],
@@ -1358,20 +1460,7 @@ pub fn verdict(
         };
         Ok((hit, length))
     };
-    match judge() {
-        Ok((None, length)) => {
-            *answer = [0, 0, 0, 0, length];
-            ACCEPTED
-        }
-        Ok((Some((from, to, voxels)), length)) => {
-            *answer = [1, from, to, voxels, length];
-            ACCEPTED
-        }
-        Err(refusal) => {
-            *answer = [0, 0, 0, 0, refusal.needed];
-            refusal.number
-        }
-    }
+    verdict_answer(judge(), answer)
 }
 
 #[allow(clippy::too_many_arguments)]
@@ -1736,6 +1825,48 @@ pub fn shape_write(
         delivered(&shape_bytes(2, [axes, bits, frame_bits], expression), out)
     };
     length_answer(judge(), answer)
+}
+
+#[allow(clippy::too_many_arguments)]
+pub fn mover(
+    axes: u64, bits: u64, frame_bits: u64, solid: [[f64; 3]; 3], moments: &[u64], corners: &[f64], rows: &[i64],
+    balls: &[i64], words: &[u16], out: &mut [u8], answer: &mut [u64; 5],
+) -> u64 {
+    let mut judge = || -> Answer<(Hit, u64)> {
+        let universe = Universe::checked(axes, bits, frame_bits)?;
+        if universe.axes != 4 {
+            return refused(BAD_UNIVERSE);
+        }
+        let stretches = stretches_checked(&universe, solid, moments, corners)?;
+        let rows = rows_checked(&universe, rows)?;
+        if rows.len() > MOST_ROWS - BOX_ROWS {
+            return refused(BAD_ROWS);
+        }
+        let balls = balls_checked(&universe, balls)?;
+        let tree = without_minus(tree_checked(&rows, &balls, words)?);
+        let mut written = Vec::new();
+        for stretch in &stretches {
+            let leaf = |row: Row| Leaf(Surface::Halfspace(row));
+            let of_box = stretch.rows()?.into_iter().map(leaf).reduce(|a, b| Intersection(Box::new(a), Box::new(b)));
+            written.push(raw_of(&universe, &joined(&[tree.clone(), of_box.expect("six rows")])));
+        }
+        let needed = written.iter().map(Vec::len).max().expect("a stretch");
+        if needed > out.len() {
+            return too_little_room(needed as u64);
+        }
+        for symbols in &written {
+            out[..symbols.len()].copy_from_slice(symbols);
+        }
+        // frame by frame: each belongs to the stretch that begins at it or before and ends after it
+        let (first, last) = (moments[0], moments[moments.len() - 1] - 1);
+        let hit = hit_where(&universe, first, last, |voxel| {
+            let frame = voxel[3] as u64;
+            let own = stretches.iter().find(|stretch| stretch.begins <= frame && frame < stretch.ends);
+            own.expect("a stretch").holds(voxel) && black_at_centre(&tree, 4, voxel)
+        });
+        Ok((hit, written[written.len() - 1].len() as u64))
+    };
+    verdict_answer(judge(), answer)
 }
 
 pub fn box_proxy(near: [f64; 3], far: [f64; 3], step: [f64; 3], rows: &mut [i64; 30]) -> u64 {

@@ -389,6 +389,44 @@ fn sweeps_agree() {
 }
 
 #[test]
+fn movers_stretch_by_stretch() {
+    // rules 15.7 and 15.10: what is judged by fractions is what the stretches' verdicts come to, joined, each of two
+    // trees with the Box's rows behind the static ones, in the room that the one before left
+    let mut random = Random::new(20);
+    let (mut judged, mut hit) = (0, 0);
+    while judged < 1000 {
+        let case = generate::mover(&mut random);
+        let [axes, bits, frame_bits] = case.universe;
+        let (mut out, mut answer) = (vec![7; 20_000], [9; 5]);
+        let (moments, corners, rows) = (&case.moments, &case.corners, &case.rows);
+        let (balls, words) = (&case.balls, &case.words);
+        if mover(axes, bits, frame_bits, case.solid, moments, corners, rows, balls, words, &mut out, &mut answer) != 0 {
+            continue;
+        }
+        let first = 256 + (rows.len() / 5) as u16;
+        let own: Vec<u16> = [first].into_iter().chain((1..6).flat_map(|i| [first + i, 3])).collect();
+        let (mut room, mut joined) = (vec![7; 20_000], [0; 5]);
+        for stretch in stretches_checked(&drawn(case.universe), case.solid, moments, corners).unwrap() {
+            let all = [rows.clone(), stretch.rows().unwrap().concat()].concat();
+            let (begins, last, mut part) = (stretch.begins, stretch.ends - 1, [9; 5]);
+            let of = [words, &own];
+            let number =
+                verdict(axes, bits, frame_bits, &all, balls, of[0], of[1], begins, last, &mut room, &mut part);
+            assert_eq!(number, ACCEPTED);
+            joined = match (joined[0], part[0]) {
+                (_, 0) => [joined[0], joined[1], joined[2], joined[3], part[4]],
+                (0, _) => part,
+                _ => [1, joined[1], part[2], joined[3] + part[3], part[4]],
+            };
+        }
+        assert_eq!((answer, &out), (joined, &room));
+        judged += 1;
+        hit += answer[0];
+    }
+    assert!(hit > 200, "{hit} of {judged}");
+}
+
+#[test]
 fn every_sweep_is_drawn() {
     let mut random = Random::new(14);
     let mut met = std::collections::BTreeSet::new();
