@@ -2,9 +2,11 @@
 //! replacement against merging on the way, blocks against voxels.
 
 use crate::fast::{plain_merged_fast, plain_numbers_fast, plain_raw_fast, plain_verdict_fast, Run};
+use crate::hand::{hand_merged, hand_raw, Hand};
 use crate::generate::{self, Random};
 use crate::generate::Named;
 use crate::plain::*;
+use crate::scenes;
 
 fn rows_of(rows: &[[i64; 3]]) -> Vec<i64> {
     rows.iter().flat_map(|row| [row[0], row[1], row[2], 0, 0]).collect()
@@ -664,6 +666,57 @@ fn slow_and_fast_agree() {
             assert_eq!(contacts_by_blocks(&universe, &tree, &Block::whole(&universe), first, last), counts);
             assert!(counts[0] <= counts[1] && counts[1] <= counts[2]);
             assert_eq!(counts[1], hit.map_or(0, |(_, _, count)| count));
+        }
+    }
+}
+
+#[test]
+fn pruned_by_hand_agrees() {
+    let agree = |axes, bits, frame_bits, rows: &[i64], balls: &[i64], trees: &[&[u16]]| {
+        let run = Run::checked(axes, bits, frame_bits, rows, balls, trees).unwrap();
+        let hand = Hand::checked(axes, bits, frame_bits, rows, balls, trees).unwrap();
+        assert_eq!(hand.room(), run.room());
+        let (mut plain, mut pruned) = (vec![0; run.room() as usize], vec![0; run.room() as usize]);
+        let length = plain_raw_fast(&run, &mut plain).unwrap();
+        assert_eq!(hand_raw(&hand, &mut pruned), length);
+        assert_eq!(plain[..length], pruned[..length]);
+        let length = plain_merged_fast(&run, &mut plain).unwrap();
+        assert_eq!(hand_merged(&hand, &mut pruned), length);
+        assert_eq!(plain[..length], pruned[..length]);
+    };
+    let mut random = Random::new(18);
+    for _ in 0..20_000 {
+        let given = generate::small_universe(&mut random, 10);
+        let [axes, bits, frame_bits] = given;
+        let (rows, balls, one, two) = drawn_run(&mut random, given);
+        let trees: &[&[u16]] = if random.chance(50) { &[&one] } else { &[&one, &two] };
+        agree(axes, bits, frame_bits, &rows, &balls, trees);
+    }
+    for scene in scenes::twenty(-1) {
+        agree(scene.axes, scene.bits, scene.frame_bits, &scene.rows, &scene.balls, &scene.trees());
+    }
+}
+
+/// Twenty scenes of 2 to 250 words, over all numbers of axes, with frame bits apart from bits, MINUS, constants and balls
+/// among them, none of which is decided at once at any of the three depths.
+#[test]
+fn twenty_scenes_are_what_they_are_for() {
+    for deeper in [-1, 0, 1] {
+        let twenty = scenes::twenty(deeper);
+        assert_eq!(twenty.len(), 20);
+        let words: Vec<usize> = twenty.iter().map(|scene| scene.words()).collect();
+        assert_eq!((words.iter().min(), words.iter().max()), (Some(&2), Some(&250)));
+        let has = |word: std::ops::Range<u16>| {
+            let named = |list: &[u16]| list.iter().any(|at| word.contains(at));
+            twenty.iter().any(|scene| named(&scene.first) || named(&scene.second))
+        };
+        assert!(has(0..1) && has(1..2) && has(4..5) && has(512..576));
+        assert!((1..=4).all(|axes| twenty.iter().any(|scene| scene.axes == axes)));
+        assert!(twenty.iter().any(|scene| scene.axes > 1 && scene.frame_bits != scene.bits));
+        for scene in twenty {
+            let trees = scene.trees();
+            let run = Run::checked(scene.axes, scene.bits, scene.frame_bits, &scene.rows, &scene.balls, &trees).unwrap();
+            assert_eq!(run.blocks_within(1), None, "{}", scene.text());
         }
     }
 }

@@ -10,160 +10,25 @@ mod face;
 use second_opinion::fast::{plain_merged_fast, plain_numbers_fast, plain_raw_fast, plain_verdict_fast, Run};
 use second_opinion::fast::{plain_octree_fast, plain_sweep_fast, plain_unoctree_fast};
 use second_opinion::generate::Random;
+use second_opinion::scenes::{ball_at, clusters, convex, crowd, icosahedron, wall, Bits, Scene};
 use std::hint::black_box;
 use std::time::Instant;
 
-struct Case {
-    name: String,
-    axes: u64,
-    bits: u64,
-    frame_bits: u64,
-    rows: Vec<i64>,
-    balls: Vec<i64>,
-    first: Vec<u16>,
-    second: Vec<u16>,
-}
-
-impl Case {
-    /// Its universe and its name; f is left out where it is k.
-    fn text(&self) -> String {
-        let frame_bits = if self.frame_bits == self.bits { String::new() } else { format!(" f {}", self.frame_bits) };
-        format!("d {} k {}{frame_bits} {}", self.axes, self.bits, self.name)
-    }
-}
-
-/// Axes, bits and frame bits; the length along an axis.
-type Bits = (u64, u64, u64);
-
-fn side((axes, bits, frame_bits): Bits, axis: usize) -> f64 {
-    (1u64 << if axis as u64 + 1 == axes { frame_bits } else { bits }) as f64
-}
-
-/// The halfspace of a plane that touches a ball, the ball inside; the centre is in halves. Where the frame axis is longer
-/// than the others, so is the ball along it.
-fn touching(normal: [f64; 4], twice_centre: [f64; 4], radius: f64, case: Bits) -> [i64; 5] {
-    let axes = case.0 as usize;
-    let length = normal[..axes].iter().map(|n| n * n).sum::<f64>().sqrt();
-    let mut row = [0; 5];
-    let mut free = radius * 1000.0;
-    for axis in 0..axes {
-        let scaled = (normal[axis] / length * 1000.0 * side(case, 0) / side(case, axis)).round();
-        row[axis + 1] = -(scaled as i64);
-        free += scaled * twice_centre[axis] / 2.0;
-    }
-    row[0] = free.round() as i64;
-    row
-}
-
-fn direction(random: &mut Random) -> [f64; 4] {
-    loop {
-        let normal = [0; 4].map(|_: i32| random.between(-1000, 1000) as f64);
-        let square: f64 = normal.iter().map(|n| n * n).sum();
-        if (10_000.0..1_000_000.0).contains(&square) {
-            return normal;
-        }
-    }
-}
-
-/// The intersection of so many halfspaces that touch a ball.
-fn convex(random: &mut Random, rows: &mut Vec<i64>, leaves: usize, centre: f64, case: Bits) -> Vec<u16> {
-    let twice_centre = [0, 1, 2, 3].map(|axis| 2.0 * centre * side(case, axis));
-    let mut words = Vec::new();
-    for leaf in 0..leaves {
-        let normal = direction(random);
-        words.push(256 + (rows.len() / 5) as u16);
-        rows.extend(touching(normal, twice_centre, 0.4 * side(case, 0), case));
-        if leaf > 0 {
-            words.push(3);
-        }
-    }
-    words
-}
-
-/// A union of intersections of four halfspaces each, about different centres.
-fn clusters(random: &mut Random, rows: &mut Vec<i64>, leaves: usize, case: Bits) -> Vec<u16> {
-    let mut words = Vec::new();
-    let mut begun = 0;
-    while begun < leaves {
-        let size = (leaves - begun).min(4);
-        let centre = [0, 1, 2, 3].map(|axis| 2.0 * side(case, axis) * random.between(200, 800) as f64 / 1000.0);
-        for leaf in 0..size {
-            let normal = direction(random);
-            words.push(256 + (rows.len() / 5) as u16);
-            rows.extend(touching(normal, centre, 0.25 * side(case, 0), case));
-            if leaf > 0 {
-                words.push(3);
-            }
-        }
-        if begun > 0 {
-            words.push(2);
-        }
-        begun += size;
-    }
-    words
-}
-
-/// The icosahedron: its face normals are the corners of a dodecahedron.
-fn icosahedron(rows: &mut Vec<i64>, centre: [f64; 4], radius: f64, case: Bits) -> Vec<u16> {
-    let golden = (1.0 + 5f64.sqrt()) / 2.0;
-    let signs = [1.0, -1.0];
-    let mut normals = Vec::new();
-    for a in signs {
-        for b in signs {
-            for c in signs {
-                normals.push([a, b, c, 0.0]);
-            }
-            normals.push([0.0, a / golden, b * golden, 0.0]);
-            normals.push([a / golden, b * golden, 0.0, 0.0]);
-            normals.push([a * golden, 0.0, b / golden, 0.0]);
-        }
-    }
-    assert_eq!(normals.len(), 20);
-    let mut words = Vec::new();
-    for (place, normal) in normals.into_iter().enumerate() {
-        words.push(256 + (rows.len() / 5) as u16);
-        rows.extend(touching(normal, centre.map(|c| 2.0 * c), radius, case));
-        if place > 0 {
-            words.push(3);
-        }
-    }
-    words
-}
-
 /// Two heads that overlap; a crowd of 32 balls about a head; and a head less a moving wall.
-fn with_balls(cases: &mut Vec<Case>, case: Bits) {
+fn with_balls(cases: &mut Vec<Scene>, case: Bits) {
     let (axes, bits, frame_bits) = case;
-    let places = axes as usize - 1;
-    let ball = |part: [f64; 3], radius: f64| {
-        let mut ball = [0, 0, 0, (radius * side(case, 0)).round() as i64];
-        for axis in 0..places {
-            ball[axis] = (part[axis] * side(case, axis)).round() as i64;
-        }
-        ball
-    };
     let mut push = |name: &str, rows: Vec<i64>, balls: Vec<i64>, first, second| {
-        cases.push(Case { name: name.to_string(), axes, bits, frame_bits, rows, balls, first, second });
+        cases.push(Scene { name: name.to_string(), axes, bits, frame_bits, rows, balls, first, second });
     };
-    let (head, other) = (ball([0.4, 0.5, 0.5], 0.35), ball([0.7, 0.55, 0.5], 0.25));
+    let (head, other) = (ball_at([0.4, 0.5, 0.5], 0.35, case), ball_at([0.7, 0.55, 0.5], 0.25, case));
     push("two balls", vec![], [head, other].concat(), vec![512], vec![513]);
     let mut balls = head.to_vec();
-    let mut crowd = vec![];
-    for person in 0..32 {
-        let turn = person as f64 * 2.4;
-        balls.extend(ball([0.4 + 0.3 * turn.cos(), 0.5 + 0.3 * turn.sin(), person as f64 / 32.0], 0.1));
-        crowd.push(513 + person);
-        if person > 0 {
-            crowd.push(2);
-        }
-    }
+    let crowd = crowd(&mut balls, 32, case);
     push("a ball and 32", vec![], balls, vec![512], crowd);
-    // the wall goes across the first axis, from one end to the other in all frames
-    let mut wall = [0; 5];
-    (wall[1], wall[places + 1]) = (side(case, places) as i64, -side(case, 0) as i64);
-    push("a ball less a wall", wall.to_vec(), head.to_vec(), vec![512, 256, 4], vec![1]);
+    push("a ball less a wall", wall(case).to_vec(), head.to_vec(), vec![512, 256, 4], vec![1]);
 }
 
-fn cases() -> Vec<Case> {
+fn cases() -> Vec<Scene> {
     let mut random = Random::new(2024);
     let mut cases = Vec::new();
     let sizes: [(&str, usize, usize); 5] =
@@ -189,13 +54,12 @@ fn cases() -> Vec<Case> {
                     convex(&mut random, &mut rows, two, 0.55, case),
                 ),
             };
-            cases.push(Case { name: name.to_string(), axes, bits, frame_bits, rows, balls: vec![], first, second });
+            cases.push(Scene { name: name.to_string(), axes, bits, frame_bits, rows, balls: vec![], first, second });
         }
         if axes == 3 && frame_bits == bits {
-            let side = side(case, 0);
             let mut rows = Vec::new();
-            let first = icosahedron(&mut rows, [side / 2.0; 4], 0.4 * side, case);
-            let one = Case {
+            let first = icosahedron(&mut rows, [0.5; 3], [0.5; 3], 0.4, case);
+            let one = Scene {
                 name: "icosahedron".into(),
                 axes,
                 bits,
@@ -206,9 +70,10 @@ fn cases() -> Vec<Case> {
                 second: vec![1],
             };
             cases.push(one);
-            let second = icosahedron(&mut rows, [0.6 * side, 0.55 * side, 0.5 * side, 0.0], 0.3 * side, case);
+            let centre = [0.6, 0.55, 0.5];
+            let second = icosahedron(&mut rows, centre, centre, 0.3, case);
             let (name, balls) = ("two icosahedra".into(), vec![]);
-            cases.push(Case { name, axes, bits, frame_bits, rows, balls, first, second });
+            cases.push(Scene { name, axes, bits, frame_bits, rows, balls, first, second });
         }
         with_balls(&mut cases, case);
     }
@@ -248,7 +113,7 @@ impl Table {
         Table { ratios: Vec::new() }
     }
 
-    fn row(&mut self, case: &Case, blocks: usize, words: usize, (library, plain): (f64, f64)) {
+    fn row(&mut self, case: &Scene, blocks: usize, words: usize, (library, plain): (f64, f64)) {
         let unit = 1e9 / (blocks as f64 * words as f64);
         println!(
             "| {} | {blocks} | {words} | {:.2} | {:.2} | {:.2} |",
@@ -265,16 +130,12 @@ impl Table {
 }
 
 /// The plain side begins where the library does: with the checks.
-fn checked(case: &Case) -> Run {
+fn checked(case: &Scene) -> Run {
     let trees: [&[u16]; 2] = [&case.first, &case.second];
     Run::checked(case.axes, case.bits, case.frame_bits, &case.rows, &case.balls, &trees).expect("in order")
 }
 
-fn words(case: &Case) -> usize {
-    case.first.len() + case.second.len()
-}
-
-fn raw(cases: &[Case], raws: &[Vec<u8>], title: &str, exact: bool) {
+fn raw(cases: &[Scene], raws: &[Vec<u8>], title: &str, exact: bool) {
     let mut table = Table::new(title);
     for (case, raw) in cases.iter().zip(raws) {
         let lent = if exact { raw.len() } else { checked(case).room() as usize };
@@ -295,12 +156,12 @@ fn raw(cases: &[Case], raws: &[Vec<u8>], title: &str, exact: bool) {
             },
         );
         assert!(out == plain_out, "the expressions differ");
-        table.row(case, raw.len(), words(case), times);
+        table.row(case, raw.len(), case.words(), times);
     }
     table.end();
 }
 
-fn merged(cases: &[Case], raws: &[Vec<u8>], merged: &[Vec<u8>], title: &str, exact: bool) {
+fn merged(cases: &[Scene], raws: &[Vec<u8>], merged: &[Vec<u8>], title: &str, exact: bool) {
     let mut table = Table::new(title);
     for ((case, raw), merged) in cases.iter().zip(raws).zip(merged) {
         let lent = if exact { merged.len() } else { checked(case).room() as usize };
@@ -321,18 +182,18 @@ fn merged(cases: &[Case], raws: &[Vec<u8>], merged: &[Vec<u8>], title: &str, exa
             },
         );
         assert!(out == plain_out, "the expressions differ");
-        table.row(case, raw.len(), words(case), times);
+        table.row(case, raw.len(), case.words(), times);
     }
     table.end();
 }
 
 /// The middle half of the frames.
-fn window(case: &Case) -> (u64, u64) {
+fn window(case: &Scene) -> (u64, u64) {
     let frames = 1u64 << case.frame_bits;
     (frames / 4, 3 * frames / 4)
 }
 
-fn numbers(cases: &[Case], expressions: &[Vec<u8>], title: &str) {
+fn numbers(cases: &[Scene], expressions: &[Vec<u8>], title: &str) {
     let mut table = Table::new(title);
     for (case, symbols) in cases.iter().zip(expressions) {
         if symbols.len() < 200 {
@@ -356,7 +217,7 @@ fn numbers(cases: &[Case], expressions: &[Vec<u8>], title: &str) {
 
 /// A report over the middle half of the frames beside the numbers of its expressions: of one long expression, and of as
 /// many copies of a short one as a list may have, each asked for its numbers alone.
-fn reports(cases: &[Case], expressions: &[Vec<u8>], title: &str, copies: usize, symbols: std::ops::Range<usize>) {
+fn reports(cases: &[Scene], expressions: &[Vec<u8>], title: &str, copies: usize, symbols: std::ops::Range<usize>) {
     println!("\n## {title}\n");
     println!("| case | symbols | report ns | numbers ns | ratio |");
     println!("|---|---:|---:|---:|---:|");
@@ -394,7 +255,7 @@ fn reports(cases: &[Case], expressions: &[Vec<u8>], title: &str, copies: usize, 
 }
 
 /// Expressions swept along the frame axis, into room as long as they are.
-fn sweeps(cases: &[Case], expressions: &[Vec<u8>], title: &str) {
+fn sweeps(cases: &[Scene], expressions: &[Vec<u8>], title: &str) {
     let mut table = Table::new(title);
     for (case, symbols) in cases.iter().zip(expressions) {
         if symbols.len() < 200 {
@@ -423,7 +284,7 @@ fn sweeps(cases: &[Case], expressions: &[Vec<u8>], title: &str) {
 }
 
 /// Expressions of three axes with equal bits to octrees and back, into room that always suffices.
-fn octrees(cases: &[Case], expressions: &[Vec<u8>]) {
+fn octrees(cases: &[Scene], expressions: &[Vec<u8>]) {
     let cubes: Vec<_> = cases.iter().zip(expressions).filter(|(case, symbols)| {
         case.axes == 3 && case.bits == case.frame_bits && symbols.len() >= 200
     }).collect();
@@ -473,7 +334,7 @@ fn octrees(cases: &[Case], expressions: &[Vec<u8>]) {
     table.end();
 }
 
-fn verdict(cases: &[Case], raws: &[Vec<u8>], title: &str, exact: bool) {
+fn verdict(cases: &[Scene], raws: &[Vec<u8>], title: &str, exact: bool) {
     let mut table = Table::new(title);
     for (case, raw) in cases.iter().zip(raws) {
         let (from, to) = window(case);
@@ -496,14 +357,14 @@ fn verdict(cases: &[Case], raws: &[Vec<u8>], title: &str, exact: bool) {
             },
         );
         assert!(out == plain_out, "the expressions differ");
-        table.row(case, raw.len(), words(case), times);
+        table.row(case, raw.len(), case.words(), times);
     }
     table.end();
 }
 
 /// Sure and possible contact beside the library's own verdict, over the same window: the middle count is the verdict's.
 /// The times are per block of the raw expression, though contact looks at those in the window alone.
-fn contacts(cases: &[Case], raws: &[Vec<u8>], title: &str) {
+fn contacts(cases: &[Scene], raws: &[Vec<u8>], title: &str) {
     let mut table = Table::new(title);
     for (case, raw) in cases.iter().zip(raws) {
         let (from, to) = window(case);
@@ -529,7 +390,7 @@ fn contacts(cases: &[Case], raws: &[Vec<u8>], title: &str) {
                 black_box(&out);
             },
         );
-        table.row(case, raw.len(), words(case), times);
+        table.row(case, raw.len(), case.words(), times);
     }
     table.end();
 }
