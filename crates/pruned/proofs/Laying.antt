@@ -122,7 +122,7 @@ module _ (surfaces : Surfaces) (ps : List Plain) (b : Block) (u : allMark surfac
   upper-left : upperPart surfaces (allLeft surfaces ps b) n b ≡ upperPart surfaces ps n b
   upper-left = examine-left surfaces ps b u n (high b) refl (high-nested b inner) deep
 
-halves-size : (a c : Shape) → size (halved a c) ≡ suc (size a + size c)
+pub halves-size : (a c : Shape) → size (halved a c) ≡ suc (size a + size c)
 unfolding size
 halves-size a c = refl
 
@@ -334,6 +334,55 @@ byte-of (halved a b) = omega arith
 pub unpacked : {packed : ℕ} (at : ℕ) (s : Shape) → packed ≡ packedShape at s → (packed / 256 ≡ at + size s) × (packed % 256 ≡ leafSymbol s)
 unpacked at s e = (omega (arith, e, byte-of s), omega (arith, e, byte-of s))
 
+-- two halves that are laid one behind the other, joined: the whole
+module _ (m : Bool) (out : List ℕ) (at : ℕ) {whole lowest highest : Shape} (parts-are : whole ≡ halved lowest highest) {packed₁ packed₂ : ℕ}
+    {out₁ out₂ : List ℕ} (piece₁ : packed₁ ≡ packedShape (at + 1) (shaped m lowest)) (room₁ : out₁ ≡ laid out (at + 1) (shaped m lowest))
+    (piece₂ : packed₂ ≡ packedShape (packed₁ / 256) (shaped m highest)) (room₂ : out₂ ≡ laid out₁ (packed₁ / 256) (shaped m highest))
+    {packed : ℕ} {out₃ : List ℕ} (e : packed ≡ joinedPacked m at (packed₁ % 256) (packed₂ % 256) (packed₂ / 256))
+    (j : out₃ ≡ joinedOut m out₂ at (packed₁ % 256) (packed₁ / 256) (packed₂ % 256)) where
+  abbrev One : Bool → Type 0
+  One t = isOne m (packed₁ % 256) (packed₂ % 256) ≡ t
+
+  middle-at : packed₁ / 256 ≡ at + 1 + size (shaped m lowest)
+  middle-at = unpacked (at + 1) (shaped m lowest) piece₁ .0
+
+  end-at : packed₂ / 256 ≡ packed₁ / 256 + size (shaped m highest)
+  end-at = unpacked (packed₁ / 256) (shaped m highest) piece₂ .0
+
+  held₁ : packed₁ % 256 ≡ leafSymbol (shaped m lowest)
+  held₁ = unpacked (at + 1) (shaped m lowest) piece₁ .1
+
+  held₂ : packed₂ % 256 ≡ leafSymbol (shaped m highest)
+  held₂ = unpacked (packed₁ / 256) (shaped m highest) piece₂ .1
+
+  test-is : {t : Bool} → One t → isOne m (leafSymbol (shaped m lowest)) (leafSymbol (shaped m highest)) ≡ t
+  test-is o = rw (held₁, held₂) at o
+
+  pub joined : (packed ≡ packedShape at (shaped m whole)) × (out₃ ≡ laid out at (shaped m whole))
+  unfolding isOne leafSymbol size
+  joined = by (isOne m (packed₁ % 256) (packed₂ % 256)) refl
+    where
+      by : (t : Bool) → One t → (packed ≡ packedShape at (shaped m whole)) × (out₃ ≡ laid out at (shaped m whole))
+      by true o =
+          let w = shaped-one m lowest highest (test-is o) in
+          let s : shaped m whole ≡ leaf (w .0) = ap (shaped m) parts-are ∙ w .3 in
+          let p : packed ≡ (at + 1) * 256 + packed₁ % 256 = rw o at e in
+          let q : out₃ ≡ out₂ = rw o at j in (
+            p ∙ ap (λ (x : ℕ). (at + 1) * 256 + x) (held₁ ∙ ap leafSymbol (w .1)) ∙ sym (ap (packedShape at) s),
+            q ∙ room₂ ∙ leaf-laid out₁ (packed₁ / 256) (w .0) (w .2) ∙ room₁ ∙ leaf-laid out (at + 1) (w .0) (w .1) ∙ sym (leaf-laid out at (w .0) s),
+          )
+      by false o =
+          let a : Shape = shaped m lowest in
+          let c : Shape = shaped m highest in
+          let s : shaped m whole ≡ halved a c = ap (shaped m) parts-are ∙ shaped-apart m lowest highest (test-is o) in
+          let p : packed ≡ packed₂ / 256 * 256 = rw o at e in
+          let q : out₃ ≡ joinedHalves out₂ at (packed₁ % 256) (packed₁ / 256) (packed₂ % 256) = rw o at j in
+          let k : packedShape at (halved a c) ≡ packed₂ / 256 * 256 = omega (arith, end-at, middle-at) in (
+            p ∙ sym k ∙ sym (ap (packedShape at) s),
+            apart-laid out out₁ out₂ out₃ at (packed₁ / 256) (packed₁ % 256) (packed₂ % 256) a c room₁ room₂ middle-at held₁ held₂ q
+                ∙ sym (ap (laid out at) s),
+          )
+
 module _ {surfaces : Surfaces} {axes : ℕ} {table low side : List ℕ} {left : ℕ} {work : List ℤ} {from count : ℕ}
     {looked : List ℕ} {at : ℕ} (job : HalvesJob surfaces axes table low side left work from count looked at) where
   abbrev u : Universe
@@ -526,48 +575,14 @@ module _ {surfaces : Surfaces} {axes : ℕ} {table low side : List ℕ} {left : 
 
       module _ {packed : ℕ} {out₃ : List ℕ} (e : packed ≡ joinedPacked m at (packed₁ % 256) (packed₂ % 256) (packed₂ / 256))
           (j : out₃ ≡ joinedOut m out₂ at (packed₁ % 256) (packed₁ / 256) (packed₂ % 256)) where
-        abbrev One : Bool → Type 0
-        One t = isOne m (packed₁ % 256) (packed₂ % 256) ≡ t
-
-        held₁ : packed₁ % 256 ≡ leafSymbol (shaped m lowest)
-        held₁ = unpacked (at + 1) (shaped m lowest) piece₁ .1
-
-        held₂ : packed₂ % 256 ≡ leafSymbol (shaped m highest)
-        held₂ = unpacked (packed₁ / 256) (shaped m highest) piece₂ .1
-
-        test-is : {t : Bool} → One t → isOne m (leafSymbol (shaped m lowest)) (leafSymbol (shaped m highest)) ≡ t
-        test-is o = rw (held₁, held₂) at o
-
-        joined : (packed ≡ packedShape at (shaped m whole)) × (out₃ ≡ laid out at (shaped m whole))
-        unfolding isOne leafSymbol size
-        joined = by (isOne m (packed₁ % 256) (packed₂ % 256)) refl
-          where
-            by : (t : Bool) → One t → (packed ≡ packedShape at (shaped m whole)) × (out₃ ≡ laid out at (shaped m whole))
-            by true o =
-                let w = shaped-one m lowest highest (test-is o) in
-                let s : shaped m whole ≡ leaf (w .0) = ap (shaped m) parts-are ∙ w .3 in
-                let p : packed ≡ (at + 1) * 256 + packed₁ % 256 = rw o at e in
-                let q : out₃ ≡ out₂ = rw o at j in (
-                  p ∙ ap (λ (x : ℕ). (at + 1) * 256 + x) (held₁ ∙ ap leafSymbol (w .1)) ∙ sym (ap (packedShape at) s),
-                  q ∙ room₂ ∙ leaf-laid out₁ (packed₁ / 256) (w .0) (w .2) ∙ room₁ ∙ leaf-laid out (at + 1) (w .0) (w .1) ∙ sym (leaf-laid out at (w .0) s),
-                )
-            by false o =
-                let a : Shape = shaped m lowest in
-                let c : Shape = shaped m highest in
-                let s : shaped m whole ≡ halved a c = ap (shaped m) parts-are ∙ shaped-apart m lowest highest (test-is o) in
-                let p : packed ≡ packed₂ / 256 * 256 = rw o at e in
-                let q : out₃ ≡ joinedHalves out₂ at (packed₁ % 256) (packed₁ / 256) (packed₂ % 256) = rw o at j in
-                let k : packedShape at (halved a c) ≡ packed₂ / 256 * 256 = omega (arith, end-is, middle-is) in (
-                  p ∙ sym k ∙ sym (ap (packedShape at) s),
-                  apart-laid out out₁ out₂ out₃ at (packed₁ / 256) (packed₁ % 256) (packed₂ % 256) a c room₁ room₂ middle-is held₁ held₂ q
-                      ∙ sym (ap (laid out at) s),
-                )
+        both : (packed ≡ packedShape at (shaped m whole)) × (out₃ ≡ laid out at (shaped m whole))
+        both = joined m out at parts-are piece₁ room₁ piece₂ room₂ e j
 
         pub halves-done : HalvesLaid job m out packed out₃ looked₂ (set low₃ axis (getD low axis 0)) (set side₂ axis (getD side axis 0)) work₂
         halves-done =
             record {
-              piece = joined .0;
-              room = joined .1;
+              piece = both .0;
+              room = both .1;
               counted = counted₂ ∙ ap (λ (x : ℕ). x ∷ []) (omega (arith, ap (λ (l : List ℕ). getD l 0 0) counted₁, lowest-looked, highest-looked));
               lows = ap (λ (l : List ℕ). set l axis (getD low axis 0)) (laid₂ .lows) ∙ restored low axis (getD low axis 0 + half);
               sides = ap (λ (l : List ℕ). set l axis (getD side axis 0)) (laid₂ .sides) ∙ restored side axis half;

@@ -53,11 +53,11 @@ colours true c = refl
 colours false c = refl
 
 -- the mark, or the colour as a mark, of the surface itself
-abbrev ownMark : Bool → Surfaces → Block → Surface → Mark
+abbrev pub ownMark : Bool → Surfaces → Block → Surface → Mark
 ownMark false surfaces b s = surfaceMark surfaces s b
 ownMark true surfaces b s = decided (surfaceColour surfaces (b .universe) s (b .low))
 
-own-turned : (centre : Bool) (surfaces : Surfaces) (b : Block) (turned : Bool) (s : Surface) →
+pub own-turned : (centre : Bool) (surfaces : Surfaces) (b : Block) (turned : Bool) (s : Surface) →
     turnedCode turned (bitsOf (ownMark centre surfaces b s)) ≡ bitsOf (judgedMarks centre surfaces b turned s)
 unfolding sideMark sideColour
 own-turned false surfaces b turned s = turned-bits turned (surfaceMark surfaces s b)
@@ -130,7 +130,7 @@ module _ {surfaces : Surfaces} {axes : ℕ} {low side : List ℕ} {axis half : �
       by true = refl
       by false = refl
 
-  row-own : (c : Bool) → (c ≡ true → step .left ≡ 0) → (i : ℕ) → let h = rowAt (surfaces .rows) i in
+  pub row-own : (c : Bool) → (c ≡ true → step .left ≡ 0) → (i : ℕ) → let h = rowAt (surfaces .rows) i in
       valueCode c (least h b) (greatest h b) ≡ bitsOf (ownMark c surfaces b (halfspace i))
   unfolding surfaceMark surfaceColour
   row-own false l i = tested-mark (rowAt (surfaces .rows) i) b

@@ -10,6 +10,9 @@ pub mod Stacks
 pub mod Pruning
 pub mod Steps
 pub mod Laying
+pub mod Amounts
+pub mod Alone
+pub mod Handed
 pub mod Wholes
 pub mod Loadings
 pub mod Turning

@@ -15,7 +15,8 @@ use Rattle.universe.specs.Universe.{coefficientLimit, longestSide}
 use Rattle.csg.proofs.Extremes.{above-is, below-is}
 use Rattle.convert.specs.Codes.{testedCode}
 use Rattle.convert.specs.Small.{SmallCoefficient, SmallPlace}
-use Rattle.pruned.specs.Nodes.{rises, falls, movedLeast, movedGreatest, extremeLimit, SmallExtreme, valueCode}
+use Rattle.pruned.specs.Nodes.{rises, falls, movedLeast, movedGreatest, extremeLimit, SmallExtreme, amountLimit, SmallAmount, MovedBy}
+use Rattle.pruned.specs.Nodes.{valueCode}
 
 -- what the machine reads of a number that it holds
 abbrev pub held : ℤ → ℤ
@@ -59,70 +60,88 @@ plus-nothing x = is-eq (is-add (is-self x) (is-nat 0)) (is-self x) (omega arith)
 pub less-nothing : (x : ℤ) → x -ℤ pos 0 ≡ x
 less-nothing x = is-eq (is-sub (is-self x) (is-nat 0)) (is-self x) (omega arith)
 
--- ---- as the machine computes it
-module _ {a : ℤ} {half : ℕ} {x y : ℤ} (sa : SmallCoefficient a) (sh : SmallPlace half) (sx : SmallExtreme x) (sy : SmallExtreme y) where
-  amount-near : Near (held a *ℤ toZ w64 half) (a *ℤ pos half) (coefficientLimit * longestSide)
+-- ---- as the machine computes it: the amount, and the values moved by it
+module _ {a : ℤ} {half : ℕ} (sa : SmallCoefficient a) (sh : SmallPlace half) where
+  amount-near : Near (held a *ℤ toZ w64 half) (a *ℤ pos half) amountLimit
   amount-near = near-mul {x = a} {y = pos half} (near (record { most = sa .most }) tt) (near-cast half longestSide (sh .most) tt)
 
   pub amount-fits : SFits w64 (held a *ℤ toZ w64 half)
   amount-fits = near-fits {x = a *ℤ pos half} amount-near tt
 
-  amount-held : Near (held (held a *ℤ toZ w64 half)) (a *ℤ pos half) (coefficientLimit * longestSide)
-  amount-held = near-back {x = a *ℤ pos half} amount-near tt
+  pub amount-held : held (held a *ℤ toZ w64 half) ≡ a *ℤ pos half
+  amount-held = near-back {x = a *ℤ pos half} amount-near tt .same
 
-  abbrev amount : ℤ
-  amount = held (held a *ℤ toZ w64 half)
+  pub amount-small : SmallAmount (a *ℤ pos half)
+  amount-small = record { most = amount-near .size }
 
-  sum-near : (z : ℤ) → SmallExtreme z → Near (held z +ℤ amount) (z +ℤ a *ℤ pos half) (extremeLimit + coefficientLimit * longestSide)
-  sum-near z s = near-add {x = z} {y = a *ℤ pos half} (extreme-near s) amount-held
+  module _ {x y : ℤ} (sx : SmallExtreme x) (sy : SmallExtreme y) where
+    pub amount-asks : SmallAmount (held (held a *ℤ toZ w64 half)) × (SmallExtreme (held x) × SmallExtreme (held y))
+    amount-asks = rw (amount-held, extreme-near sx .same, extreme-near sy .same) (amount-small, (sx, sy))
 
-  less-near : (z : ℤ) → SmallExtreme z → Near (held z -ℤ amount) (z -ℤ a *ℤ pos half) (extremeLimit + coefficientLimit * longestSide)
-  less-near z s = near-sub {x = z} {y = a *ℤ pos half} (extreme-near s) amount-held
+    pub moved-is : {high : Bool} {v w : ℤ} → MovedBy (held (held a *ℤ toZ w64 half)) high (held x) (held y) v w →
+        (v ≡ movedLeast high a half x) × (w ≡ movedGreatest high a half y)
+    moved-is {high = high} e =
+        let o = e .over a half amount-held in
+        (o .0 ∙ ap (movedLeast high a half) (extreme-near sx .same), o .1 ∙ ap (movedGreatest high a half) (extreme-near sy .same))
 
-  pub sum-fits : SFits w64 (held x +ℤ amount) × SFits w64 (held y +ℤ amount)
-  sum-fits = (near-fits {x = x +ℤ a *ℤ pos half} (sum-near x sx) tt, near-fits {x = y +ℤ a *ℤ pos half} (sum-near y sy) tt)
+module _ {m x y : ℤ} (sm : SmallAmount m) (sx : SmallExtreme x) (sy : SmallExtreme y) where
+  by-near : Near (held m) m amountLimit
+  by-near = near (record { most = sm .most }) tt
 
-  pub less-fits : SFits w64 (held x -ℤ amount) × SFits w64 (held y -ℤ amount)
-  less-fits = (near-fits {x = x -ℤ a *ℤ pos half} (less-near x sx) tt, near-fits {x = y -ℤ a *ℤ pos half} (less-near y sy) tt)
+  sum-near : (z : ℤ) → SmallExtreme z → Near (held z +ℤ held m) (z +ℤ m) (extremeLimit + amountLimit)
+  sum-near z s = near-add {x = z} {y = m} (extreme-near s) by-near
 
-  test-is : {t : Bool} → leZ (pos 0) amount ≡ t → leZ (pos 0) (a *ℤ pos half) ≡ t
-  test-is e = rw (amount-held .same) at e
+  less-near : (z : ℤ) → SmallExtreme z → Near (held z -ℤ held m) (z -ℤ m) (extremeLimit + amountLimit)
+  less-near z s = near-sub {x = z} {y = m} (extreme-near s) by-near
 
-  pub high-rises : {high : Bool} → high ≡ true → leZ (pos 0) amount ≡ true →
-      (held (held x +ℤ amount) ≡ movedLeast high a half x) × (held y ≡ movedGreatest high a half y)
+  pub sum-fits : SFits w64 (held x +ℤ held m) × SFits w64 (held y +ℤ held m)
+  sum-fits = (near-fits {x = x +ℤ m} (sum-near x sx) tt, near-fits {x = y +ℤ m} (sum-near y sy) tt)
+
+  pub less-fits : SFits w64 (held x -ℤ held m) × SFits w64 (held y -ℤ held m)
+  less-fits = (near-fits {x = x -ℤ m} (less-near x sx) tt, near-fits {x = y -ℤ m} (less-near y sy) tt)
+
+  test-is : {t : Bool} (a : ℤ) (half : ℕ) → m ≡ a *ℤ pos half → leZ (pos 0) (held m) ≡ t → leZ (pos 0) (a *ℤ pos half) ≡ t
+  test-is a half e f = rw (by-near .same ∙ e) at f
+
+  pub high-rises : {high : Bool} → high ≡ true → leZ (pos 0) (held m) ≡ true → MovedBy m high x y (held (held x +ℤ held m)) (held y)
   high-rises h t =
-      let w = rises-all a half (test-is t) in
-      rw h (
-        near-back {x = x +ℤ a *ℤ pos half} (sum-near x sx) tt .same ∙ ap (λ (z : ℤ). x +ℤ z) (sym (w .0)),
-        extreme-near sy .same ∙ sym (plus-nothing y) ∙ ap (λ (z : ℤ). y +ℤ z) (sym (w .1)),
-      )
+      record {
+        over = λ a half e. let w = rises-all a half (test-is a half e t) in
+            rw h (
+              near-back {x = x +ℤ m} (sum-near x sx) tt .same ∙ ap (λ (z : ℤ). x +ℤ z) (e ∙ sym (w .0)),
+              extreme-near sy .same ∙ sym (plus-nothing y) ∙ ap (λ (z : ℤ). y +ℤ z) (sym (w .1)),
+            );
+      }
 
-  pub high-falls : {high : Bool} → high ≡ true → leZ (pos 0) amount ≡ false →
-      (held x ≡ movedLeast high a half x) × (held (held y +ℤ amount) ≡ movedGreatest high a half y)
+  pub high-falls : {high : Bool} → high ≡ true → leZ (pos 0) (held m) ≡ false → MovedBy m high x y (held x) (held (held y +ℤ held m))
   high-falls h t =
-      let w = falls-all a half (test-is t) in
-      rw h (
-        extreme-near sx .same ∙ sym (plus-nothing x) ∙ ap (λ (z : ℤ). x +ℤ z) (sym (w .0)),
-        near-back {x = y +ℤ a *ℤ pos half} (sum-near y sy) tt .same ∙ ap (λ (z : ℤ). y +ℤ z) (sym (w .1)),
-      )
+      record {
+        over = λ a half e. let w = falls-all a half (test-is a half e t) in
+            rw h (
+              extreme-near sx .same ∙ sym (plus-nothing x) ∙ ap (λ (z : ℤ). x +ℤ z) (sym (w .0)),
+              near-back {x = y +ℤ m} (sum-near y sy) tt .same ∙ ap (λ (z : ℤ). y +ℤ z) (e ∙ sym (w .1)),
+            );
+      }
 
-  pub low-rises : {high : Bool} → high ≡ false → leZ (pos 0) amount ≡ true →
-      (held x ≡ movedLeast high a half x) × (held (held y -ℤ amount) ≡ movedGreatest high a half y)
+  pub low-rises : {high : Bool} → high ≡ false → leZ (pos 0) (held m) ≡ true → MovedBy m high x y (held x) (held (held y -ℤ held m))
   low-rises h t =
-      let w = rises-all a half (test-is t) in
-      rw h (
-        extreme-near sx .same ∙ sym (less-nothing x) ∙ ap (λ (z : ℤ). x -ℤ z) (sym (w .1)),
-        near-back {x = y -ℤ a *ℤ pos half} (less-near y sy) tt .same ∙ ap (λ (z : ℤ). y -ℤ z) (sym (w .0)),
-      )
+      record {
+        over = λ a half e. let w = rises-all a half (test-is a half e t) in
+            rw h (
+              extreme-near sx .same ∙ sym (less-nothing x) ∙ ap (λ (z : ℤ). x -ℤ z) (sym (w .1)),
+              near-back {x = y -ℤ m} (less-near y sy) tt .same ∙ ap (λ (z : ℤ). y -ℤ z) (e ∙ sym (w .0)),
+            );
+      }
 
-  pub low-falls : {high : Bool} → high ≡ false → leZ (pos 0) amount ≡ false →
-      (held (held x -ℤ amount) ≡ movedLeast high a half x) × (held y ≡ movedGreatest high a half y)
+  pub low-falls : {high : Bool} → high ≡ false → leZ (pos 0) (held m) ≡ false → MovedBy m high x y (held (held x -ℤ held m)) (held y)
   low-falls h t =
-      let w = falls-all a half (test-is t) in
-      rw h (
-        near-back {x = x -ℤ a *ℤ pos half} (less-near x sx) tt .same ∙ ap (λ (z : ℤ). x -ℤ z) (sym (w .1)),
-        extreme-near sy .same ∙ sym (less-nothing y) ∙ ap (λ (z : ℤ). y -ℤ z) (sym (w .0)),
-      )
+      record {
+        over = λ a half e. let w = falls-all a half (test-is a half e t) in
+            rw h (
+              near-back {x = x -ℤ m} (less-near x sx) tt .same ∙ ap (λ (z : ℤ). x -ℤ z) (e ∙ sym (w .1)),
+              extreme-near sy .same ∙ sym (less-nothing y) ∙ ap (λ (z : ℤ). y -ℤ z) (sym (w .0)),
+            );
+      }
 
 -- ---- the code by the two values
 module _ {x y : ℤ} (sx : SmallExtreme x) (sy : SmallExtreme y) where

@@ -5,5 +5,6 @@ pub mod Looked
 pub mod Nodes
 pub mod Laying
 pub mod Loading
+pub mod Alone
 pub mod Answers
 pub mod Whole

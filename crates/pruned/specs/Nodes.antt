@@ -162,6 +162,17 @@ extremeLimit = offsetLimit + mostAxes * (coefficientLimit * longestSide)
 pub record SmallExtreme (x : ℤ) : Type 0 where
   pub most : natAbs x ≤ extremeLimit
 
+-- what the values move by: a coefficient times half a length; and what they come to over a half, moved by that
+abbrev pub amountLimit : ℕ
+amountLimit = coefficientLimit * longestSide
+
+pub record SmallAmount (x : ℤ) : Type 0 where
+  pub most : natAbs x ≤ amountLimit
+
+pub record MovedBy (amount : ℤ) (high : Bool) (least greatest x y : ℤ) : Type 0 where
+  pub over : (a : ℤ) (half : ℕ) → amount ≡ a *ℤ pos half →
+      (x ≡ movedLeast high a half least) × (y ≡ movedGreatest high a half greatest)
+
 -- a step from the block whose values are held to a block that is judged: one of its halves along an axis, half a length
 -- `half` further where `high`; with a half length of 0 the block itself
 pub record Stepping (surfaces : Surfaces) (axes : ℕ) (low side : List ℕ) (axis half : ℕ)

@@ -1,4 +1,6 @@
 // The recursion over blocks, which lays the raw or the merged expression of what is carried.
+use crate::lone::is_lone;
+use crate::lone::lay_lone;
 use crate::marks::BLACK_BIT;
 use crate::prune::MOST_SHAPES;
 use crate::prune::prune;
@@ -31,7 +33,7 @@ fn is_one(merging: bool, below: u8, above: u8) -> bool
 }
 
 // Joins two halves that are laid behind the place of their `(`, and packs what they come to.
-fn join(
+pub(crate) fn join(
     merging: bool,
     out: &mut [u8],
     at: usize,
@@ -113,6 +115,20 @@ fn lay_block(
     looked[0] += count as u64;
     if mark != 0 {
         return (at + 1) * HELD_UNIT + symbol_of(mark) as usize;
+    }
+    if is_lone(work, behind, nodes) {
+        return lay_lone(
+            rows,
+            table,
+            side,
+            left,
+            merging,
+            work,
+            behind,
+            looked,
+            out,
+            at,
+        );
     }
     lay_halves(
         axes,

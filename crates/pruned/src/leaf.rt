@@ -15,6 +15,8 @@ ghost use Rattle.csg.specs.Surfaces.{surfacesOf};
 ghost use Rattle.convert.specs.Small.{SmallCoefficient, SmallPlace};
 ghost use Rattle.pruned.specs.Nodes.{
   SmallExtreme,
+  SmallAmount,
+  MovedBy,
   movedLeast,
   movedGreatest,
   valueCode,
@@ -28,16 +30,14 @@ pub(crate) struct Extremes {
     pub greatest: i64,
 }
 
-// What the values come to over a half: the coefficient's share of half the length moves one of them.
-fn moved(coefficient: i64, half: u64, high: bool, least: i64, greatest: i64) -> Extremes
-    requires { ⌜ SmallCoefficient coefficient ⌝ }
-    requires { ⌜ SmallPlace half ⌝ }
+// What the values come to over a half, which moves one of them by this amount: that of the coefficient and half the
+// length.
+pub(crate) fn moved_by(amount: i64, high: bool, least: i64, greatest: i64) -> Extremes
+    requires { ⌜ SmallAmount amount ⌝ }
     requires { ⌜ SmallExtreme least ⌝ }
     requires { ⌜ SmallExtreme greatest ⌝ }
-    ensures { λ r. ⌜ r .least ≡ movedLeast high coefficient half least ⌝ }
-    ensures { λ r. ⌜ r .greatest ≡ movedGreatest high coefficient half greatest ⌝ }
+    ensures { λ r. ⌜ MovedBy amount high least greatest (r .least) (r .greatest) ⌝ }
 {
-    let amount = coefficient * (half as i64);
     if high {
         if 0 <= amount {
             return Extremes {
@@ -62,8 +62,20 @@ fn moved(coefficient: i64, half: u64, high: bool, least: i64, greatest: i64) -> 
     }
 }
 
+// The same by the coefficient and half the length.
+fn moved(coefficient: i64, half: u64, high: bool, least: i64, greatest: i64) -> Extremes
+    requires { ⌜ SmallCoefficient coefficient ⌝ }
+    requires { ⌜ SmallPlace half ⌝ }
+    requires { ⌜ SmallExtreme least ⌝ }
+    requires { ⌜ SmallExtreme greatest ⌝ }
+    ensures { λ r. ⌜ r .least ≡ movedLeast high coefficient half least ⌝ }
+    ensures { λ r. ⌜ r .greatest ≡ movedGreatest high coefficient half greatest ⌝ }
+{
+    moved_by(coefficient * (half as i64), high, least, greatest)
+}
+
 // The code of a halfspace with these values, over a block or at the centre of the voxel that it is.
-fn extremes_code(centre: bool, least: i64, greatest: i64) -> u8
+pub(crate) fn extremes_code(centre: bool, least: i64, greatest: i64) -> u8
     requires { ⌜ SmallExtreme least ⌝ }
     requires { ⌜ SmallExtreme greatest ⌝ }
     ensures { λ r. ⌜ r ≡ valueCode centre least greatest ⌝ }
@@ -82,12 +94,12 @@ pub(crate) struct Judged {
 }
 
 // The codes of nodes from which on they are sides of halfspaces, and of balls.
-const FIRST_SIDE: u64 = 2 * csg::FIRST_HALFSPACE as u64;
+pub(crate) const FIRST_SIDE: u64 = 2 * csg::FIRST_HALFSPACE as u64;
 
-const FIRST_BALL_SIDE: u64 = 2 * csg::FIRST_BALL as u64;
+pub(crate) const FIRST_BALL_SIDE: u64 = 2 * csg::FIRST_BALL as u64;
 
 // The code of a node that is reversed is odd.
-fn is_turned(code: u64) -> bool
+pub(crate) fn is_turned(code: u64) -> bool
     ensures { λ r. ⌜ r ≡ eqb (code % 2) 1 ⌝ }
 {
     code % 2 == 1

@@ -6,6 +6,7 @@ mod conversion;
 mod lay;
 mod leaf;
 mod load;
+mod lone;
 mod marks;
 mod prune;
 mod whole;

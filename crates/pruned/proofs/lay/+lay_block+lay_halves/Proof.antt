@@ -7,6 +7,7 @@ use borrow.Author.Needs.{needs}
 use mathlib.Core.Path.{_∙_}
 use Rattle.pruned.proofs.Laying.{block-pruning, tally-fits, at-fits, symbol-few, block-closed, block-halves, block-done}
 use Rattle.pruned.proofs.Laying.{axis-within, place-in, near-fits, lower-job, upper-job, join-asks, halves-done}
+use Rattle.pruned.proofs.Handed.{lone-code, lone-job, lone-back}
 use Prim.Native.Nat.{ℕ, _<_}
 use borrow.Fn.Kinds.{In}
 use borrow.Fn.PlainCycle.{Measures, is, falls, and}
@@ -18,6 +19,8 @@ use Rattle.pruned.proofs.lay.lay_halves.Kinds as lay-halves-kinds
 use Rattle.pruned.proofs.lay.+lay_block+lay_halves.Lts-lay_halves as lay-halves-lts
 use Rattle.pruned.proofs.lay.join.Reads as join-reads
 use Rattle.pruned.proofs.lay.symbol_of.Reads as symbol-of-reads
+use Rattle.pruned.proofs.lone.is_lone.Reads as is-lone-reads
+use Rattle.pruned.proofs.lone.lay_lone.Reads as lay-lone-reads
 use Rattle.pruned.proofs.prune.prune.Reads as prune-reads
 use Rattle.pruned.proofs.lay.+lay_block+lay_halves.{statement}
 use Rattle.pruned.proofs.lay.+lay_block+lay_halves.Tie.{close}
@@ -48,6 +51,10 @@ lay-block-add-behind : (t : ℕ) → lay-block-lts.Need-add-behind (
   prune-reads.Learnt,
   symbol-of-reads.Asked,
   symbol-of-reads.Learnt,
+  is-lone-reads.Asked,
+  is-lone-reads.Learnt,
+  lay-lone-reads.Asked,
+  lay-lone-reads.Learnt,
   lay-halves-below t,
   lay-halves.Post,
 ) (lay-block-at t) lay-block.Post
@@ -58,6 +65,10 @@ lay-block-prune-requires : (t : ℕ) → lay-block-lts.Need-prune-requires (
   prune-reads.Learnt,
   symbol-of-reads.Asked,
   symbol-of-reads.Learnt,
+  is-lone-reads.Asked,
+  is-lone-reads.Learnt,
+  lay-lone-reads.Asked,
+  lay-lone-reads.Learnt,
   lay-halves-below t,
   lay-halves.Post,
 ) (lay-block-at t) lay-block.Post
@@ -68,6 +79,10 @@ lay-block-element-copy-out-looked : (t : ℕ) → lay-block-lts.Need-element-cop
   prune-reads.Learnt,
   symbol-of-reads.Asked,
   symbol-of-reads.Learnt,
+  is-lone-reads.Asked,
+  is-lone-reads.Learnt,
+  lay-lone-reads.Asked,
+  lay-lone-reads.Learnt,
   lay-halves-below t,
   lay-halves.Post,
 ) (lay-block-at t) lay-block.Post
@@ -78,6 +93,10 @@ lay-block-add-looked : (t : ℕ) → lay-block-lts.Need-add-looked (
   prune-reads.Learnt,
   symbol-of-reads.Asked,
   symbol-of-reads.Learnt,
+  is-lone-reads.Asked,
+  is-lone-reads.Learnt,
+  lay-lone-reads.Asked,
+  lay-lone-reads.Learnt,
   lay-halves-below t,
   lay-halves.Post,
 ) (lay-block-at t) lay-block.Post
@@ -89,6 +108,10 @@ lay-block-element-write-looked : (t : ℕ) → lay-block-lts.Need-element-write-
   prune-reads.Learnt,
   symbol-of-reads.Asked,
   symbol-of-reads.Learnt,
+  is-lone-reads.Asked,
+  is-lone-reads.Learnt,
+  lay-lone-reads.Asked,
+  lay-lone-reads.Learnt,
   lay-halves-below t,
   lay-halves.Post,
 ) (lay-block-at t) lay-block.Post
@@ -99,6 +122,10 @@ lay-block-add-result : (t : ℕ) → lay-block-lts.Need-add-result (
   prune-reads.Learnt,
   symbol-of-reads.Asked,
   symbol-of-reads.Learnt,
+  is-lone-reads.Asked,
+  is-lone-reads.Learnt,
+  lay-lone-reads.Asked,
+  lay-lone-reads.Learnt,
   lay-halves-below t,
   lay-halves.Post,
 ) (lay-block-at t) lay-block.Post
@@ -110,6 +137,10 @@ lay-block-mul-result : (t : ℕ) → lay-block-lts.Need-mul-result (
   prune-reads.Learnt,
   symbol-of-reads.Asked,
   symbol-of-reads.Learnt,
+  is-lone-reads.Asked,
+  is-lone-reads.Learnt,
+  lay-lone-reads.Asked,
+  lay-lone-reads.Learnt,
   lay-halves-below t,
   lay-halves.Post,
 ) (lay-block-at t) lay-block.Post
@@ -121,6 +152,10 @@ lay-block-symbol-of-requires : (t : ℕ) → lay-block-lts.Need-symbol-of-requir
   prune-reads.Learnt,
   symbol-of-reads.Asked,
   symbol-of-reads.Learnt,
+  is-lone-reads.Asked,
+  is-lone-reads.Learnt,
+  lay-lone-reads.Asked,
+  lay-lone-reads.Learnt,
   lay-halves-below t,
   lay-halves.Post,
 ) (lay-block-at t) lay-block.Post
@@ -131,6 +166,10 @@ lay-block-cast-result : (t : ℕ) → lay-block-lts.Need-cast-result (
   prune-reads.Learnt,
   symbol-of-reads.Asked,
   symbol-of-reads.Learnt,
+  is-lone-reads.Asked,
+  is-lone-reads.Learnt,
+  lay-lone-reads.Asked,
+  lay-lone-reads.Learnt,
   lay-halves-below t,
   lay-halves.Post,
 ) (lay-block-at t) lay-block.Post
@@ -141,6 +180,10 @@ lay-block-add-result-2 : (t : ℕ) → lay-block-lts.Need-add-result-2 (
   prune-reads.Learnt,
   symbol-of-reads.Asked,
   symbol-of-reads.Learnt,
+  is-lone-reads.Asked,
+  is-lone-reads.Learnt,
+  lay-lone-reads.Asked,
+  lay-lone-reads.Learnt,
   lay-halves-below t,
   lay-halves.Post,
 ) (lay-block-at t) lay-block.Post
@@ -152,6 +195,10 @@ lay-block-same-length : (t : ℕ) → lay-block-lts.Need-same-length (
   prune-reads.Learnt,
   symbol-of-reads.Asked,
   symbol-of-reads.Learnt,
+  is-lone-reads.Asked,
+  is-lone-reads.Learnt,
+  lay-lone-reads.Asked,
+  lay-lone-reads.Learnt,
   lay-halves-below t,
   lay-halves.Post,
 ) (lay-block-at t) lay-block.Post
@@ -163,6 +210,10 @@ lay-block-returns : (t : ℕ) → lay-block-lts.Need-returns (
   prune-reads.Learnt,
   symbol-of-reads.Asked,
   symbol-of-reads.Learnt,
+  is-lone-reads.Asked,
+  is-lone-reads.Learnt,
+  lay-lone-reads.Asked,
+  lay-lone-reads.Learnt,
   lay-halves-below t,
   lay-halves.Post,
 ) (lay-block-at t) lay-block.Post
@@ -172,63 +223,162 @@ lay-block-returns t c = let q = c .before .before .before .before in (
   q .prune .ensures .1,
 )
 
-lay-block-lay-halves-requires : (t : ℕ) → lay-block-lts.Need-lay-halves-requires (
+lay-block-is-lone-requires : (t : ℕ) → lay-block-lts.Need-is-lone-requires (
   prune-reads.Asked,
   prune-reads.Learnt,
   symbol-of-reads.Asked,
   symbol-of-reads.Learnt,
+  is-lone-reads.Asked,
+  is-lone-reads.Learnt,
+  lay-lone-reads.Asked,
+  lay-lone-reads.Learnt,
   lay-halves-below t,
   lay-halves.Post,
 ) (lay-block-at t) lay-block.Post
-lay-block-lay-halves-requires t c κs = let k = c .before .before .before .before .before .before .before .before .before .before .before .before .before
-    .before .before .before .before in let j = k .pre .1 .0 in
-    let q = c .before .before .before .before .before .before .before .before .before .before in (
-      omega (arith, k .pre .0),
-      (
-        block-halves j
-            (q .prune .ensures .0 (block-pruning j)) (c .before .before .before .before .before .before .before .if1 .left),
-        q .prune .ensures .1,
-      ),
-    )
+lay-block-is-lone-requires t c κs = let j = c .before .before .before .before .before .before .before .before .before .before .before .pre .1 .0 in λ e.
+    lone-code (block-halves j (c .before .before .before .before .prune .ensures .0 (block-pruning j)) (c .before .if1 .left)) e
+
+lay-block-lay-lone-requires : (t : ℕ) → lay-block-lts.Need-lay-lone-requires (
+  prune-reads.Asked,
+  prune-reads.Learnt,
+  symbol-of-reads.Asked,
+  symbol-of-reads.Learnt,
+  is-lone-reads.Asked,
+  is-lone-reads.Learnt,
+  lay-lone-reads.Asked,
+  lay-lone-reads.Learnt,
+  lay-halves-below t,
+  lay-halves.Post,
+) (lay-block-at t) lay-block.Post
+lay-block-lay-lone-requires t c κs = let j = c .before .before .before .before .before .before .before .before .before .before .before .before .before .before
+    .before .before .before .pre .1 .0 in let w = c .before .before .before .before .before .is-lone .ensures (c .before .before .before .before .if2 .taken) in
+    lone-job (block-halves j (c .before .before .before .before .before .before .before .before .before .before .prune .ensures .0 (block-pruning j)) (c
+    .before .before .before .before .before .before .before .if1 .left)) (w .0) (w .1)
 
 lay-block-same-length-2 : (t : ℕ) → lay-block-lts.Need-same-length-2 (
   prune-reads.Asked,
   prune-reads.Learnt,
   symbol-of-reads.Asked,
   symbol-of-reads.Learnt,
+  is-lone-reads.Asked,
+  is-lone-reads.Learnt,
+  lay-lone-reads.Asked,
+  lay-lone-reads.Learnt,
   lay-halves-below t,
   lay-halves.Post,
 ) (lay-block-at t) lay-block.Post
-lay-block-same-length-2 t c = c .before .before .before .lay-halves .kept .1 .1 .1 .1 .1 .1 .1 .1 .0
-    ∙ c .before .before .before .before .before .before .before .before .before .before .before .before .before .before .prune .kept .1 .1 .1 .1 .1 .1 .1 .1 .1
-    .0
+lay-block-same-length-2 t c = c .before .before .before .before .before .before .before .before .before .before .before .before .before .prune .kept .1 .1 .1
+    .1 .1 .1 .1 .1 .1 .0
 
 lay-block-same-length-3 : (t : ℕ) → lay-block-lts.Need-same-length-3 (
   prune-reads.Asked,
   prune-reads.Learnt,
   symbol-of-reads.Asked,
   symbol-of-reads.Learnt,
+  is-lone-reads.Asked,
+  is-lone-reads.Learnt,
+  lay-lone-reads.Asked,
+  lay-lone-reads.Learnt,
   lay-halves-below t,
   lay-halves.Post,
 ) (lay-block-at t) lay-block.Post
-lay-block-same-length-3 t c = c .before .before .before .lay-halves .kept .1 .1 .1 .1 .1 .1 .1 .1 .1 .1 .1 .1 .1 .1 .0
+lay-block-same-length-3 t c = c .before .before .lay-lone .kept .1 .1 .1 .1 .1 .1 .1 .1 .0
 
 lay-block-returns-2 : (t : ℕ) → lay-block-lts.Need-returns-2 (
   prune-reads.Asked,
   prune-reads.Learnt,
   symbol-of-reads.Asked,
   symbol-of-reads.Learnt,
+  is-lone-reads.Asked,
+  is-lone-reads.Learnt,
+  lay-lone-reads.Asked,
+  lay-lone-reads.Learnt,
   lay-halves-below t,
   lay-halves.Post,
 ) (lay-block-at t) lay-block.Post
-lay-block-returns-2 t c = let q = c .before .before .before .before .before .before .before .before .before .before .before .before .before .before in
-    let l = c .before .before .before .lay-halves in (
-      λ job. block-done job (q .prune .ensures .0 (block-pruning job))
-          (c .before .before .before .before .before .before .before .before .before .before .before .if1 .left) _ _ (l .ensures .0 (block-halves job
-          (q .prune .ensures .0 (block-pruning job))
-          (c .before .before .before .before .before .before .before .before .before .before .before .if1 .left))),
-      l .ensures .1,
+lay-block-returns-2 t c = let w = c .before .before .before .before .before .before .before .before .is-lone .ensures (c .before .before .before .before
+    .before .before .before .if2 .taken) in let l = c .before .before .lay-lone .ensures in (
+      λ job. block-done job (c .before .before .before .before .before .before .before .before .before .before .before .before .before .prune .ensures .0
+          (block-pruning job)) (c .before .before .before .before .before .before .before .before .before .before .if1 .left) _ _
+          (lone-back (block-halves job (c .before .before .before .before .before .before .before .before .before .before .before .before .before .prune .ensures
+          .0 (block-pruning job)) (c .before .before .before .before .before .before .before .before .before .before .if1 .left)) (w .0) (w .1) _ _
+          (l (lone-job (block-halves job (c .before .before .before .before .before .before .before .before .before .before .before .before .before .prune
+          .ensures .0 (block-pruning job)) (c .before .before .before .before .before .before .before .before .before .before .if1 .left)) (w .0) (w .1)))),
+      c .before .before .before .before .before .before .before .before .before .before .before .before .before .prune .ensures .1,
     )
+
+lay-block-lay-halves-requires : (t : ℕ) → lay-block-lts.Need-lay-halves-requires (
+  prune-reads.Asked,
+  prune-reads.Learnt,
+  symbol-of-reads.Asked,
+  symbol-of-reads.Learnt,
+  is-lone-reads.Asked,
+  is-lone-reads.Learnt,
+  lay-lone-reads.Asked,
+  lay-lone-reads.Learnt,
+  lay-halves-below t,
+  lay-halves.Post,
+) (lay-block-at t) lay-block.Post
+lay-block-lay-halves-requires t c κs = let k = c .before .before .before .before .before .before .before .before .before .before .before .before .before
+    .before .before .before .before .before .before .before in let j = k .pre .1 .0 in (
+      omega (arith, k .pre .0),
+      (
+        block-halves j (c .before .before .before .before .before .before .before .before .before .before .before .before .before
+            .prune .ensures .0 (block-pruning j)) (c .before .before .before .before .before .before .before .before .before .before .if1 .left),
+        c .before
+            .before .before .before .before .before .before .before .before .before .before .before .before .prune .ensures .1,
+      ),
+    )
+
+lay-block-same-length-4 : (t : ℕ) → lay-block-lts.Need-same-length-4 (
+  prune-reads.Asked,
+  prune-reads.Learnt,
+  symbol-of-reads.Asked,
+  symbol-of-reads.Learnt,
+  is-lone-reads.Asked,
+  is-lone-reads.Learnt,
+  lay-lone-reads.Asked,
+  lay-lone-reads.Learnt,
+  lay-halves-below t,
+  lay-halves.Post,
+) (lay-block-at t) lay-block.Post
+lay-block-same-length-4 t c = c .before .before .before .lay-halves .kept .1 .1 .1 .1 .1 .1 .1 .1 .0 ∙ c .before .before .before .before .before .before
+    .before .before .before .before .before .before .before .before .before .before .before .prune .kept .1 .1 .1 .1 .1 .1 .1 .1 .1 .0
+
+lay-block-same-length-5 : (t : ℕ) → lay-block-lts.Need-same-length-5 (
+  prune-reads.Asked,
+  prune-reads.Learnt,
+  symbol-of-reads.Asked,
+  symbol-of-reads.Learnt,
+  is-lone-reads.Asked,
+  is-lone-reads.Learnt,
+  lay-lone-reads.Asked,
+  lay-lone-reads.Learnt,
+  lay-halves-below t,
+  lay-halves.Post,
+) (lay-block-at t) lay-block.Post
+lay-block-same-length-5 t c = c .before .before .before .lay-halves .kept .1 .1 .1 .1 .1 .1 .1 .1 .1 .1 .1 .1 .1 .1 .0
+
+lay-block-returns-3 : (t : ℕ) → lay-block-lts.Need-returns-3 (
+  prune-reads.Asked,
+  prune-reads.Learnt,
+  symbol-of-reads.Asked,
+  symbol-of-reads.Learnt,
+  is-lone-reads.Asked,
+  is-lone-reads.Learnt,
+  lay-lone-reads.Asked,
+  lay-lone-reads.Learnt,
+  lay-halves-below t,
+  lay-halves.Post,
+) (lay-block-at t) lay-block.Post
+lay-block-returns-3 t c = let l = c .before .before .before .lay-halves .ensures in (
+  λ job. block-done job (c .before .before .before .before .before .before .before .before .before .before .before .before .before .before .before .before
+      .before .prune .ensures .0 (block-pruning job)) (c .before .before .before .before .before .before .before .before .before .before .before .before
+      .before .before .if1 .left) _ _ (l .0 (block-halves job (c .before .before .before .before .before .before .before .before .before .before .before
+      .before .before .before .before .before .before .prune .ensures .0 (block-pruning job)) (c .before .before .before .before .before .before .before
+      .before .before .before .before .before .before .before .if1 .left))),
+  l .1,
+)
 
 lay-halves-sub-axis : (t : ℕ) → lay-halves-lts.Need-sub-axis (
   lay-block-below t,
@@ -477,6 +627,10 @@ pub +lay-block+lay-halves-spec : {M : Type 1} → statement M
   prune-reads.Learnt,
   symbol-of-reads.Asked,
   symbol-of-reads.Learnt,
+  is-lone-reads.Asked,
+  is-lone-reads.Learnt,
+  lay-lone-reads.Asked,
+  lay-lone-reads.Learnt,
   lay-halves-below t,
   lay-halves.Post,
 )
@@ -494,10 +648,15 @@ pub +lay-block+lay-halves-spec : {M : Type 1} → statement M
     (lay-block-add-result-2 t)
     (lay-block-same-length t)
     (lay-block-returns t)
-    (lay-block-lay-halves-requires t)
+    (lay-block-is-lone-requires t)
+    (lay-block-lay-lone-requires t)
     (lay-block-same-length-2 t)
     (lay-block-same-length-3 t)
-    (lay-block-returns-2 t))
+    (lay-block-returns-2 t)
+    (lay-block-lay-halves-requires t)
+    (lay-block-same-length-4 t)
+    (lay-block-same-length-5 t)
+    (lay-block-returns-3 t))
     λ t. lay-halves-lts.spec
     (lay-block-below t, lay-block.Post, join-reads.Asked, join-reads.Learnt)
     (lay-halves-at t)
