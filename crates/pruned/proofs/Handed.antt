@@ -1,6 +1,5 @@
 -- What is left of the trees over a block is one node: it is that of a leaf, by its code of a halfspace's side, and both halves are laid by its two values as
--- they
--- are by the trees.
+-- they are by the trees.
 use Prim.Native.Nat.{ℕ, zero, suc, _+_, _*_, _-_, _/_, _%_, _^_, _≤_, _<_}
 use mathlib.Core.Path.{_≡_, refl, sym, ap, ap₂, _∙_}
 use mathlib.Core.Bool.{Bool, true, false}
