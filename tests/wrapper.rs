@@ -1,32 +1,61 @@
-//! tests/wrapper.rs: every function of the wrapper, examples/rust/durbizhan.rs, on what is accepted and on every number
-//! that it can be refused with, held to what the C face answers and writes. tests/examples builds and runs it.
+//! tests/wrapper.rs: every function of the crate rust/durbizhan, on what is accepted and on every number that it can be
+//! refused with, held to what the C face answers and writes. It is a test of that crate, and tests/examples runs it.
 
-#[path = "../examples/rust/durbizhan.rs"]
-mod durbizhan;
 #[allow(dead_code)]
 #[path = "second_opinion/src/face.rs"]
 mod face;
 
 use durbizhan::{
-    Clearance, Contacts, Key, Merged, Numbers, Pruned, PrunedRefused, Refused, Report, Swept, Universe, Verdict, Window,
-    ACCEPTED, NO_ROOM,
+    Clearance, Colour, Contacts, Key, Merged, Numbers, Pruned, Refusal, Report, Shape, Universe, Verdict, Window,
 };
+
+const ACCEPTED: u64 = 0;
+const NO_ROOM: u64 = 6;
 
 /// The numbers that each function has.
 const ROOM: &[u64] = &[0, 2];
+const CONVERSION: &[u64] = &[0, 2, 3, 4, 5, 6];
 const VERDICT: &[u64] = &[0, 2, 3, 4, 5, 6, 9];
 const CONTACTS: &[u64] = &[0, 2, 3, 4, 5, 9];
 const MOVER: &[u64] = &[0, 2, 3, 4, 5, 6, 10, 11, 12];
-const NUMBERS: &[u64] = &[0, 2, 7, 9];
+const WELL_FORMED: &[u64] = &[0, 2, 7];
+const READING: &[u64] = &[0, 2, 7, 9];
 const REPORT: &[u64] = &[0, 2, 6, 7, 9];
-const MERGE: &[u64] = &[0, 2, 6, 7];
-const SWEEP: &[u64] = &[0, 2, 6, 7];
-const OCTREE: &[u64] = &[0, 2, 6, 7];
+const REWRITING: &[u64] = &[0, 2, 6, 7];
 const SCENE: &[u64] = &[0, 1, 2, 3, 4, 5, 9];
-const MERGED_ONE: &[u64] = &[0, 2, 3, 4, 5, 6];
-const PRUNED: &[u64] = &[0, 2, 3, 4, 5, 6];
+const SHAPE_READ: &[u64] = &[0, 1, 2, 6, 7, 8];
 const SHAPE_WRITE: &[u64] = &[0, 2, 6, 7, 8];
+const PROXY: &[u64] = &[0, 10];
 const LINES: &[u64] = &[0, 1, 2, 3, 4, 5, 6, 9];
+
+/// The refusal of a number.
+fn refused(number: u64, needed: u64) -> Refusal {
+    let refusal = match number {
+        1 => Refusal::BadFile,
+        2 => Refusal::BadUniverse,
+        3 => Refusal::BadRows,
+        4 => Refusal::BadTree,
+        5 => Refusal::OverfullTree,
+        6 => Refusal::NoRoom { needed },
+        7 => Refusal::BadExpression,
+        8 => Refusal::NotMerged,
+        9 => Refusal::Outside,
+        10 => Refusal::BadProxy,
+        11 => Refusal::BadKeys,
+        12 => Refusal::BadStep,
+        _ => panic!("there is no number {number}"),
+    };
+    assert_eq!(refusal.number(), number);
+    refusal
+}
+
+/// Each number that a function has is among those that were tried.
+fn all_tried(numbers: &[u64], tried: impl IntoIterator<Item = u64>) {
+    let tried: Vec<u64> = tried.into_iter().collect();
+    for number in numbers {
+        assert!(tried.contains(number), "number {number} is not tried, of {numbers:?}");
+    }
+}
 
 /// Two trees over rows and balls, and a window.
 #[derive(Clone)]
@@ -118,6 +147,7 @@ fn held<T: PartialEq + std::fmt::Debug>(what: &str, wanted: u64, number: u64, wr
     assert_eq!(wrapped, faced, "{what}: the wrapper's answer, and what the face's says, number {number}");
 }
 
+#[test]
 fn counts() {
     for words in [vec![], vec![256, 257, 3], vec![0, 1, 2, 255, 256, 511, 512], vec![511, 512, 575, 576, 512]] {
         held("leaves", 0, 0, durbizhan::leaves(&words), face::leaves(&words));
@@ -125,7 +155,8 @@ fn counts() {
     }
 }
 
-fn rooms() -> Vec<u64> {
+#[test]
+fn rooms() {
     let cases = [
         (0, 2, 2, 2),
         (0, 4, 10, 10),
@@ -147,21 +178,21 @@ fn rooms() -> Vec<u64> {
         for (leaves, balls) in [(4, 0), (4, 1), (0, 2), (0, u64::MAX)] {
             let mut answer = [u64::MAX];
             let number = face::room(axes, bits, frame_bits, leaves, balls, &mut answer);
-            let faced = if number == ACCEPTED { Ok(answer[0]) } else { Err(Refused { number, needed: 0 }) };
+            let faced = if number == ACCEPTED { Ok(answer[0]) } else { Err(refused(number, 0)) };
             held("room", wanted, number, durbizhan::room(Universe { axes, bits, frame_bits }, leaves, balls), faced);
         }
     }
-    cases.map(|(wanted, ..)| wanted).to_vec()
+    all_tried(ROOM, cases.map(|case| case.0));
 }
 
 /// A verdict as the face answers it.
-fn clearance_of(number: u64, answer: [u64; 5]) -> Result<Clearance, Refused> {
+fn clearance_of(number: u64, answer: [u64; 5]) -> Result<Clearance, Refusal> {
     match (number, answer) {
         (ACCEPTED, [0, 0, 0, 0, length]) => Ok(Clearance { verdict: Verdict::Clear, length: length as usize }),
         (ACCEPTED, [1, first, last, voxels, length]) => {
             Ok(Clearance { verdict: Verdict::Hit { first, last, voxels }, length: length as usize })
         }
-        (number, [0, 0, 0, 0, needed]) => Err(Refused { number, needed }),
+        (number, [0, 0, 0, 0, needed]) => Err(refused(number, needed)),
         _ => panic!("a verdict: number {number}, answer {answer:?}"),
     }
 }
@@ -191,7 +222,8 @@ fn verdict(wanted: u64, scene: &Scene, lent: usize) {
     held("verdict", wanted, number, (wrapped, room), (clearance_of(number, answer), other_room));
 }
 
-fn verdicts() -> Vec<u64> {
+#[test]
+fn verdicts() {
     let mut cases: Vec<_> = scenes().into_iter().map(|(wanted, scene)| (wanted, scene, 100)).collect();
     cases.extend([(ACCEPTED, example(), 13), (NO_ROOM, example(), 12), (NO_ROOM, example(), 0)]);
     // balls that are not in fours, which no file says
@@ -199,7 +231,7 @@ fn verdicts() -> Vec<u64> {
     for (wanted, scene, lent) in &cases {
         verdict(*wanted, scene, *lent);
     }
-    cases.iter().map(|case| case.0).collect()
+    all_tried(VERDICT, cases.iter().map(|case| case.0));
 }
 
 /// A Box with keys, against a static tree.
@@ -251,7 +283,8 @@ fn mover(wanted: u64, moving: &Moving, lent: usize) {
     held("mover", wanted, number, (wrapped, room), (clearance_of(number, answer), other_room));
 }
 
-fn movers() -> Vec<u64> {
+#[test]
+fn movers() {
     let changed = |number, change: fn(&mut Moving)| {
         let mut moving = coming();
         change(&mut moving);
@@ -284,7 +317,7 @@ fn movers() -> Vec<u64> {
     for (wanted, moving, lent) in &cases {
         mover(*wanted, moving, *lent);
     }
-    cases.iter().map(|case| case.0).collect()
+    all_tried(MOVER, cases.iter().map(|case| case.0));
 }
 
 /// Sure and possible contact of a scene's trees.
@@ -309,23 +342,25 @@ fn contact(wanted: u64, scene: &Scene) {
     );
     let faced = match (number, answer) {
         (ACCEPTED, [sure, centre, possible]) => Ok(Contacts { sure, centre, possible }),
-        (number, [0, 0, 0]) => Err(Refused { number, needed: 0 }),
+        (number, [0, 0, 0]) => Err(refused(number, 0)),
         _ => panic!("contacts: number {number}, answer {answer:?}"),
     };
     held("contacts", wanted, number, wrapped, faced);
 }
 
-fn contacts() -> Vec<u64> {
+#[test]
+fn contacts() {
     let mut cases = scenes();
     // balls that are not in fours, which no file says
     cases.extend([1, 2, 3, 5].map(|count| (3, Scene { balls: vec![0; count], ..example() })));
     for (wanted, scene) in &cases {
         contact(*wanted, scene);
     }
-    cases.iter().map(|case| case.0).collect()
+    all_tried(CONTACTS, cases.iter().map(|case| case.0));
 }
 
-fn numbers() -> Vec<u64> {
+#[test]
+fn numbers() {
     let cases: [(u64, [u64; 3], &[u8], u64, u64); 15] = [
         (0, [2, 2, 2], b"(W(((WBW((BWW", 0, 3),
         (0, [2, 2, 2], b"(W(((WBW((BWW", 2, 2),
@@ -351,17 +386,18 @@ fn numbers() -> Vec<u64> {
             (ACCEPTED, [volume, 1, first, last, voxels]) => {
                 Ok(Numbers { volume, verdict: Verdict::Hit { first, last, voxels } })
             }
-            (number, [0, 0, 0, 0, 0]) => Err(Refused { number, needed: 0 }),
+            (number, [0, 0, 0, 0, 0]) => Err(refused(number, 0)),
             _ => panic!("numbers: number {number}, answer {answer:?}"),
         };
         let universe = Universe { axes, bits, frame_bits };
         let wrapped = durbizhan::numbers(universe, expression, Window { first, last });
         held("numbers", wanted, number, wrapped, faced);
     }
-    cases.map(|case| case.0).to_vec()
+    all_tried(READING, cases.map(|case| case.0));
 }
 
-fn reports() -> Vec<u64> {
+#[test]
+fn reports() {
     let one = b"(W(((WBW((BWW";
     let twice = [one.as_slice(), one].concat();
     let rubbish = [one.as_slice(), b"W)"].concat();
@@ -393,17 +429,18 @@ fn reports() -> Vec<u64> {
         let number = face::report(axes, bits, frame_bits, expressions, first, last, &mut other_counts, &mut answer);
         let faced = match (number, answer) {
             (ACCEPTED, [frames, total]) => Ok(Report { frames: frames as usize, total }),
-            (number, [needed, 0]) => Err(Refused { number, needed }),
+            (number, [needed, 0]) => Err(refused(number, needed)),
             _ => panic!("report: number {number}, answer {answer:?}"),
         };
         let universe = Universe { axes, bits, frame_bits };
         let wrapped = durbizhan::report(universe, expressions, Window { first, last }, &mut counts);
         held("report", wanted, number, (wrapped, counts), (faced, other_counts));
     }
-    cases.map(|case| case.0).to_vec()
+    all_tried(REPORT, cases.map(|case| case.0));
 }
 
-fn merges() -> Vec<u64> {
+#[test]
+fn merges() {
     let cases: [(u64, [u64; 3], &[u8], usize); 15] = [
         (0, [2, 2, 2], b"(B(B(B(BW", 10),
         (0, [2, 2, 2], b"(B(B(B(BW", 9),
@@ -427,16 +464,28 @@ fn merges() -> Vec<u64> {
         let number = face::merge(axes, bits, frame_bits, expression, &mut other_room, &mut answer);
         let faced = match (number, answer) {
             (ACCEPTED, [length, held]) => Ok(Merged { length: length as usize, held }),
-            (number, [needed, 0]) => Err(Refused { number, needed }),
+            (number, [needed, 0]) => Err(refused(number, needed)),
             _ => panic!("merge: number {number}, answer {answer:?}"),
         };
         let wrapped = durbizhan::merge(Universe { axes, bits, frame_bits }, expression, &mut room);
         held("merge", wanted, number, (wrapped, room), (faced, other_room));
     }
-    cases.map(|case| case.0).to_vec()
+    all_tried(REWRITING, cases.map(|case| case.0));
 }
 
-fn sweeps() -> Vec<u64> {
+/// A shape that the face answers.
+fn shape_of(number: u64, answer: [u64; 4]) -> Result<Shape, Refusal> {
+    match (number, answer) {
+        (ACCEPTED, [axes, bits, frame_bits, length]) => {
+            Ok(Shape { universe: Universe { axes, bits, frame_bits }, length: length as usize })
+        }
+        (number, [0, 0, 0, needed]) => Err(refused(number, needed)),
+        _ => panic!("a shape: number {number}, answer {answer:?}"),
+    }
+}
+
+#[test]
+fn sweeps() {
     let cases: [(u64, [u64; 3], u64, &[u8], usize); 20] = [
         (0, [2, 2, 2], 1, b"(W(((WBW((BWW", 13),
         (0, [2, 2, 2], 1, b"(W(((WBW((BWW", 7),
@@ -463,20 +512,15 @@ fn sweeps() -> Vec<u64> {
         let [mut room, mut other_room] = [vec![b'.'; lent], vec![b'.'; lent]];
         let mut answer = [u64::MAX; 4];
         let number = face::sweep(axes, bits, frame_bits, axis, expression, &mut other_room, &mut answer);
-        let faced = match (number, answer) {
-            (ACCEPTED, [axes, bits, frame_bits, length]) => {
-                Ok(Swept { universe: Universe { axes, bits, frame_bits }, length: length as usize })
-            }
-            (number, [0, 0, 0, needed]) => Err(Refused { number, needed }),
-            _ => panic!("sweep: number {number}, answer {answer:?}"),
-        };
+        let faced = shape_of(number, answer);
         let wrapped = durbizhan::sweep(Universe { axes, bits, frame_bits }, expression, axis, &mut room);
         held("sweep", wanted, number, (wrapped, room), (faced, other_room));
     }
-    cases.map(|case| case.0).to_vec()
+    all_tried(REWRITING, cases.map(|case| case.0));
 }
 
-fn octree_exports() -> Vec<u64> {
+#[test]
+fn octree_exports() {
     let cases: [(u64, [u64; 3], &[u8], usize); 12] = [
         (0, [3, 0, 0], b"B", 1),
         (0, [3, 1, 1], b"(BW", 9),
@@ -498,10 +542,11 @@ fn octree_exports() -> Vec<u64> {
         let wrapped = durbizhan::octree_export(Universe { axes, bits, frame_bits }, symbols, &mut room);
         held("octree_export", wanted, number, (wrapped, room), (length_of(number, answer), other_room));
     }
-    cases.map(|case| case.0).to_vec()
+    all_tried(REWRITING, cases.map(|case| case.0));
 }
 
-fn octree_imports() -> Vec<u64> {
+#[test]
+fn octree_imports() {
     let cases: [(u64, [u64; 3], &[u8], usize); 13] = [
         (0, [3, 0, 0], b"F", 1),
         (0, [3, 1, 1], b"PFEEEEEEE", 7),
@@ -524,10 +569,11 @@ fn octree_imports() -> Vec<u64> {
         let wrapped = durbizhan::octree_import(Universe { axes, bits, frame_bits }, symbols, &mut room);
         held("octree_import", wanted, number, (wrapped, room), (length_of(number, answer), other_room));
     }
-    cases.map(|case| case.0).to_vec()
+    all_tried(REWRITING, cases.map(|case| case.0));
 }
 
-fn scene_files() -> Vec<u64> {
+#[test]
+fn scene_files() {
     let mut cases: Vec<_> = scenes().into_iter().map(|(wanted, scene)| (wanted, scene.file())).collect();
     cases.extend([(1, vec![]), (1, b"HSC".to_vec())]);
     for (wanted, file) in &cases {
@@ -546,26 +592,27 @@ fn scene_files() -> Vec<u64> {
                 second: second[..counts[3]].to_vec(),
                 window: Window { first: first_frame, last: last_frame },
             }),
-            _ => Err(Refused { number, needed: 0 }),
+            _ => Err(refused(number, 0)),
         };
         held("scene", *wanted, number, durbizhan::scene(file), faced);
     }
-    cases.iter().map(|case| case.0).collect()
+    all_tried(SCENE, cases.iter().map(|case| case.0));
 }
 
 /// A length that the face answers.
-fn length_of(number: u64, answer: [u64; 1]) -> Result<usize, Refused> {
+fn length_of(number: u64, answer: [u64; 1]) -> Result<usize, Refusal> {
     if number == ACCEPTED {
         Ok(answer[0] as usize)
     } else {
-        Err(Refused { number, needed: answer[0] })
+        Err(refused(number, answer[0]))
     }
 }
 
-fn mergeds() -> Vec<u64> {
-    let cases = [
+/// Scenes for conversions, with the number that the first tree, and both trees, then have and the room that is lent. The
+/// example's intersection takes 13 symbols, raw and merged; its first tree takes 23 raw and 19 merged.
+fn conversions() -> Vec<(u64, Scene, usize)> {
+    vec![
         (0, example(), 100),
-        (0, example(), 19),
         (0, Scene { balls: vec![2, 0, 0, 1], first: vec![512], ..example() }, 100),
         (2, Scene { axes: 5, ..example() }, 100),
         (2, Scene { axes: 1, ..example() }, 100),
@@ -574,61 +621,284 @@ fn mergeds() -> Vec<u64> {
         (4, Scene { first: vec![], ..example() }, 100),
         (4, Scene { first: vec![512], ..example() }, 100),
         (5, Scene { first: vec![1; 33], ..example() }, 100),
-        (6, example(), 18),
+        (6, example(), 8),
         (6, example(), 0),
-    ];
+    ]
+}
+
+type OneTree = fn(Universe, &[i64], &[i64], &[u16], &mut [u8]) -> Result<usize, Refusal>;
+type OneTreeFace = fn(u64, u64, u64, &[i64], &[i64], &[u16], &mut [u8], &mut [u64; 1]) -> u64;
+
+/// A conversion of one tree, on these and with room at both sides of what the example needs.
+fn one_tree(what: &str, needed: usize, convert: OneTree, face: OneTreeFace) {
+    let mut cases = conversions();
+    cases.extend([(0, example(), needed), (6, example(), needed - 1)]);
     for (wanted, scene, lent) in &cases {
         let Scene { axes, bits, frame_bits, rows, balls, first, .. } = scene.clone();
         let [mut room, mut other_room] = [vec![b'.'; *lent], vec![b'.'; *lent]];
         let mut answer = [u64::MAX];
-        let number = face::merged_one(axes, bits, frame_bits, &rows, &balls, &first, &mut other_room, &mut answer);
-        let universe = Universe { axes, bits, frame_bits };
-        let wrapped = durbizhan::merged_one(universe, &rows, &balls, &first, &mut room);
-        held("merged_one", *wanted, number, (wrapped, room), (length_of(number, answer), other_room));
+        let number = face(axes, bits, frame_bits, &rows, &balls, &first, &mut other_room, &mut answer);
+        let wrapped = convert(Universe { axes, bits, frame_bits }, &rows, &balls, &first, &mut room);
+        held(what, *wanted, number, (wrapped, room), (length_of(number, answer), other_room));
     }
-    cases.iter().map(|case| case.0).collect()
+    all_tried(CONVERSION, cases.iter().map(|case| case.0));
 }
 
-fn pruneds() -> Vec<u64> {
+#[test]
+fn one_trees() {
+    one_tree("raw_one", 23, durbizhan::raw_one, face::raw_one);
+    one_tree("merged_one", 19, durbizhan::merged_one, face::merged_one);
+}
+
+type TwoTrees = fn(Universe, &[i64], &[i64], &[u16], &[u16], &mut [u8]) -> Result<usize, Refusal>;
+type TwoTreesFace = fn(u64, u64, u64, &[i64], &[i64], &[u16], &[u16], &mut [u8], &mut [u64; 1]) -> u64;
+
+/// A conversion of two trees, likewise; the second tree is refused too.
+fn two_trees(what: &str, convert: TwoTrees, face: TwoTreesFace) {
+    let mut cases = conversions();
+    cases.extend([(0, example(), 13), (6, example(), 12), (4, Scene { second: vec![], ..example() }, 0)]);
+    for (wanted, scene, lent) in &cases {
+        let Scene { axes, bits, frame_bits, rows, balls, first, second, .. } = scene.clone();
+        let [mut room, mut other_room] = [vec![b'.'; *lent], vec![b'.'; *lent]];
+        let mut answer = [u64::MAX];
+        let number = face(axes, bits, frame_bits, &rows, &balls, &first, &second, &mut other_room, &mut answer);
+        let wrapped = convert(Universe { axes, bits, frame_bits }, &rows, &balls, &first, &second, &mut room);
+        held(what, *wanted, number, (wrapped, room), (length_of(number, answer), other_room));
+    }
+    all_tried(CONVERSION, cases.iter().map(|case| case.0));
+}
+
+#[test]
+fn both_trees() {
+    two_trees("raw_two", durbizhan::raw_two, face::raw_two);
+    two_trees("merged_two", durbizhan::merged_two, face::merged_two);
+}
+
+/// What the face of a pruned conversion answers.
+fn pruned_of(number: u64, answer: [u64; 3]) -> Result<Pruned, Refusal> {
+    match (number, answer) {
+        (ACCEPTED, [0, length, looked]) => Ok(Pruned { length: length as usize, looked }),
+        (NO_ROOM, [1, needed, 0]) => Err(Refusal::NoWorkRoom { needed }),
+        (number, [0, needed, 0]) => Err(refused(number, needed)),
+        _ => panic!("a pruned conversion: number {number}, answer {answer:?}"),
+    }
+}
+
+/// Scenes with a number, and the nodes and symbols for which room is lent; `words` is how many words of the example's
+/// count: five times as many nodes are needed.
+fn prunings(words: usize, needed: usize) -> Vec<(u64, Scene, usize, usize)> {
+    let nodes = 5 * words;
+    vec![
+        (0, example(), nodes, 100),
+        (0, example(), nodes, needed),
+        (0, Scene { balls: vec![2, 0, 0, 1], first: vec![512], ..example() }, nodes, 100),
+        (2, Scene { axes: 5, ..example() }, nodes, 100),
+        (3, Scene { rows: vec![0; 6], ..example() }, nodes, 100),
+        (4, Scene { first: vec![], ..example() }, 0, 0),
+        (5, Scene { first: vec![1; 33], ..example() }, 0, 0),
+        (6, example(), nodes - 1, 100),
+        (6, example(), nodes - 1, 0),
+        (6, example(), nodes, needed - 1),
+        (6, example(), 0, 100),
+    ]
+}
+
+/// What a pruned conversion gives in so much work room, and whether that is as it was where it has to be.
+fn with_work<T>(nodes: usize, convert: impl FnOnce(&mut [i64]) -> Result<T, Refusal>) -> Result<T, Refusal> {
+    let mut work = vec![7; 3 * nodes];
+    let found = convert(&mut work);
+    let kept = !matches!(found, Ok(_) | Err(Refusal::NoRoom { .. }));
+    assert!(!kept || work == vec![7; 3 * nodes], "the work room of a refused conversion");
+    found
+}
+
+type PrunedOne = fn(Universe, &[i64], &[i64], &[u16], &mut [i64], &mut [u8]) -> Result<Pruned, Refusal>;
+
+fn pruned_one(what: &str, needed: usize, convert: PrunedOne, merged: bool) {
+    let cases = prunings(3, needed);
+    for (wanted, scene, nodes, lent) in &cases {
+        let Scene { axes, bits, frame_bits, rows, balls, first, .. } = scene.clone();
+        let [mut room, mut other_room] = [vec![b'.'; *lent], vec![b'.'; *lent]];
+        let (mut other_work, mut answer) = (vec![7; 3 * nodes], [u64::MAX; 3]);
+        let number = face::pruned(
+            axes, bits, frame_bits, &rows, &balls, &[&first], &mut other_work, &mut other_room, &mut answer, merged,
+        );
+        let universe = Universe { axes, bits, frame_bits };
+        let wrapped = with_work(*nodes, |work| convert(universe, &rows, &balls, &first, work, &mut room));
+        held(what, *wanted, number, (wrapped, room), (pruned_of(number, answer), other_room));
+    }
+    all_tried(CONVERSION, cases.iter().map(|case| case.0));
+}
+
+type PrunedTwo = fn(Universe, &[i64], &[i64], &[u16], &[u16], &mut [i64], &mut [u8]) -> Result<Pruned, Refusal>;
+
+fn pruned_two(what: &str, convert: PrunedTwo, merged: bool) {
     // two trees of 255 words in 4 levels: 5 times 510 nodes
     let longest: Vec<u16> = std::iter::once(256).chain((0..127).flat_map(|_| [257, 2])).collect();
-    let cases = [
-        (0, example(), 30, 100),
-        (0, example(), 30, 13),
-        (0, Scene { balls: vec![2, 0, 0, 1], first: vec![512], ..example() }, 20, 100),
-        (0, Scene { first: longest.clone(), second: longest.clone(), ..example() }, 2550, 100),
-        (2, Scene { axes: 5, ..example() }, 30, 100),
-        (3, Scene { rows: vec![0; 6], ..example() }, 30, 100),
-        (4, Scene { second: vec![], ..example() }, 0, 0),
-        (5, Scene { first: vec![1; 33], ..example() }, 0, 0),
-        (6, example(), 29, 100),
-        (6, example(), 29, 0),
-        (6, example(), 30, 12),
-        (6, example(), 0, 100),
-        (6, Scene { first: longest.clone(), second: longest, ..example() }, 2549, 100),
-    ];
+    let long = Scene { first: longest.clone(), second: longest, ..example() };
+    let mut cases = prunings(6, 13);
+    cases.extend([(0, long.clone(), 2550, 100), (6, long, 2549, 100)]);
+    cases.push((4, Scene { second: vec![], ..example() }, 0, 0));
     for (wanted, scene, nodes, lent) in &cases {
         let Scene { axes, bits, frame_bits, rows, balls, first, second, .. } = scene.clone();
         let [mut room, mut other_room] = [vec![b'.'; *lent], vec![b'.'; *lent]];
-        let [mut work, mut other_work] = [vec![7; 3 * nodes], vec![7; 3 * nodes]];
-        let (trees, mut answer): ([&[u16]; 2], _) = ([&first, &second], [u64::MAX; 3]);
+        let (mut other_work, mut answer) = (vec![7; 3 * nodes], [u64::MAX; 3]);
+        let trees: [&[u16]; 2] = [&first, &second];
         let number = face::pruned(
-            axes, bits, frame_bits, &rows, &balls, &trees, &mut other_work, &mut other_room, &mut answer, true,
+            axes, bits, frame_bits, &rows, &balls, &trees, &mut other_work, &mut other_room, &mut answer, merged,
         );
-        let wrapped =
-            durbizhan::pruned_merged_two(Universe { axes, bits, frame_bits }, &rows, &balls, trees, &mut work, &mut room);
-        let faced = match number {
-            ACCEPTED => Ok(Pruned { length: answer[1] as usize, looked: answer[2] }),
-            _ => Err(PrunedRefused { number, needed: answer[1], of_work: answer[0] == 1 }),
-        };
-        let kept = number != ACCEPTED && (number != NO_ROOM || answer[0] == 1);
-        assert!(!kept || work == vec![7; 3 * nodes], "pruned_merged_two: the work room of number {number}");
-        held("pruned_merged_two", *wanted, number, (wrapped, room), (faced, other_room));
+        let universe = Universe { axes, bits, frame_bits };
+        let wrapped = with_work(*nodes, |work| convert(universe, &rows, &balls, &first, &second, work, &mut room));
+        held(what, *wanted, number, (wrapped, room), (pruned_of(number, answer), other_room));
     }
-    cases.iter().map(|case| case.0).collect()
+    all_tried(CONVERSION, cases.iter().map(|case| case.0));
 }
 
-fn shape_files() -> Vec<u64> {
+#[test]
+fn pruneds() {
+    pruned_one("pruned_raw_one", 23, durbizhan::pruned_raw_one, false);
+    pruned_one("pruned_merged_one", 19, durbizhan::pruned_merged_one, true);
+    pruned_two("pruned_raw_two", durbizhan::pruned_raw_two, false);
+    pruned_two("pruned_merged_two", durbizhan::pruned_merged_two, true);
+}
+
+#[test]
+fn well_formeds() {
+    let cases: [(u64, [u64; 3], &[u8]); 6] = [
+        (0, [2, 2, 2], b"(W(((WBW((BWW"),
+        (0, [1, 0, 0], b"W"),
+        (2, [5, 2, 2], b"B"),
+        (2, [1, 1, 1], b""),
+        (7, [2, 2, 2], b""),
+        (7, [1, 0, 0], b"(BW"),
+    ];
+    for (wanted, [axes, bits, frame_bits], expression) in cases {
+        let number = face::well_formed(axes, bits, frame_bits, expression);
+        let faced = if number == ACCEPTED { Ok(()) } else { Err(refused(number, 0)) };
+        held("well_formed", wanted, number, durbizhan::well_formed(Universe { axes, bits, frame_bits }, expression), faced);
+    }
+    all_tried(WELL_FORMED, cases.map(|case| case.0));
+}
+
+#[test]
+fn colours() {
+    let cases: [(u64, [u64; 3], &[u8], [u64; 4]); 8] = [
+        (0, [2, 2, 2], b"(W(((WBW((BWW", [0, 0, 0, 0]),
+        (0, [2, 2, 2], b"(W(((WBW((BWW", [2, 1, 0, 0]),
+        (0, [1, 0, 12], b"(WB", [4095, 0, 0, 0]),
+        (2, [5, 2, 2], b"B", [0, 0, 0, 0]),
+        (7, [2, 2, 2], b"(", [0, 0, 0, 0]),
+        (9, [2, 2, 2], b"B", [4, 0, 0, 0]),
+        (9, [2, 2, 2], b"B", [0, 4, 0, 0]),
+        (9, [2, 2, 2], b"B", [0, 0, 1, 0]),
+    ];
+    let mut seen = vec![];
+    for (wanted, [axes, bits, frame_bits], expression, voxel) in cases {
+        let [x, y, z, t] = voxel;
+        let mut answer = [u64::MAX];
+        let number = face::colour(axes, bits, frame_bits, expression, x, y, z, t, &mut answer);
+        let faced = match (number, answer) {
+            (ACCEPTED, [0]) => Ok(Colour::White),
+            (ACCEPTED, [1]) => Ok(Colour::Black),
+            (number, [0]) => Err(refused(number, 0)),
+            _ => panic!("colour: number {number}, answer {answer:?}"),
+        };
+        seen.push(faced);
+        let wrapped = durbizhan::colour(Universe { axes, bits, frame_bits }, expression, voxel);
+        held("colour", wanted, number, wrapped, faced);
+    }
+    assert!(seen.contains(&Ok(Colour::White)) && seen.contains(&Ok(Colour::Black)), "both colours are tried");
+    all_tried(READING, cases.map(|case| case.0));
+}
+
+#[test]
+fn parts() {
+    let cases: [(u64, [u64; 3], &[u8], &[u8]); 8] = [
+        (0, [2, 2, 2], b"(W(((WBW((BWW", &[]),
+        (0, [2, 2, 2], b"(W(((WBW((BWW", &[1, 0]),
+        (0, [2, 2, 2], b"(W(((WBW((BWW", &[0, 1, 1, 1]),
+        (2, [5, 2, 2], b"B", &[]),
+        (7, [2, 2, 2], b"BB", &[]),
+        (7, [2, 2, 2], b"", &[]),
+        (9, [2, 2, 2], b"B", &[0, 0, 0, 0, 0]),
+        (9, [2, 2, 2], b"B", &[2]),
+    ];
+    for (wanted, [axes, bits, frame_bits], expression, path) in cases {
+        let mut answer = [u64::MAX; 2];
+        let number = face::part(axes, bits, frame_bits, expression, path, &mut answer);
+        let faced = match (number, answer.map(|place| place as usize)) {
+            (ACCEPTED, [start, length]) => Ok(start..start + length),
+            (number, [0, 0]) => Err(refused(number, 0)),
+            _ => panic!("part: number {number}, answer {answer:?}"),
+        };
+        held("part", wanted, number, durbizhan::part(Universe { axes, bits, frame_bits }, expression, path), faced);
+    }
+    all_tried(READING, cases.map(|case| case.0));
+}
+
+#[test]
+fn shape_reads() {
+    let cases: [(u64, &[u8], usize); 10] = [
+        (0, b"BNT\x02\0\x02\x02\x02\x03\0\0\0(BW", 3),
+        (0, b"BNT\x01\0\x02\x02\x03\0\0\0(BW", 9),
+        (1, b"", 0),
+        (1, b"BNT\x03\0\x02\x02\x02\x01\0\0\0B", 9),
+        (1, b"BNT\x02\0\x02\x02\x02\x02\0\0\0B", 9),
+        (2, b"BNT\x02\0\x05\x02\x02\x01\0\0\0B", 9),
+        (7, b"BNT\x02\0\x02\x02\x02\x02\0\0\0BB", 9),
+        (8, b"BNT\x02\0\x02\x02\x02\x03\0\0\0(BB", 9),
+        (6, b"BNT\x02\0\x02\x02\x02\x03\0\0\0(BW", 2),
+        (6, b"BNT\x02\0\x02\x02\x02\x01\0\0\0B", 0),
+    ];
+    for (wanted, file, lent) in cases {
+        let [mut room, mut other_room] = [vec![b'.'; lent], vec![b'.'; lent]];
+        let mut answer = [u64::MAX; 4];
+        let number = face::shape_read(file, &mut other_room, &mut answer);
+        let faced = shape_of(number, answer);
+        held("shape_read", wanted, number, (durbizhan::shape_read(file, &mut room), room), (faced, other_room));
+    }
+    all_tried(SHAPE_READ, cases.map(|case| case.0));
+}
+
+#[test]
+fn boxes() {
+    let cases = [
+        (0, [0.0; 3], [1.0, 2.0, 3.0], [0.5, 0.0, -0.0625]),
+        (0, [-4096.0; 3], [4096.0; 3], [64.0; 3]),
+        (10, [0.0; 3], [1.0, 2.0, f64::NAN], [0.0; 3]),
+        (10, [0.0, 0.03125, 0.0], [1.0; 3], [0.0; 3]),
+        (10, [2.0; 3], [1.0; 3], [0.0; 3]),
+        (10, [0.0; 3], [1.0; 3], [64.0625, 0.0, 0.0]),
+    ];
+    for (wanted, near, far, displacement) in cases {
+        let mut rows = [7; 30];
+        let number = face::box_proxy(near, far, displacement, &mut rows);
+        let faced = if number == ACCEPTED { Ok(rows) } else { Err(refused(number, 0)) };
+        held("box_rows", wanted, number, durbizhan::box_rows(near, far, displacement), faced);
+    }
+    all_tried(PROXY, cases.map(|case| case.0));
+}
+
+#[test]
+fn cuts() {
+    let cases = [
+        (0, [1.0, -0.5, 0.0], -2.0, [0.0, 0.25, 0.0]),
+        (0, [64.0; 3], 4096.0, [64.0; 3]),
+        (10, [64.0625, 0.0, 0.0], 0.0, [0.0; 3]),
+        (10, [0.0; 3], 4096.0625, [0.0; 3]),
+        (10, [0.0; 3], 0.0, [f64::INFINITY, 0.0, 0.0]),
+    ];
+    for (wanted, normal, offset, displacement) in cases {
+        let mut row = [7; 5];
+        let number = face::cut_proxy(normal, offset, displacement, &mut row);
+        let faced = if number == ACCEPTED { Ok(row) } else { Err(refused(number, 0)) };
+        held("cut_row", wanted, number, durbizhan::cut_row(normal, offset, displacement), faced);
+    }
+    all_tried(PROXY, cases.map(|case| case.0));
+}
+
+#[test]
+fn shape_files() {
     let cases: [(u64, [u64; 3], &[u8], usize); 9] = [
         (0, [2, 2, 2], b"(B(B(B(BW", 21),
         (0, [4, 10, 12], b"W", 20),
@@ -647,7 +917,7 @@ fn shape_files() -> Vec<u64> {
         let wrapped = durbizhan::shape_write(Universe { axes, bits, frame_bits }, expression, &mut room);
         held("shape_write", wanted, number, (wrapped, room), (length_of(number, answer), other_room));
     }
-    cases.map(|case| case.0).to_vec()
+    all_tried(SHAPE_WRITE, cases.map(|case| case.0));
 }
 
 /// The number that the lines refuse with.
@@ -655,7 +925,8 @@ fn number_of(lines: &[u8]) -> u64 {
     lines.strip_prefix(b"refused ").map_or(0, |rest| u64::from(rest[0] - b'0'))
 }
 
-fn lines() -> Vec<u64> {
+#[test]
+fn lines() {
     let mut cases: Vec<_> = scenes().into_iter().map(|(wanted, scene)| (wanted, scene.file())).collect();
     // frame 0 of axes 4, bits 5 cut through: 140,431 symbols
     let (rows, first, second) = (vec![-1, 0, 0, 0, 2], vec![256], vec![1]);
@@ -666,34 +937,5 @@ fn lines() -> Vec<u64> {
         let count = face::lines(file, &mut out) as usize;
         held("lines", *wanted, number_of(&out), durbizhan::lines(file).into_bytes(), out[..count].to_vec());
     }
-    cases.iter().map(|case| case.0).collect()
-}
-
-fn main() {
-    counts();
-    let mut tried = 0;
-    let tables = [
-        (ROOM, rooms()),
-        (VERDICT, verdicts()),
-        (CONTACTS, contacts()),
-        (MOVER, movers()),
-        (NUMBERS, numbers()),
-        (REPORT, reports()),
-        (MERGE, merges()),
-        (SWEEP, sweeps()),
-        (OCTREE, octree_exports()),
-        (OCTREE, octree_imports()),
-        (SCENE, scene_files()),
-        (MERGED_ONE, mergeds()),
-        (PRUNED, pruneds()),
-        (SHAPE_WRITE, shape_files()),
-        (LINES, lines()),
-    ];
-    for (numbers, cases) in tables {
-        for number in numbers {
-            assert!(cases.contains(number), "number {number} is not tried, of {numbers:?}");
-        }
-        tried += cases.len();
-    }
-    println!("the wrapper answers {tried} calls, refused ones too, as the C face does");
+    all_tried(LINES, cases.iter().map(|case| case.0));
 }

@@ -1,10 +1,9 @@
-//! The scene of examples/program.txt, converted and judged from Rust, through the safe wrapper beside it. At the
+//! The scene of examples/program.txt, converted and judged from Rust, through the crate in rust/durbizhan. At the
 //! repository's top, on x86-64 (on another processor `tests/native` builds the archive, as target/native/libexport.a):
 //!
 //! ```sh
 //! rt staticlib export
-//! rustc --edition 2021 -O examples/rust/clear.rs -L target/staticlib -l static=export -o target/clear-rust
-//! target/clear-rust
+//! cargo run --offline --manifest-path rust/durbizhan/Cargo.toml --target-dir target/rust --example clear
 //! ```
 //!
 //! It prints
@@ -17,11 +16,7 @@
 //!
 //! and of a scene file, named behind it, the lines of that one: examples/program.scene has these.
 
-// The wrapper has more than is asked here.
-#[allow(dead_code)]
-mod durbizhan;
-
-use durbizhan::{Refused, Universe, Verdict, Window, NO_ROOM};
+use durbizhan::{halfspace, Refusal, Universe, Verdict, Window, INTERSECTION};
 
 // Two stand-ins of two halfspaces each: one that moves a voxel a frame, and one that stands from 2 to 3.
 const ROWS: [i64; 20] = [
@@ -31,10 +26,10 @@ const ROWS: [i64; 20] = [
     3, -1, 0, 0, 0,
 ];
 const NO_BALLS: [i64; 0] = [];
-const FIRST: [u16; 3] = [256, 257, 3];
-const SECOND: [u16; 3] = [258, 259, 3];
+const FIRST: [u16; 3] = [halfspace(0), halfspace(1), INTERSECTION];
+const SECOND: [u16; 3] = [halfspace(2), halfspace(3), INTERSECTION];
 
-fn judged() -> Result<String, Refused> {
+fn judged() -> Result<String, Refusal> {
     let universe = Universe { axes: 2, bits: 2, frame_bits: 2 };
     let window = Window { first: 0, last: 3 };
     let leaves = durbizhan::leaves(&FIRST) + durbizhan::leaves(&SECOND);
@@ -60,8 +55,8 @@ fn main() -> std::io::Result<()> {
     }
     match judged() {
         Ok(lines) => println!("{lines}"),
-        Err(Refused { number: number @ NO_ROOM, needed }) => println!("refused {number} needed {needed}"),
-        Err(Refused { number, .. }) => println!("refused {number}"),
+        Err(refusal @ Refusal::NoRoom { needed }) => println!("refused {} needed {needed}", refusal.number()),
+        Err(refusal) => println!("refused {}", refusal.number()),
     }
     Ok(())
 }

@@ -1,11 +1,11 @@
 //! The space that a mover sweeps, for whoever builds a set: tree 1 of a scene file, converted, swept along the frame axis
-//! and written as a shape file, through the safe wrapper beside it. At the repository's top, on x86-64 (on another
+//! and written as a shape file, through the crate in rust/durbizhan. At the repository's top, on x86-64 (on another
 //! processor `tests/native` builds the archive, as target/native/libexport.a):
 //!
 //! ```sh
 //! rt staticlib export
-//! rustc --edition 2021 -O examples/rust/sweep.rs -L target/staticlib -l static=export -o target/sweep-rust
-//! target/sweep-rust examples/sleeve.scene target/sleeve.shape
+//! cargo run --offline --manifest-path rust/durbizhan/Cargo.toml --target-dir target/rust --example sweep \
+//!     examples/sleeve.scene target/sleeve.shape
 //! ```
 //!
 //! The space has one axis fewer, and its last axis stands as its frame axis. It prints
@@ -15,18 +15,14 @@
 //! symbols 31 volume 256
 //! ```
 
-// The wrapper has more than is asked here.
-#[allow(dead_code)]
-mod durbizhan;
-
-use durbizhan::{Refused, Universe, Window, NO_ROOM};
+use durbizhan::{Refusal, Universe, Window, SHAPE_HEADER_LENGTH};
 use std::process::ExitCode;
 
 /// Tree 1 of a scene, converted. The first call lends no room, and is told how much it takes.
-fn converted(scene: &durbizhan::Scene) -> Result<Vec<u8>, Refused> {
+fn converted(scene: &durbizhan::Scene) -> Result<Vec<u8>, Refusal> {
     let convert = |out: &mut [u8]| durbizhan::merged_one(scene.universe, &scene.rows, &scene.balls, &scene.first, out);
     let length = match convert(&mut []) {
-        Err(Refused { number: NO_ROOM, needed }) => needed as usize,
+        Err(Refusal::NoRoom { needed }) => needed as usize,
         other => other?,
     };
     let mut mover = vec![0; length];
@@ -35,7 +31,7 @@ fn converted(scene: &durbizhan::Scene) -> Result<Vec<u8>, Refused> {
 }
 
 /// The space of a scene's mover, and its universe. Room as long as the mover is always suffices.
-fn space_of(scene: &[u8]) -> Result<(Universe, Vec<u8>), Refused> {
+fn space_of(scene: &[u8]) -> Result<(Universe, Vec<u8>), Refusal> {
     let scene = durbizhan::scene(scene)?;
     let mover = converted(&scene)?;
     let mut space = vec![0; mover.len()];
@@ -45,12 +41,12 @@ fn space_of(scene: &[u8]) -> Result<(Universe, Vec<u8>), Refused> {
 }
 
 /// What is printed of a scene, and the shape file of its mover's space.
-fn told(scene: &[u8]) -> Result<(String, Vec<u8>), Refused> {
+fn told(scene: &[u8]) -> Result<(String, Vec<u8>), Refusal> {
     let (universe, space) = space_of(scene)?;
     let Universe { axes, bits, frame_bits } = universe;
     let window = Window { first: 0, last: (1 << frame_bits) - 1 };
     let volume = durbizhan::numbers(universe, &space, window)?.volume;
-    let mut file = vec![0; space.len() + 12];
+    let mut file = vec![0; space.len() + SHAPE_HEADER_LENGTH];
     durbizhan::shape_write(universe, &space, &mut file)?;
     let symbols = space.len();
     Ok((format!("axes {axes} bits {bits} frame {frame_bits}\nsymbols {symbols} volume {volume}"), file))
@@ -68,8 +64,8 @@ fn main() -> std::io::Result<ExitCode> {
             println!("{lines}");
             Ok(ExitCode::SUCCESS)
         }
-        Err(Refused { number, .. }) => {
-            println!("refused {number}");
+        Err(refusal) => {
+            println!("refused {}", refusal.number());
             Ok(ExitCode::FAILURE)
         }
     }
