@@ -34,11 +34,11 @@ uint64_t durbizhan_balls(const uint16_t *words, size_t words_count)
 
 uint64_t durbizhan_room(uint64_t axes, uint64_t bits, uint64_t frame_bits,
                         uint64_t leaves, uint64_t balls,
-                        uint64_t answer[1])
+                        uint64_t answer[DURBIZHAN_ROOM_ANSWER])
 {
     (void)axes, (void)bits, (void)frame_bits, (void)leaves, (void)balls;
     uint64_t number = named("ROOM_NUMBER");
-    answer[0] = number == DURBIZHAN_ACCEPTED ? named("ROOM") : 0;
+    answer[DURBIZHAN_ROOM_SYMBOLS] = number == DURBIZHAN_ACCEPTED ? named("ROOM") : 0;
     return number;
 }
 
@@ -49,30 +49,30 @@ uint64_t durbizhan_verdict(uint64_t axes, uint64_t bits, uint64_t frame_bits,
                            const uint16_t *second, size_t second_count,
                            uint64_t first_frame, uint64_t last_frame,
                            uint8_t *out, size_t out_count,
-                           uint64_t answer[5])
+                           uint64_t answer[DURBIZHAN_VERDICT_ANSWER])
 {
     (void)axes, (void)bits, (void)frame_bits, (void)rows, (void)rows_count, (void)balls, (void)balls_count;
     (void)first, (void)first_count, (void)second, (void)second_count, (void)first_frame, (void)last_frame;
     (void)out, (void)out_count;
     uint64_t number = named("VERDICT_NUMBER");
-    memset(answer, 0, 5 * sizeof answer[0]);
-    if (number == DURBIZHAN_ACCEPTED) answer[4] = LENGTH;
-    if (number == DURBIZHAN_NO_ROOM) answer[4] = NEEDED;
+    memset(answer, 0, DURBIZHAN_VERDICT_ANSWER * sizeof answer[0]);
+    if (number == DURBIZHAN_ACCEPTED) answer[DURBIZHAN_VERDICT_LENGTH] = LENGTH;
+    if (number == DURBIZHAN_NO_ROOM) answer[DURBIZHAN_VERDICT_LENGTH] = NEEDED;
     return number;
 }
 
 uint64_t durbizhan_numbers(uint64_t axes, uint64_t bits, uint64_t frame_bits,
                            const uint8_t *expression, size_t expression_count,
                            uint64_t first_frame, uint64_t last_frame,
-                           uint64_t answer[5])
+                           uint64_t answer[DURBIZHAN_NUMBERS_ANSWER])
 {
     (void)axes, (void)bits, (void)frame_bits, (void)expression, (void)expression_count;
     (void)first_frame, (void)last_frame;
-    memset(answer, 0, 5 * sizeof answer[0]);
+    memset(answer, 0, DURBIZHAN_NUMBERS_ANSWER * sizeof answer[0]);
     return named("NUMBERS_NUMBER");
 }
 
-uint64_t durbizhan_lines(const uint8_t *scene, size_t scene_count, uint8_t out[256])
+uint64_t durbizhan_lines(const uint8_t *scene, size_t scene_count, uint8_t out[DURBIZHAN_MOST_LINES_BYTES])
 {
     (void)scene, (void)scene_count, (void)out;
     return 0;

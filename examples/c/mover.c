@@ -18,12 +18,12 @@
 
 #include "durbizhan.h"
 
-#define MOST_KEYS 64
+#define COUNT(array) (sizeof(array) / sizeof((array)[0]))
 #define SYMBOLS (1 << 20)
 
-static uint64_t axes, bits, frame_bits, moments[MOST_KEYS];
-static double size[3], corners[3 * MOST_KEYS];
-static int64_t rows[30];
+static uint64_t axes, bits, frame_bits, moments[DURBIZHAN_MOST_KEYS];
+static double size[3], corners[DURBIZHAN_CORNER_LENGTH * DURBIZHAN_MOST_KEYS];
+static int64_t rows[DURBIZHAN_BOX_NUMBERS];
 static size_t keys;
 static uint8_t out[SYMBOLS];
 
@@ -39,22 +39,27 @@ static int take(const char *line)
     if (sscanf(line, " mover %lf %lf %lf", &size[0], &size[1], &size[2]) == 3)
         return 1;
     if (sscanf(line, " key %" SCNu64 " %lf %lf %lf", &moment, &near[0], &near[1], &near[2]) == 4) {
-        if (keys == MOST_KEYS)
+        if (keys == DURBIZHAN_MOST_KEYS)
             return 0;
         moments[keys] = moment;
-        memcpy(corners + 3 * keys, near, sizeof near);
+        memcpy(corners + DURBIZHAN_CORNER_LENGTH * keys, near, sizeof near);
         keys++;
         return 1;
     }
     if (sscanf(line, " box %lf %lf %lf %lf %lf %lf", &near[0], &near[1], &near[2], &far[0], &far[1], &far[2]) == 6)
-        return durbizhan_box(near[0], near[1], near[2], far[0], far[1], far[2], 0, 0, 0, rows) == 0;
+        return durbizhan_box(near[0], near[1], near[2], far[0], far[1], far[2], 0, 0, 0, rows) == DURBIZHAN_ACCEPTED;
     return 0;
 }
 
 int main(int count, char **arguments)
 {
-    static const uint16_t words[] = {256, 257, 3, 258, 3, 259, 3, 260, 3, 261, 3};
-    uint64_t answer[5];
+    /* the six rows of the Box, intersected */
+    static const uint16_t words[] = {
+        DURBIZHAN_HALFSPACE(0), DURBIZHAN_HALFSPACE(1), DURBIZHAN_INTERSECTION,
+        DURBIZHAN_HALFSPACE(2), DURBIZHAN_INTERSECTION, DURBIZHAN_HALFSPACE(3), DURBIZHAN_INTERSECTION,
+        DURBIZHAN_HALFSPACE(4), DURBIZHAN_INTERSECTION, DURBIZHAN_HALFSPACE(5), DURBIZHAN_INTERSECTION,
+    };
+    uint64_t answer[DURBIZHAN_VERDICT_ANSWER];
     char line[256];
     FILE *text = count == 2 ? fopen(arguments[1], "r") : NULL;
     if (!text)
@@ -69,13 +74,15 @@ int main(int count, char **arguments)
     fclose(text);
     int64_t none[1] = {0};
     uint64_t number = durbizhan_mover(axes, bits, frame_bits, 0, 0, 0, size[0], size[1], size[2], 0, 0, 0, moments,
-                                      keys, corners, 3 * keys, rows, 30, none, 0, words, 11, out, SYMBOLS, answer);
+                                      keys, corners, DURBIZHAN_CORNER_LENGTH * keys, rows, COUNT(rows), none, 0,
+                                      words, COUNT(words), out, SYMBOLS, answer);
     if (number == DURBIZHAN_NO_ROOM)
-        printf("refused %" PRIu64 " needed %" PRIu64 "\n", number, answer[4]);
+        printf("refused %" PRIu64 " needed %" PRIu64 "\n", number, answer[DURBIZHAN_VERDICT_LENGTH]);
     else if (number != DURBIZHAN_ACCEPTED)
         printf("refused %" PRIu64 "\n", number);
-    else if (answer[0])
-        printf("hit first %" PRIu64 " last %" PRIu64 " voxels %" PRIu64 "\n", answer[1], answer[2], answer[3]);
+    else if (answer[DURBIZHAN_VERDICT_HIT] == DURBIZHAN_HIT)
+        printf("hit first %" PRIu64 " last %" PRIu64 " voxels %" PRIu64 "\n", answer[DURBIZHAN_VERDICT_FIRST],
+               answer[DURBIZHAN_VERDICT_LAST], answer[DURBIZHAN_VERDICT_VOXELS]);
     else
         puts("clear");
     return number != DURBIZHAN_ACCEPTED;

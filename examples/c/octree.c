@@ -34,7 +34,7 @@ static void print(const uint8_t *symbols, uint64_t count)
 int main(int count, char **words)
 {
     static uint8_t octree[MOST], expression[2 * MOST], again[8 * MOST];
-    uint64_t imported[1], exported[1], number;
+    uint64_t answer[DURBIZHAN_OCTREE_ANSWER], number;
 
     if (count != 3) return 2;
     uint64_t bits = strtoull(words[1], NULL, 10);
@@ -44,11 +44,12 @@ int main(int count, char **words)
     fclose(file);
     if (length > 0 && octree[length - 1] == '\n') length--;
 
-    number = durbizhan_octree_import(3, bits, bits, octree, length, expression, sizeof expression, imported);
+    number = durbizhan_octree_import(3, bits, bits, octree, length, expression, sizeof expression, answer);
     if (number != DURBIZHAN_ACCEPTED) return refused(number);
-    print(expression, imported[0]);
-    number = durbizhan_octree_export(3, bits, bits, expression, imported[0], again, sizeof again, exported);
+    uint64_t symbols = answer[DURBIZHAN_OCTREE_LENGTH];
+    print(expression, symbols);
+    number = durbizhan_octree_export(3, bits, bits, expression, symbols, again, sizeof again, answer);
     if (number != DURBIZHAN_ACCEPTED) return refused(number);
-    print(again, exported[0]);
+    print(again, answer[DURBIZHAN_OCTREE_LENGTH]);
     return 0;
 }

@@ -35,8 +35,11 @@ static const int64_t rows[] = {
     -4, 1, 0, 0, 0,
     7, -1, 0, 0, 0,
 };
-static const uint16_t mover[] = {256, 257, 3};
-static const uint16_t walls[SHOTS][3] = {{258, 259, 3}, {260, 261, 3}};
+static const uint16_t mover[] = {DURBIZHAN_HALFSPACE(0), DURBIZHAN_HALFSPACE(1), DURBIZHAN_INTERSECTION};
+static const uint16_t walls[SHOTS][3] = {
+    {DURBIZHAN_HALFSPACE(2), DURBIZHAN_HALFSPACE(3), DURBIZHAN_INTERSECTION},
+    {DURBIZHAN_HALFSPACE(4), DURBIZHAN_HALFSPACE(5), DURBIZHAN_INTERSECTION},
+};
 /* There are no balls: an empty buffer, too, has a pointer. */
 static const int64_t balls[1];
 enum { BALLS_COUNT = 0 };
@@ -46,10 +49,10 @@ enum { BALLS_COUNT = 0 };
 /* The row of a list, and its total behind it. The number is read first. */
 static uint64_t report(const uint8_t *expressions, size_t count, uint64_t row[FRAMES + 1])
 {
-    uint64_t answer[2];
+    uint64_t answer[DURBIZHAN_REPORT_ANSWER];
     uint64_t number = durbizhan_report(AXES, BITS, FRAME_BITS, expressions, count, FIRST_FRAME, LAST_FRAME, row, FRAMES,
                                        answer);
-    row[FRAMES] = answer[1];
+    row[FRAMES] = answer[DURBIZHAN_REPORT_TOTAL];
     return number;
 }
 
@@ -61,16 +64,17 @@ int main(void)
 
     /* The expressions stand one straight after another: each shot's intersection behind the one before it. */
     for (int shot = 0; shot < SHOTS; shot++) {
-        uint64_t length[1];
+        uint64_t answer[DURBIZHAN_CONVERSION_ANSWER];
         uint64_t number = durbizhan_merged_two(AXES, BITS, FRAME_BITS, rows, COUNT(rows), balls, BALLS_COUNT,
                                                mover, COUNT(mover), walls[shot], COUNT(walls[shot]),
-                                               expressions + start, sizeof expressions - start, length);
-        if (number == DURBIZHAN_ACCEPTED) number = report(expressions + start, length[0], columns[shot]);
+                                               expressions + start, sizeof expressions - start, answer);
+        uint64_t length = answer[DURBIZHAN_CONVERSION_LENGTH];
+        if (number == DURBIZHAN_ACCEPTED) number = report(expressions + start, length, columns[shot]);
         if (number != DURBIZHAN_ACCEPTED) {
             printf("refused %" PRIu64 "\n", number);
             return 1;
         }
-        start += length[0];
+        start += length;
     }
     uint64_t number = report(expressions, start, columns[SHOTS]);
     if (number != DURBIZHAN_ACCEPTED) {

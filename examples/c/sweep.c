@@ -37,52 +37,58 @@ static uint8_t *room(uint64_t count)
 /* Tree 1 of a scene, converted. The first call lends no room, and is told how much it takes. */
 static uint64_t converted(const uint8_t *bytes, size_t bytes_count, struct shape *mover)
 {
-    static int64_t rows[1280], balls[256];
-    static uint16_t first[255], second[255];
+    static int64_t rows[DURBIZHAN_MOST_NUMBERS], balls[DURBIZHAN_MOST_BALL_NUMBERS];
+    static uint16_t first[DURBIZHAN_MOST_WORDS], second[DURBIZHAN_MOST_WORDS];
     uint8_t none[1];
-    uint64_t scene[10], length[1];
+    uint64_t scene[DURBIZHAN_SCENE_ANSWER], length[DURBIZHAN_CONVERSION_ANSWER];
 
     uint64_t number = durbizhan_scene(bytes, bytes_count, rows, balls, first, second, scene);
     if (number != DURBIZHAN_ACCEPTED) return number;
-    *mover = (struct shape){.axes = scene[1], .bits = scene[2], .frame_bits = scene[3]};
-    number = durbizhan_merged_one(scene[1], scene[2], scene[3], rows, 5 * scene[4], balls, 4 * scene[5],
-                                  first, scene[6], none, 0, length);
+    uint64_t axes = scene[DURBIZHAN_SCENE_AXES];
+    uint64_t bits = scene[DURBIZHAN_SCENE_BITS], frame_bits = scene[DURBIZHAN_SCENE_FRAME_BITS];
+    size_t rows_count = DURBIZHAN_ROW_LENGTH * scene[DURBIZHAN_SCENE_ROWS];
+    size_t balls_count = DURBIZHAN_BALL_LENGTH * scene[DURBIZHAN_SCENE_BALLS];
+    size_t words_count = scene[DURBIZHAN_SCENE_FIRST_WORDS];
+    *mover = (struct shape){.axes = axes, .bits = bits, .frame_bits = frame_bits};
+    number = durbizhan_merged_one(axes, bits, frame_bits, rows, rows_count, balls, balls_count,
+                                  first, words_count, none, 0, length);
     if (number != DURBIZHAN_NO_ROOM) return number;
-    mover->count = length[0];
+    mover->count = length[DURBIZHAN_CONVERSION_LENGTH];
     mover->symbols = room(mover->count);
-    return durbizhan_merged_one(scene[1], scene[2], scene[3], rows, 5 * scene[4], balls, 4 * scene[5],
-                                first, scene[6], mover->symbols, mover->count, length);
+    return durbizhan_merged_one(axes, bits, frame_bits, rows, rows_count, balls, balls_count,
+                                first, words_count, mover->symbols, mover->count, length);
 }
 
 /* A mover swept along its last axis, into room as long as the mover is: that always suffices. */
 static uint64_t swept(const struct shape *mover, struct shape *space)
 {
-    uint64_t answer[4];
+    uint64_t answer[DURBIZHAN_SWEEP_ANSWER];
     uint8_t *out = room(mover->count);
     uint64_t number = durbizhan_sweep(mover->axes, mover->bits, mover->frame_bits, mover->axes,
                                       mover->symbols, mover->count, out, mover->count, answer);
-    *space = (struct shape){answer[0], answer[1], answer[2], out, answer[3]};
+    *space = (struct shape){answer[DURBIZHAN_SWEEP_AXES], answer[DURBIZHAN_SWEEP_BITS],
+                            answer[DURBIZHAN_SWEEP_FRAME_BITS], out, answer[DURBIZHAN_SWEEP_LENGTH]};
     return number;
 }
 
 /* The black voxels of a space: the numbers over its first to its last frame. */
 static uint64_t measured(const struct shape *space, uint64_t *volume)
 {
-    uint64_t numbers[5], last = ((uint64_t)1 << space->frame_bits) - 1;
+    uint64_t numbers[DURBIZHAN_NUMBERS_ANSWER], last = ((uint64_t)1 << space->frame_bits) - 1;
     uint64_t number = durbizhan_numbers(space->axes, space->bits, space->frame_bits, space->symbols, space->count,
                                         0, last, numbers);
-    *volume = numbers[0];
+    *volume = numbers[DURBIZHAN_NUMBERS_VOLUME];
     return number;
 }
 
 /* The bytes of a space's shape file. */
 static uint64_t filed(const struct shape *space, uint8_t **bytes, size_t *bytes_count)
 {
-    uint64_t length[1], most = space->count + 12;
+    uint64_t length[DURBIZHAN_SHAPE_WRITE_ANSWER], most = space->count + DURBIZHAN_SHAPE_HEADER_LENGTH;
     *bytes = room(most);
     uint64_t number = durbizhan_shape_write(space->axes, space->bits, space->frame_bits, space->symbols, space->count,
                                             *bytes, most, length);
-    *bytes_count = length[0];
+    *bytes_count = length[DURBIZHAN_SHAPE_WRITE_LENGTH];
     return number;
 }
 
@@ -94,7 +100,7 @@ static int failed(const char *name)
 
 int main(int count, char **words)
 {
-    static uint8_t scene[65537];
+    static uint8_t scene[DURBIZHAN_MOST_SCENE_BYTES + 1];
     struct shape mover, space;
     uint64_t volume;
     uint8_t *bytes;
