@@ -1,4 +1,4 @@
-/* Durbizhan: a clearance checker for animated shots. The face for C, C99 and later.
+/* Durbizhan: a clearance checker for animated shots. The face for C, C99 and later; durbizhan.hpp is that for C++.
  *
  * Every function returns the number of its refusal, 0 where it accepts; durbizhan_leaves, durbizhan_balls and
  * durbizhan_lines alone return a count.

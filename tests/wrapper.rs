@@ -613,6 +613,7 @@ fn length_of(number: u64, answer: [u64; 1]) -> Result<usize, Refusal> {
 fn conversions() -> Vec<(u64, Scene, usize)> {
     vec![
         (0, example(), 100),
+        (0, Scene { second: vec![1], ..example() }, 100),
         (0, Scene { balls: vec![2, 0, 0, 1], first: vec![512], ..example() }, 100),
         (2, Scene { axes: 5, ..example() }, 100),
         (2, Scene { axes: 1, ..example() }, 100),
@@ -691,6 +692,7 @@ fn prunings(words: usize, needed: usize) -> Vec<(u64, Scene, usize, usize)> {
     vec![
         (0, example(), nodes, 100),
         (0, example(), nodes, needed),
+        (0, Scene { second: vec![1], ..example() }, nodes, 100),
         (0, Scene { balls: vec![2, 0, 0, 1], first: vec![512], ..example() }, nodes, 100),
         (2, Scene { axes: 5, ..example() }, nodes, 100),
         (3, Scene { rows: vec![0; 6], ..example() }, nodes, 100),

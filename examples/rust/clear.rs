@@ -17,6 +17,7 @@
 //! and of a scene file, named behind it, the lines of that one: examples/program.scene has these.
 
 use durbizhan::{halfspace, Refusal, Universe, Verdict, Window, INTERSECTION};
+use std::process::ExitCode;
 
 // Two stand-ins of two halfspaces each: one that moves a voxel a frame, and one that stands from 2 to 3.
 const ROWS: [i64; 20] = [
@@ -48,15 +49,18 @@ fn judged() -> Result<String, Refusal> {
     Ok(format!("axes {axes} bits {bits}\nleaves {leaves} raw {raw} room {room}\n{last}"))
 }
 
-fn main() -> std::io::Result<()> {
+fn main() -> std::io::Result<ExitCode> {
     if let Some(name) = std::env::args_os().nth(1) {
         print!("{}", durbizhan::lines(&std::fs::read(name)?));
-        return Ok(());
+        return Ok(ExitCode::SUCCESS);
     }
     match judged() {
-        Ok(lines) => println!("{lines}"),
+        Ok(lines) => {
+            println!("{lines}");
+            return Ok(ExitCode::SUCCESS);
+        }
         Err(refusal @ Refusal::NoRoom { needed }) => println!("refused {} needed {needed}", refusal.number()),
         Err(refusal) => println!("refused {}", refusal.number()),
     }
-    Ok(())
+    Ok(ExitCode::FAILURE)
 }
