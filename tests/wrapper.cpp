@@ -644,6 +644,8 @@ static_assert(!std::is_convertible_v<std::string_view, durbizhan::Room>);
 static_assert(!std::is_convertible_v<const char (&)[4], durbizhan::Bytes>);
 static_assert(!std::is_convertible_v<std::vector<std::uint32_t> &, durbizhan::Rows>);
 static_assert(!std::is_convertible_v<I64 &, durbizhan::Words>);
+static_assert(!std::is_convertible_v<int, durbizhan::Rows>);
+static_assert(!std::is_convertible_v<std::vector<bool> &, durbizhan::Bytes>);
 
 // What is refused cannot be read as an answer.
 static_assert(!std::is_convertible_v<Result<durbizhan::Colour>, durbizhan::Colour>);
