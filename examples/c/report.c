@@ -1,6 +1,7 @@
-/* How much of each frame, for two shots: a stand-in that moves a voxel a frame meets a wall one voxel deep in the first
- * shot and one three voxels deep in the second. At the repository's top, on x86-64 (on another processor `tests/native`
- * builds the archive, as target/native/libexport.a):
+/* How much of each frame, for a lead: up to eight shots of scene files, which share one universe and one window, a
+ * column for each and one for all. Where none is named, two shots that are written below: a stand-in that moves a voxel
+ * a frame meets a wall one voxel deep in the first and one three voxels deep in the second. At the repository's top, on
+ * x86-64 (on another processor `tests/native` builds the archive, as target/native/libexport.a):
  *
  *   rt staticlib export
  *   gcc -std=c11 -Wall -Wextra -Iinclude examples/c/report.c target/staticlib/libexport.a -o target/report-c
@@ -8,7 +9,7 @@
  *
  * It prints
  *
- *   frame  shot 1  shot 2    both
+ *   frame  shot 1  shot 2     all
  *       0       0       0       0
  *       1       1       0       1
  *       2       1       0       1
@@ -21,75 +22,144 @@
  */
 #include <inttypes.h>
 #include <stdio.h>
+#include <stdlib.h>
 
 #include "durbizhan.h"
 
-enum { AXES = 2, BITS = 3, FRAME_BITS = 3, FIRST_FRAME = 0, LAST_FRAME = 7, FRAMES = 8, SHOTS = 2 };
+enum { MOST_SHOTS = 8, SYMBOLS = 1 << 20 };
 
-/* The stand-in between t and t + 1, and the two walls: from 2 to 3, and from 4 to 7. */
-static const int64_t rows[] = {
-    0, 1, -1, 0, 0,
-    1, -1, 1, 0, 0,
-    -2, 1, 0, 0, 0,
-    3, -1, 0, 0, 0,
-    -4, 1, 0, 0, 0,
-    7, -1, 0, 0, 0,
+/* A scene as it is read: its numbers, and what they count. */
+struct shot {
+    uint64_t scene[DURBIZHAN_SCENE_ANSWER];
+    int64_t rows[DURBIZHAN_MOST_NUMBERS], balls[DURBIZHAN_MOST_BALL_NUMBERS];
+    uint16_t first[DURBIZHAN_MOST_WORDS], second[DURBIZHAN_MOST_WORDS];
 };
-static const uint16_t mover[] = {DURBIZHAN_HALFSPACE(0), DURBIZHAN_HALFSPACE(1), DURBIZHAN_INTERSECTION};
-static const uint16_t walls[SHOTS][3] = {
-    {DURBIZHAN_HALFSPACE(2), DURBIZHAN_HALFSPACE(3), DURBIZHAN_INTERSECTION},
-    {DURBIZHAN_HALFSPACE(4), DURBIZHAN_HALFSPACE(5), DURBIZHAN_INTERSECTION},
+
+/* Both written shots: four rows, of which two are the stand-in, between t and t + 1, and two are its wall. */
+#define WRITTEN {                                                                                                     \
+    [DURBIZHAN_SCENE_VERSION] = 2, [DURBIZHAN_SCENE_AXES] = 2, [DURBIZHAN_SCENE_BITS] = 3,                            \
+    [DURBIZHAN_SCENE_FRAME_BITS] = 3, [DURBIZHAN_SCENE_ROWS] = 4, [DURBIZHAN_SCENE_FIRST_WORDS] = 3,                  \
+    [DURBIZHAN_SCENE_SECOND_WORDS] = 3, [DURBIZHAN_SCENE_FIRST_FRAME] = 0, [DURBIZHAN_SCENE_LAST_FRAME] = 7}
+#define MOVER {DURBIZHAN_HALFSPACE(0), DURBIZHAN_HALFSPACE(1), DURBIZHAN_INTERSECTION}
+#define WALL {DURBIZHAN_HALFSPACE(2), DURBIZHAN_HALFSPACE(3), DURBIZHAN_INTERSECTION}
+
+/* The walls are from 2 to 3, and from 4 to 7. */
+static const struct shot written[] = {
+    {.scene = WRITTEN, .rows = {0, 1, -1, 0, 0, 1, -1, 1, 0, 0, -2, 1, 0, 0, 0, 3, -1, 0, 0, 0},
+     .first = MOVER, .second = WALL},
+    {.scene = WRITTEN, .rows = {0, 1, -1, 0, 0, 1, -1, 1, 0, 0, -4, 1, 0, 0, 0, 7, -1, 0, 0, 0},
+     .first = MOVER, .second = WALL},
 };
-/* There are no balls: an empty buffer, too, has a pointer. */
-static const int64_t balls[1];
-enum { BALLS_COUNT = 0 };
 
-#define COUNT(array) (sizeof(array) / sizeof((array)[0]))
+/* The shots' intersections stand one straight after another; shot i from starts[i] on. */
+static uint8_t expressions[SYMBOLS];
+static size_t starts[MOST_SHOTS + 1];
+static uint64_t columns[MOST_SHOTS + 1][DURBIZHAN_MOST_FRAMES], totals[MOST_SHOTS + 1];
 
-/* The row of a list, and its total behind it. The number is read first. */
-static uint64_t report(const uint8_t *expressions, size_t count, uint64_t row[FRAMES + 1])
+/* A scene file, as a shot. */
+static uint64_t shot_of(const char *name, struct shot *shot)
 {
-    uint64_t answer[DURBIZHAN_REPORT_ANSWER];
-    uint64_t number = durbizhan_report(AXES, BITS, FRAME_BITS, expressions, count, FIRST_FRAME, LAST_FRAME, row, FRAMES,
-                                       answer);
-    row[FRAMES] = answer[DURBIZHAN_REPORT_TOTAL];
+    static uint8_t bytes[DURBIZHAN_MOST_SCENE_BYTES + 1];
+    FILE *file = fopen(name, "rb");
+    size_t count = file == NULL ? 0 : fread(bytes, 1, sizeof bytes, file);
+    if (file == NULL || ferror(file)) {
+        perror(name);
+        exit(1);
+    }
+    fclose(file);
+    return durbizhan_scene(bytes, count, shot->rows, shot->balls, shot->first, shot->second, shot->scene);
+}
+
+/* The intersection of a shot's trees, behind those of the shots before. */
+static uint64_t intersected(const struct shot *shot, int place)
+{
+    const uint64_t *scene = shot->scene;
+    uint64_t answer[DURBIZHAN_CONVERSION_ANSWER];
+    uint64_t number = durbizhan_merged_two(scene[DURBIZHAN_SCENE_AXES], scene[DURBIZHAN_SCENE_BITS],
+                                           scene[DURBIZHAN_SCENE_FRAME_BITS],
+                                           shot->rows, DURBIZHAN_ROW_LENGTH * scene[DURBIZHAN_SCENE_ROWS],
+                                           shot->balls, DURBIZHAN_BALL_LENGTH * scene[DURBIZHAN_SCENE_BALLS],
+                                           shot->first, scene[DURBIZHAN_SCENE_FIRST_WORDS],
+                                           shot->second, scene[DURBIZHAN_SCENE_SECOND_WORDS],
+                                           expressions + starts[place], SYMBOLS - starts[place], answer);
+    starts[place + 1] = starts[place] + answer[DURBIZHAN_CONVERSION_LENGTH];
     return number;
 }
 
-int main(void)
+/* A column: the counts of the shots from one place up to another, and their total. The number is read first. */
+static uint64_t report(const uint64_t scene[DURBIZHAN_SCENE_ANSWER], int from, int to, int column)
 {
-    uint8_t expressions[512];
-    size_t start = 0;
-    uint64_t columns[SHOTS + 1][FRAMES + 1];
+    uint64_t answer[DURBIZHAN_REPORT_ANSWER];
+    uint64_t number = durbizhan_report(scene[DURBIZHAN_SCENE_AXES], scene[DURBIZHAN_SCENE_BITS],
+                                       scene[DURBIZHAN_SCENE_FRAME_BITS],
+                                       expressions + starts[from], starts[to] - starts[from],
+                                       scene[DURBIZHAN_SCENE_FIRST_FRAME], scene[DURBIZHAN_SCENE_LAST_FRAME],
+                                       columns[column], DURBIZHAN_MOST_FRAMES, answer);
+    totals[column] = answer[DURBIZHAN_REPORT_TOTAL];
+    return number;
+}
 
-    /* The expressions stand one straight after another: each shot's intersection behind the one before it. */
-    for (int shot = 0; shot < SHOTS; shot++) {
-        uint64_t answer[DURBIZHAN_CONVERSION_ANSWER];
-        uint64_t number = durbizhan_merged_two(AXES, BITS, FRAME_BITS, rows, COUNT(rows), balls, BALLS_COUNT,
-                                               mover, COUNT(mover), walls[shot], COUNT(walls[shot]),
-                                               expressions + start, sizeof expressions - start, answer);
-        uint64_t length = answer[DURBIZHAN_CONVERSION_LENGTH];
-        if (number == DURBIZHAN_ACCEPTED) number = report(expressions + start, length, columns[shot]);
-        if (number != DURBIZHAN_ACCEPTED) {
-            printf("refused %" PRIu64 "\n", number);
+static void row(int shots, const uint64_t *counts[])
+{
+    for (int column = 0; column <= shots; column++) printf("%8" PRIu64, *counts[column]);
+    printf("\n");
+}
+
+static void print(const uint64_t scene[DURBIZHAN_SCENE_ANSWER], int shots)
+{
+    uint64_t first_frame = scene[DURBIZHAN_SCENE_FIRST_FRAME], last_frame = scene[DURBIZHAN_SCENE_LAST_FRAME];
+    const uint64_t *counts[MOST_SHOTS + 1];
+
+    printf("frame");
+    for (int column = 0; column < shots; column++) printf("  shot %d", column + 1);
+    printf("     all\n");
+    for (uint64_t frame = first_frame; frame <= last_frame; frame++) {
+        for (int column = 0; column <= shots; column++) counts[column] = &columns[column][frame - first_frame];
+        printf("%5" PRIu64, frame);
+        row(shots, counts);
+    }
+    for (int column = 0; column <= shots; column++) counts[column] = &totals[column];
+    printf("total");
+    row(shots, counts);
+}
+
+/* Whether two shots have one universe and one window. */
+static int alike(const struct shot *one, const struct shot *other)
+{
+    static const int places[] = {DURBIZHAN_SCENE_AXES, DURBIZHAN_SCENE_BITS, DURBIZHAN_SCENE_FRAME_BITS,
+                                 DURBIZHAN_SCENE_FIRST_FRAME, DURBIZHAN_SCENE_LAST_FRAME};
+    for (size_t i = 0; i < sizeof places / sizeof places[0]; i++)
+        if (one->scene[places[i]] != other->scene[places[i]]) return 0;
+    return 1;
+}
+
+static int refused(uint64_t number)
+{
+    printf("refused %" PRIu64 "\n", number);
+    return 1;
+}
+
+int main(int count, char **words)
+{
+    static struct shot first, shot;
+    int shots = count > 1 ? count - 1 : 2;
+    uint64_t number = DURBIZHAN_ACCEPTED;
+
+    if (shots > MOST_SHOTS) return 2;
+    for (int place = 0; place < shots; place++) {
+        shot = written[place % 2];
+        if (count > 1) number = shot_of(words[place + 1], &shot);
+        if (place == 0) first = shot;
+        if (number == DURBIZHAN_ACCEPTED && !alike(&first, &shot)) {
+            printf("%s is of another universe or window\n", words[place + 1]);
             return 1;
         }
-        start += length;
+        if (number == DURBIZHAN_ACCEPTED) number = intersected(&shot, place);
+        if (number == DURBIZHAN_ACCEPTED) number = report(first.scene, place, place + 1, place);
+        if (number != DURBIZHAN_ACCEPTED) return refused(number);
     }
-    uint64_t number = report(expressions, start, columns[SHOTS]);
-    if (number != DURBIZHAN_ACCEPTED) {
-        printf("refused %" PRIu64 "\n", number);
-        return 1;
-    }
-
-    printf("frame  shot 1  shot 2    both\n");
-    for (int place = 0; place <= FRAMES; place++) {
-        if (place < FRAMES)
-            printf("%5d", FIRST_FRAME + place);
-        else
-            printf("total");
-        for (int column = 0; column <= SHOTS; column++) printf("%8" PRIu64, columns[column][place]);
-        printf("\n");
-    }
+    number = report(first.scene, 0, shots, shots);
+    if (number != DURBIZHAN_ACCEPTED) return refused(number);
+    print(first.scene, shots);
     return 0;
 }
