@@ -43,17 +43,17 @@ Space = Tuple[int, int, int]
 Frames = Tuple[int, int]
 Triple = Tuple[float, float, float]
 
-# as much as is lent at first where more may be needed
+# as much as a conversion is lent at first, where the formula says more
 FIRST_ROOM = 1 << 16
 
 
 def _written(name: str, enough: Callable[[], int], *given: object, out: Optional[Room]) -> Tuple[List[int], Symbols]:
     """The answer of a call that writes symbols or bytes, and what it wrote: into `out`, or else into as much as is
-    enough; where that is much, into some, and then into as much as is needed."""
+    enough, and where that does not suffice, into as much as is needed."""
     if out is not None:
         return _filled(name, out, *given)
     try:
-        answer, view = _filled(name, bytearray(min(enough(), FIRST_ROOM)), *given)
+        answer, view = _filled(name, bytearray(enough()), *given)
     except NoRoom as short:
         if short.of_work:
             raise
@@ -70,8 +70,8 @@ def _filled(name: str, room: Any, *given: object) -> Tuple[List[int], memoryview
 
 
 def _enough(universe: Space, *trees: Whole, more: int = 0) -> int:
-    """Room for the words of trees, and so many words more that name a halfspace."""
-    return Universe(*universe).room(sum(map(leaves, trees)) + more, sum(map(balls, trees)))
+    """Room for the words of trees, and so many words more that name a halfspace; some of it, where that is much."""
+    return min(Universe(*universe).room(sum(map(leaves, trees)) + more, sum(map(balls, trees))), FIRST_ROOM)
 
 
 def triple(numbers: Sequence[float]) -> Triple:

@@ -5,7 +5,7 @@ import mmap
 import unittest
 
 import durbizhan
-from durbizhan import buffers
+from durbizhan import buffers, library
 
 from .cases import ALL, FIRST, GATE, LINE, MET, PLANE, ROWS, SECOND, SPAN, UNIT
 
@@ -156,6 +156,9 @@ class Ranges(unittest.TestCase):
                 durbizhan.well_formed(universe, MET)
         with self.assertRaises(TypeError):
             durbizhan.numbers((2, 2, 2, 0), MET, (0,))
+        for given in ((), ([], [])):
+            with self.assertRaises(TypeError):
+                library.call("leaves", *given)
 
 
 class Written(unittest.TestCase):
@@ -208,8 +211,15 @@ class Written(unittest.TestCase):
             durbizhan.pruned_raw_one(LINE, [-1, 1, 0, 0, 0], [], [256], work, memoryview(work).cast("B")[64:])
         with self.assertRaises(ValueError):
             durbizhan.pruned_raw_one(LINE, memoryview(work)[:5], [], [256], work)
-        rows = array.array("q", [-1, 1, 0, 0, 0])
-        self.assertEqual(durbizhan.raw_one(LINE, rows, memoryview(rows)[:0], [256]), SPAN)
+        room = bytearray(5)
+        read, written = buffers.read_from(room, ctypes.c_uint8), buffers.written_to(room, ctypes.c_uint8)
+        for pair in ([read, written], [written, read], [written, written]):
+            with self.assertRaises(ValueError):
+                buffers.see_apart(pair)
+
+    def test_what_is_only_read_may_overlap(self):
+        words = array.array("H", FIRST)
+        self.assertEqual(durbizhan.raw_two(PLANE, ROWS, [], words, words), durbizhan.raw_one(PLANE, ROWS, [], words))
 
 
 if __name__ == "__main__":

@@ -90,7 +90,8 @@ class Refusals(unittest.TestCase):
 
     def test_pickled(self):
         short = pickle.loads(pickle.dumps(durbizhan.NoRoom(77, True)))
-        self.assertEqual((short.needed, short.of_work, str(short)), (77, True, "refused 6 needed 77"))
+        self.assertEqual((short.needed, short.of_work), (77, True))
+        self.assertEqual((str(short), repr(short)), ("refused 6 needed 77", "NoRoom(77, True)"))
 
 
 class Scenes(unittest.TestCase):
@@ -107,6 +108,12 @@ class Scenes(unittest.TestCase):
         scene = Scene.from_bytes(file)
         self.assertEqual((scene.universe, scene.window), (Universe(2, 3, 4), Window(1, 15)))
         self.assertEqual((list(scene.balls), list(scene.first)), ([-1, 0, 0, 2, 5, 0, 0, 1024], [512, 513, 2]))
+
+    def test_room(self):
+        self.assertEqual(Scene(PLANE, ROWS, [], FIRST, [1], (0, 3)).room(), durbizhan.room(PLANE, 2, 0))
+        for first, second in (([512], [1]), ([1], [512])):
+            self.assertEqual(Scene(PLANE, [], [0, 0, 0, 0], first, second, (0, 3)).room(), 31)
+        self.assertEqual(Scene(PLANE, [], [0, 0, 0, 0], [1], [1], (0, 3)).room(), 1)
 
     def test_the_examples_have_the_lines_of_the_program(self):
         names = ["program", "sleeve", "sleeve-shorter", "sleeve-longer", "prop", "wall", "two-heads", "long-shot"]

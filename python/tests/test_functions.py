@@ -2,11 +2,12 @@
 room."""
 import array
 import unittest
+from unittest import mock
 
 import durbizhan
-from durbizhan import NoRoom, library
+from durbizhan import NoRoom, face, library
 
-from .cases import ACCEPTED, FROM_ONE, LINE, REFUSED, SPAN
+from .cases import ACCEPTED, FROM_ONE, GATE, LINE, PASSING, REFUSED, SPAN, UNIT
 
 PATTERN = 0xA5
 # those that return a count, and write a refusal as a line or none
@@ -129,6 +130,7 @@ class Work(unittest.TestCase):
                 with self.assertRaises(NoRoom) as raised:
                     call(name, LINE, FROM_ONE, [], *trees, work=work, out=out)
                 self.assertTrue(raised.exception.of_work)
+                self.assertIsNone(raised.exception.__context__)
                 self.assertEqual(raised.exception.needed, nodes)
                 self.assertEqual(list(work), [PATTERN] * (3 * nodes - 1))
                 self.assertIn(out, (None, bytearray([PATTERN] * 9)))
@@ -142,13 +144,36 @@ class Long(unittest.TestCase):
     CUT, LENGTH = [-1, 0, 0, 0, 2], 140431
 
     def test_conversions(self):
-        self.assertGreater(self.LENGTH, durbizhan.face.FIRST_ROOM)
+        self.assertGreater(self.LENGTH, face.FIRST_ROOM)
         raw = durbizhan.raw_one(self.UNIVERSE, self.CUT, [], [256])
         self.assertEqual(len(raw), self.LENGTH)
         self.assertEqual(durbizhan.pruned_raw_two(self.UNIVERSE, self.CUT, [], [256], [1]).expression, raw)
         found = durbizhan.verdict(self.UNIVERSE, self.CUT, [], [256], [1], (0, 0))
         self.assertEqual(found, (durbizhan.Hit(0, 0, 1 << 15), raw))
-        self.assertEqual(len(durbizhan.merge(self.UNIVERSE, raw).expression), 1)
+
+    def test_asked_once_where_room_is_known(self):
+        raw = durbizhan.raw_one(self.UNIVERSE, self.CUT, [], [256])
+        merged = durbizhan.merged_one(self.UNIVERSE, [-32, 1, 1, 1, -1], [], [256])
+        self.assertGreater(len(merged), face.FIRST_ROOM)
+        known = [
+            ("raw_one", (LINE, FROM_ONE, [], [256])),
+            ("merged_two", ((2, 2, 2), [], [2, 0, 0, 1], [512], [1])),
+            ("pruned_raw_one", ((2, 2, 2), [], [2, 0, 0, 1], [512])),
+            ("verdict", ((2, 2, 2), [], [2, 0, 0, 1], [1], [512], (0, 3))),
+            ("mover", (GATE, *UNIT, *PASSING, [], [], [1])),
+            ("sweep", (self.UNIVERSE, 1, raw)),
+            ("merge", (self.UNIVERSE, raw)),
+            ("shape_write", (self.UNIVERSE, merged)),
+            ("shape_read", (durbizhan.shape_write(self.UNIVERSE, merged),)),
+            ("octree_export", ((3, 1, 1), b"(WB")),
+            ("octree_import", ((3, 1, 1), b"PFEFEFEFE")),
+        ]
+        for name, arguments in known:
+            with self.subTest(name=name), mock.patch.object(face, "ask", wraps=face.ask) as asked:
+                call(name, *arguments)
+                # a pruned conversion is asked for its work room first
+                wanted = 2 if name.startswith("pruned") else 1
+                self.assertEqual([one.args[0] for one in asked.call_args_list], [name] * wanted)
 
 
 if __name__ == "__main__":
