@@ -200,16 +200,21 @@ def handed(taken: object) -> Tuple[Any, ...]:
 
 
 def call(name: str, *given: object) -> Tuple[int, List[Any]]:
-    """Calls a function with a value for each parameter that is no array: what it returns, and the arrays it wrote."""
+    """Calls a function with a value for each parameter that is no array: what it returns, and the arrays it wrote. What
+    was lent is given back before anything is raised."""
     parameters = [one for one in PROTOTYPES[name] if not isinstance(one, Array)]
     if len(parameters) != len(given):
         raise TypeError(f"{name} takes {len(parameters)} values, and {len(given)} are given")
     taken = [parameter.lend(value) for parameter, value in zip(parameters, given)]
-    see_apart(one for one in taken if isinstance(one, Lent))
+    lent = [one for one in taken if isinstance(one, Lent)]
     arrays = [(one.element * one.count)() for one in PROTOTYPES[name] if isinstance(one, Array)]
     values = [value for one in taken for value in handed(one)]
-    returned = getattr(library(), f"durbizhan_{name}")(*values, *map(ctypes.byref, arrays))
-    return int(returned), arrays
+    try:
+        see_apart(lent)
+        return int(getattr(library(), f"durbizhan_{name}")(*values, *map(ctypes.byref, arrays))), arrays
+    finally:
+        for buffer in lent:
+            buffer.keeper.release()
 
 
 def ask(name: str, *given: object) -> List[Any]:

@@ -174,9 +174,24 @@ class Written(unittest.TestCase):
             room.append(0)
         view.release()
         room.append(0)
+        view = memoryview(room)[:4]
         with self.assertRaises(durbizhan.NoRoom):
-            durbizhan.merge(LINE, SPAN, memoryview(room)[:4])
-        room.append(0)
+            durbizhan.merge(LINE, SPAN, view)
+        self.assertEqual(bytes(view), SPAN[:4])
+
+    def test_room_can_grow_where_it_was_refused(self):
+        for room in (bytearray(4), array.array("B", bytes(4))):
+            try:
+                durbizhan.merge(LINE, SPAN, room)
+            except durbizhan.NoRoom as short:
+                room.extend(bytes(short.needed - len(room)))
+            self.assertEqual(durbizhan.merge(LINE, SPAN, room).expression, SPAN)
+        symbols = bytearray(SPAN + SPAN)
+        try:
+            durbizhan.merge(LINE, symbols, symbols)
+        except ValueError:
+            del symbols[5:]
+        self.assertEqual(durbizhan.merge(LINE, symbols).expression, SPAN)
 
     def test_no_room_to_write_to(self):
         others = [array.array(letter, [0] * 5) for letter in "bhHiIqQdf"]
