@@ -96,24 +96,46 @@ class Readme(unittest.TestCase):
 
 
 class Package(unittest.TestCase):
-    def wheel(self, directory):
+    ASKED = "import durbizhan; print(durbizhan.__file__, durbizhan.library.place(), durbizhan.leaves([256]))"
+
+    def setUp(self):
         spec = importlib.util.spec_from_file_location("python_package", TOP / "tools" / "python_package.py")
-        backend = importlib.util.module_from_spec(spec)
-        spec.loader.exec_module(backend)
-        return pathlib.Path(directory) / backend.build_wheel(directory)
+        self.backend = importlib.util.module_from_spec(spec)
+        spec.loader.exec_module(self.backend)
+
+    def extracted(self, directory, name):
+        """The names of the files of a wheel, which are put into the folder."""
+        with zipfile.ZipFile(pathlib.Path(directory, name)) as wheel:
+            wheel.extractall(directory)
+            return set(wheel.namelist())
 
     def test_wheel(self):
         with tempfile.TemporaryDirectory() as work:
-            with zipfile.ZipFile(self.wheel(work)) as wheel:
-                names = set(wheel.namelist())
-                wheel.extractall(work)
+            names = self.extracted(work, self.backend.build_wheel(work))
             modules = {f"durbizhan/{path.name}" for path in (TOP / "python" / "durbizhan").glob("*.py")}
             self.assertLess(modules | {"durbizhan/py.typed", "durbizhan-1.0.dist-info/RECORD"}, names)
             self.assertIn("durbizhan/libdurbizhan.so", names)
-            asked = "import durbizhan; print(durbizhan.__file__, durbizhan.library.place(), durbizhan.leaves([256]))"
             package = pathlib.Path(work, "durbizhan")
-            printed, _, _ = run("-c", asked, PYTHONPATH=work, DURBIZHAN_LIBRARY="")
+            printed, _, _ = run("-c", self.ASKED, PYTHONPATH=work, DURBIZHAN_LIBRARY="")
             self.assertEqual(printed, f"{package / '__init__.py'} {package.resolve() / 'libdurbizhan.so'} 1\n")
+
+    def test_wheel_without_the_library(self):
+        self.backend.LIBRARY = pathlib.Path("/nowhere")
+        with tempfile.TemporaryDirectory() as work:
+            name = self.backend.build_wheel(work)
+            self.assertEqual(name, "durbizhan-1.0-py3-none-any.whl")
+            self.assertNotIn("durbizhan/libdurbizhan.so", self.extracted(work, name))
+            _, status, complaint = run("-c", self.ASKED, PYTHONPATH=work, DURBIZHAN_LIBRARY="")
+            self.assertEqual(status, 1)
+            self.assertIn("tools/shared, run in the clone, builds it", complaint)
+            printed, _, _ = run("-c", self.ASKED, PYTHONPATH=work, DURBIZHAN_LIBRARY=str(library.place()))
+            self.assertTrue(printed.endswith(f"{library.place()} 1\n"))
+
+    def test_editable(self):
+        with tempfile.TemporaryDirectory() as work:
+            names = self.extracted(work, self.backend.build_editable(work))
+            self.assertEqual({name for name in names if ".dist-info" not in name}, {"durbizhan.pth"})
+            self.assertEqual(pathlib.Path(work, "durbizhan.pth").read_text(), f"{TOP / 'python'}\n")
 
     @unittest.skipUnless(importlib.util.find_spec("pip"), "there is no pip")
     def test_pip(self):
@@ -170,7 +192,8 @@ class Examples(unittest.TestCase):
             self.assertEqual(shape.read_bytes(), b"BNT\2\0\3\4\4\x1f\0\0\0(" + half + half)
 
     def test_octrees_that_are_refused(self):
-        for bits, octree, printed in ((1, "PF" + "F" * 7, "B\nF\n"), (0, "PF", "refused 7\n"), (11, "F", "refused 2\n")):
+        tried = [(1, "PFFFFFFFF", "B\nF\n"), (0, "PFFFFFFFF", "refused 7\n"), (11, "F", "refused 2\n")]
+        for bits, octree, printed in tried:
             with tempfile.NamedTemporaryFile("w") as text:
                 text.write(octree)
                 text.flush()
