@@ -26,8 +26,8 @@ pub fn balls(words: &[u16]) -> u64 {
     unsafe { face::durbizhan_balls(words.as_ptr(), words.len()) }
 }
 
-/// How many symbols an expression takes at the most, for a run with so many words that name a halfspace and so many that
-/// name a ball. So much room is never refused [`Refusal::NoRoom`] by a conversion or a verdict.
+/// How many symbols an expression takes at the most, for a run with so many words that name a halfspace and so many
+/// that name a ball. So much room is never refused [`Refusal::NoRoom`] by a conversion or a verdict.
 ///
 /// Refused: [`Refusal::BadUniverse`].
 ///
@@ -192,7 +192,8 @@ pub fn raw_two(
     two_trees(face::durbizhan_raw_two, universe, rows, balls, [first, second], out)
 }
 
-/// The merged expression of two trees intersected, written to the front of `out`: its length. Refused as [`raw_two`] is.
+/// The merged expression of two trees intersected, written to the front of `out`: its length. Refused as [`raw_two`]
+/// is.
 ///
 /// ```
 /// use durbizhan::{halfspace, merged_two, Universe, BLACK, MINUS};

@@ -3,7 +3,7 @@
 use crate::face;
 use crate::refusal::accepted;
 use crate::{Refusal, Shape, Universe, Window};
-use crate::{BALL_LENGTH, MOST_BALLS, MOST_LINES_BYTES, MOST_ROWS, MOST_WORDS, ROW_LENGTH};
+use crate::{BALL_LENGTH, MOST_BALL_NUMBERS, MOST_LINES_BYTES, MOST_NUMBERS, MOST_WORDS, ROW_LENGTH};
 
 /// What a scene file holds.
 #[derive(Clone, Debug, PartialEq, Eq)]
@@ -26,8 +26,8 @@ pub struct Scene {
 
 /// Reads a scene file, of version 1 to 3.
 ///
-/// Refused, in this order: [`Refusal::BadFile`], [`Refusal::BadUniverse`], [`Refusal::BadRows`] for the rows and then for
-/// the balls, [`Refusal::BadTree`] or [`Refusal::OverfullTree`] for the first tree and then for the second,
+/// Refused, in this order: [`Refusal::BadFile`], [`Refusal::BadUniverse`], [`Refusal::BadRows`] for the rows and then
+/// for the balls, [`Refusal::BadTree`] or [`Refusal::OverfullTree`] for the first tree and then for the second,
 /// [`Refusal::Outside`].
 ///
 /// ```
@@ -39,7 +39,7 @@ pub struct Scene {
 /// # Ok::<(), Box<dyn std::error::Error>>(())
 /// ```
 pub fn scene(bytes: &[u8]) -> Result<Scene, Refusal> {
-    let (mut rows, mut balls) = ([0; MOST_ROWS * ROW_LENGTH], [0; MOST_BALLS * BALL_LENGTH]);
+    let (mut rows, mut balls) = ([0; MOST_NUMBERS], [0; MOST_BALL_NUMBERS]);
     let (mut first, mut second) = ([0; MOST_WORDS], [0; MOST_WORDS]);
     let mut answer = [0; 10];
     let number = unsafe {

@@ -41,8 +41,8 @@ pub fn well_formed(universe: Universe, expression: &[u8]) -> Result<(), Refusal>
     accepted(number, 0)
 }
 
-/// The colour of an expression at a voxel: its place along each axis, 0 above the axes. The place along the last axis is
-/// its frame.
+/// The colour of an expression at a voxel: its place along each axis, 0 above the axes. The place along the last axis
+/// is its frame.
 ///
 /// Refused, in this order: [`Refusal::BadUniverse`], [`Refusal::BadExpression`], [`Refusal::Outside`].
 ///

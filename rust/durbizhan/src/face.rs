@@ -1,7 +1,7 @@
 //! The face for C. A slice goes over as its pointer and its length, an array as its pointer.
 //!
-//! SAFETY, for every call of this crate: each pointer comes from a reference together with its own length, what is lent to
-//! be written to is borrowed for the call alone, and the library keeps no pointer.
+//! SAFETY, for every call of this crate: each pointer comes from a reference together with its own length, what is lent
+//! to be written to is borrowed for the call alone, and the library keeps no pointer.
 
 extern "C" {
     pub fn durbizhan_room(

@@ -1,7 +1,7 @@
 //! Durbizhan, a clearance checker for animated shots: the face for Rust of its proved library.
 //!
-//! Layout cuts stand-ins for characters and sets out of halfspaces and balls and moves them through a shot. The frame is
-//! one more axis, the last one, and the question is whether two stand-ins ever share space:
+//! Layout cuts stand-ins for characters and sets out of halfspaces and balls and moves them through a shot. The frame
+//! is one more axis, the last one, and the question is whether two stand-ins ever share space:
 //!
 //! ```
 //! use durbizhan::{halfspace, Universe, Verdict, Window, INTERSECTION};
@@ -36,9 +36,9 @@
 //! - An **expression** is bytes: `(` followed by a block's low and its high half, `B` or `W`.
 //!
 //! Every function takes all bytes and numbers, and what is bad is refused: an `Err` with its [`Refusal`], so that no
-//! answer is read before its number; of [`lines`] a refusal is a line. A refused call writes to no lent room but the work
-//! room of a pruned conversion, an accepted one to its front. The library keeps no state and allocates nothing, so any
-//! number of threads may call it at once. Rules, by their numbers, are those of the repository's docs/RULES.md.
+//! answer is read before its number; of [`lines`] a refusal is a line. A refused call writes to no lent room but the
+//! work room of a pruned conversion, an accepted one to its front. The library keeps no state and allocates nothing, so
+//! any number of threads may call it at once. Rules, by their numbers, are those of the repository's docs/RULES.md.
 
 mod conversions;
 mod documents;

@@ -37,8 +37,8 @@ pub fn octree_export(universe: Universe, expression: &[u8], out: &mut [u8]) -> R
     exchanged(face::durbizhan_octree_export, universe, expression, out)
 }
 
-/// The merged expression of such an octree, reduced or not, written to the front of `out`: its length. Room twice as long
-/// as the octree always suffices. Refused as [`octree_export`] is.
+/// The merged expression of such an octree, reduced or not, written to the front of `out`: its length. Room twice as
+/// long as the octree always suffices. Refused as [`octree_export`] is.
 ///
 /// ```
 /// use durbizhan::{octree_import, Universe};

@@ -93,8 +93,8 @@ pub fn pruned_raw_one(
     one_tree(face::durbizhan_pruned_raw_one, universe, rows, balls, words, work, out)
 }
 
-/// The merged expression of one tree, pruned, written to the front of `out`: as [`merged_one`](crate::merged_one) writes
-/// it. Work room and refusals are those of [`pruned_raw_one`].
+/// The merged expression of one tree, pruned, written to the front of `out`: as [`merged_one`](crate::merged_one)
+/// writes it. Work room and refusals are those of [`pruned_raw_one`].
 ///
 /// ```
 /// use durbizhan::{halfspace, pruned_merged_one, Universe, UNION};
@@ -157,8 +157,8 @@ fn two_trees(
 }
 
 /// The raw expression of two trees intersected, pruned, written to the front of `out`: as [`raw_two`](crate::raw_two)
-/// writes it. The words of both trees count for the work room of [`pruned_raw_one`], and the second tree is judged behind
-/// the first.
+/// writes it. The words of both trees count for the work room of [`pruned_raw_one`], and the second tree is judged
+/// behind the first.
 ///
 /// ```
 /// use durbizhan::{halfspace, pruned_raw_two, Pruned, Universe, BLACK};

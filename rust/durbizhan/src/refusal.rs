@@ -16,8 +16,8 @@ const BAD_PROXY: u64 = 10;
 const BAD_KEYS: u64 = 11;
 const BAD_STEP: u64 = 12;
 
-/// Why a call was refused: a variant for each number of rule 8.1. What stands beside the numbers there says where each is
-/// given.
+/// Why a call was refused: a variant for each number of rule 8.1. What stands beside the numbers there says where each
+/// is given.
 ///
 /// ```
 /// use durbizhan::{room, Refusal, Universe};

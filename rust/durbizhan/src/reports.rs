@@ -13,8 +13,8 @@ pub struct Report {
     pub total: u64,
 }
 
-/// The black voxels of each frame of a window, summed over a list of up to 256 expressions that stand one straight after
-/// another: one count for each frame, set at the front of `counts`.
+/// The black voxels of each frame of a window, summed over a list of up to 256 expressions that stand one straight
+/// after another: one count for each frame, set at the front of `counts`.
 ///
 /// Refused, in this order: [`Refusal::BadUniverse`], [`Refusal::BadExpression`], [`Refusal::Outside`],
 /// [`Refusal::NoRoom`].
