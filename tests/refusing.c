@@ -1,7 +1,7 @@
 /* tests/refusing.c: stands in for the library where an example is to meet every refusal. The room question and the
  * verdict return the numbers that ROOM_NUMBER and VERDICT_NUMBER name in the environment, and the question for an
- * expression's numbers that of NUMBERS_NUMBER; as with the library, all else of a refused answer is zero, which is Clear,
- * and on NO_ROOM the length needed is 77. Accepted, room is ROOM and the verdict is Clear.
+ * expression's numbers that of NUMBERS_NUMBER; as with the library, all else of a refused answer is zero, which is
+ * Clear, and on NO_ROOM the length needed is 77. Accepted, room is ROOM and the verdict is Clear.
  */
 #include <stdlib.h>
 #include <string.h>

@@ -608,8 +608,8 @@ fn length_of(number: u64, answer: [u64; 1]) -> Result<usize, Refusal> {
     }
 }
 
-/// Scenes for conversions, with the number that the first tree, and both trees, then have and the room that is lent. The
-/// example's intersection takes 13 symbols, raw and merged; its first tree takes 23 raw and 19 merged.
+/// Scenes for conversions, with the number that the first tree, and both trees, then have and the room that is lent.
+/// The example's intersection takes 13 symbols, raw and merged; its first tree takes 23 raw and 19 merged.
 fn conversions() -> Vec<(u64, Scene, usize)> {
     vec![
         (0, example(), 100),
@@ -777,7 +777,8 @@ fn well_formeds() {
     for (wanted, [axes, bits, frame_bits], expression) in cases {
         let number = face::well_formed(axes, bits, frame_bits, expression);
         let faced = if number == ACCEPTED { Ok(()) } else { Err(refused(number, 0)) };
-        held("well_formed", wanted, number, durbizhan::well_formed(Universe { axes, bits, frame_bits }, expression), faced);
+        let universe = Universe { axes, bits, frame_bits };
+        held("well_formed", wanted, number, durbizhan::well_formed(universe, expression), faced);
     }
     all_tried(WELL_FORMED, cases.map(|case| case.0));
 }

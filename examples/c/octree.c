@@ -5,8 +5,8 @@
  *   gcc -std=c11 -Wall -Wextra -Iinclude examples/c/octree.c target/staticlib/libexport.a -o target/octree-c
  *   target/octree-c 2 examples/solid.octree
  *
- * The first word is the bits of each of the three axes. It prints the expression, which is in examples/solid.expression,
- * and the octree again:
+ * The first word is the bits of each of the three axes. It prints the expression, which is in
+ * examples/solid.expression, and the octree again:
  *
  *   (B(((((BWWWWW
  *   PFFFFPFEEEEEEEEEE

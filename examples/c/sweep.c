@@ -1,6 +1,6 @@
-/* The space that a mover sweeps, for whoever builds a set: tree 1 of a scene file, converted, swept along the frame axis
- * and written as a shape file. At the repository's top, on x86-64 (on another processor `tests/native` builds the archive,
- * as target/native/libexport.a):
+/* The space that a mover sweeps, for whoever builds a set: tree 1 of a scene file, converted, swept along the frame
+ * axis and written as a shape file. At the repository's top, on x86-64 (on another processor `tests/native` builds the
+ * archive, as target/native/libexport.a):
  *
  *   rt staticlib export
  *   gcc -std=c11 -Wall -Wextra -Iinclude examples/c/sweep.c target/staticlib/libexport.a -o target/sweep-c

@@ -84,7 +84,8 @@ int judge()
     std::cout << "axes " << universe.axes << " bits " << universe.bits << "\n";
     std::cout << "leaves " << leaves << " raw " << length << " room " << room.value() << "\n";
     if (verdict)
-        std::cout << "hit first " << verdict->first << " last " << verdict->last << " voxels " << verdict->voxels << "\n";
+        std::cout << "hit first " << verdict->first << " last " << verdict->last << " voxels " << verdict->voxels
+                  << "\n";
     else
         std::cout << "clear\n";
     return 0;

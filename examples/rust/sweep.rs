@@ -1,6 +1,6 @@
-//! The space that a mover sweeps, for whoever builds a set: tree 1 of a scene file, converted, swept along the frame axis
-//! and written as a shape file, through the crate in rust/durbizhan. At the repository's top, on x86-64 (on another
-//! processor `tests/native` builds the archive, as target/native/libexport.a):
+//! The space that a mover sweeps, for whoever builds a set: tree 1 of a scene file, converted, swept along the frame
+//! axis and written as a shape file, through the crate in rust/durbizhan. At the repository's top, on x86-64 (on
+//! another processor `tests/native` builds the archive, as target/native/libexport.a):
 //!
 //! ```sh
 //! rt staticlib export
