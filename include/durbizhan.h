@@ -12,8 +12,8 @@
  * always written, whole. What the caller owes:
  * each pointer is aligned and points to as many elements as are said, no pointer is NULL, that of an empty buffer
  * neither, and what a call writes to overlaps nothing else of that call. No function keeps a pointer or allocates; a
- * conversion, a verdict or durbizhan_contacts takes up to STACK_CONVERSION bytes of the stack, durbizhan_lines,
- * durbizhan_mover and durbizhan_sweep up to STACK_MOST, any other function up to STACK_OTHER.
+ * conversion, a verdict, an answer at once or durbizhan_contacts takes up to STACK_CONVERSION bytes of the stack,
+ * durbizhan_lines, durbizhan_mover and durbizhan_sweep up to STACK_MOST, any other function up to STACK_OTHER.
  * Threads: the library has no state, so any number of them may call it at once, each with what it lends itself.
  *
  * axes, bits, frame_bits: a universe of 1 to 4 axes. The last counts frames, of which there are 2^frame_bits, 0 to 12
@@ -141,8 +141,8 @@
 #define DURBIZHAN_MOST_LINES_SYMBOLS 32768
 #define DURBIZHAN_SHAPE_HEADER_LENGTH 12
 #define DURBIZHAN_MOST_SHAPE_SYMBOLS 4294967295
-/* The stack that a call takes, in bytes: a conversion, a verdict or durbizhan_contacts; any function; any other one
- * than those and durbizhan_lines, durbizhan_mover and durbizhan_sweep. */
+/* The stack that a call takes, in bytes: a conversion, a verdict, an answer at once or durbizhan_contacts; any
+ * function; any other one than those and durbizhan_lines, durbizhan_mover and durbizhan_sweep. */
 #define DURBIZHAN_STACK_CONVERSION 81920
 #define DURBIZHAN_STACK_MOST 131072
 #define DURBIZHAN_STACK_OTHER 16384
@@ -166,6 +166,17 @@
 #define DURBIZHAN_VERDICT_VOXELS 3
 #define DURBIZHAN_VERDICT_LENGTH 4
 #define DURBIZHAN_VERDICT_ANSWER 5
+/* durbizhan_verdict_at_once */
+#define DURBIZHAN_VERDICT_AT_ONCE_HIT 0
+#define DURBIZHAN_VERDICT_AT_ONCE_FIRST 1
+#define DURBIZHAN_VERDICT_AT_ONCE_LAST 2
+#define DURBIZHAN_VERDICT_AT_ONCE_VOXELS 3
+#define DURBIZHAN_VERDICT_AT_ONCE_ANSWER 4
+/* durbizhan_ends_at_once */
+#define DURBIZHAN_ENDS_AT_ONCE_HIT 0
+#define DURBIZHAN_ENDS_AT_ONCE_FIRST 1
+#define DURBIZHAN_ENDS_AT_ONCE_LAST 2
+#define DURBIZHAN_ENDS_AT_ONCE_ANSWER 3
 /* durbizhan_contacts */
 #define DURBIZHAN_CONTACTS_SURE 0
 #define DURBIZHAN_CONTACTS_CENTRE 1
@@ -340,6 +351,30 @@ uint64_t durbizhan_verdict(uint64_t axes, uint64_t bits, uint64_t frame_bits,
                            uint64_t first_frame, uint64_t last_frame,
                            uint8_t *out, size_t out_count,
                            uint64_t answer[DURBIZHAN_VERDICT_ANSWER]);
+
+/* The verdict of durbizhan_verdict at once: no room is lent, and no expression is written.
+ *   answer   VERDICT_AT_ONCE_HIT: CLEAR or HIT. Read the number first: a refused verdict is Clear
+ *            VERDICT_AT_ONCE_FIRST, VERDICT_AT_ONCE_LAST, VERDICT_AT_ONCE_VOXELS: as of durbizhan_verdict
+ *   refused  BAD_UNIVERSE, BAD_ROWS, BAD_TREE or OVERFULL_TREE, OUTSIDE */
+uint64_t durbizhan_verdict_at_once(uint64_t axes, uint64_t bits, uint64_t frame_bits,
+                                   const int64_t *rows, size_t rows_count,
+                                   const int64_t *balls, size_t balls_count,
+                                   const uint16_t *first, size_t first_count,
+                                   const uint16_t *second, size_t second_count,
+                                   uint64_t first_frame, uint64_t last_frame,
+                                   uint64_t answer[DURBIZHAN_VERDICT_AT_ONCE_ANSWER]);
+
+/* The ends of that verdict alone, at once: nothing is counted, and a block is entered only where it could better them.
+ *   answer   ENDS_AT_ONCE_HIT: CLEAR or HIT. Read the number first: a refused answer is Clear
+ *            ENDS_AT_ONCE_FIRST, ENDS_AT_ONCE_LAST: the first and the last frame, as of durbizhan_verdict
+ *   refused  BAD_UNIVERSE, BAD_ROWS, BAD_TREE or OVERFULL_TREE, OUTSIDE */
+uint64_t durbizhan_ends_at_once(uint64_t axes, uint64_t bits, uint64_t frame_bits,
+                                const int64_t *rows, size_t rows_count,
+                                const int64_t *balls, size_t balls_count,
+                                const uint16_t *first, size_t first_count,
+                                const uint16_t *second, size_t second_count,
+                                uint64_t first_frame, uint64_t last_frame,
+                                uint64_t answer[DURBIZHAN_ENDS_AT_ONCE_ANSWER]);
 
 /* How much two trees share of a window, counted in voxels. These never decrease in this order. Where the last is 0,
  * no point of these voxels lies strictly inside both trees: on the inner side of their planes and off them, in their

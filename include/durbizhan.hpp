@@ -159,6 +159,9 @@ struct Hit {
 // Clear is no hit.
 using Verdict = std::optional<Hit>;
 
+// The ends of a verdict: the first and the last frame that has a black voxel, both ends in; Clear is none.
+using Ends = std::optional<Window>;
+
 // A verdict, and how many symbols of its raw expression were written.
 struct Clearance {
     Verdict verdict;
@@ -381,6 +384,29 @@ inline Result<Clearance> verdict(Universe universe, Rows rows, Balls balls, Word
         first.data(), first.size(), second.data(), second.size(), window.first, window.last, out.data(), out.size(),
         answer);
     return detail::clearance_of(number, answer);
+}
+
+inline Result<Verdict> verdict_at_once(Universe universe, Rows rows, Balls balls, Words first, Words second,
+                                       Window window)
+{
+    std::uint64_t answer[DURBIZHAN_VERDICT_AT_ONCE_ANSWER];
+    const std::uint64_t number = durbizhan_verdict_at_once(
+        universe.axes, universe.bits, universe.frame_bits, rows.data(), rows.size(), balls.data(), balls.size(),
+        first.data(), first.size(), second.data(), second.size(), window.first, window.last, answer);
+    if (number != DURBIZHAN_ACCEPTED) return detail::refused(number);
+    return detail::verdict_of(answer[DURBIZHAN_VERDICT_AT_ONCE_HIT], answer[DURBIZHAN_VERDICT_AT_ONCE_FIRST],
+                              answer[DURBIZHAN_VERDICT_AT_ONCE_LAST], answer[DURBIZHAN_VERDICT_AT_ONCE_VOXELS]);
+}
+
+inline Result<Ends> ends_at_once(Universe universe, Rows rows, Balls balls, Words first, Words second, Window window)
+{
+    std::uint64_t answer[DURBIZHAN_ENDS_AT_ONCE_ANSWER];
+    const std::uint64_t number = durbizhan_ends_at_once(
+        universe.axes, universe.bits, universe.frame_bits, rows.data(), rows.size(), balls.data(), balls.size(),
+        first.data(), first.size(), second.data(), second.size(), window.first, window.last, answer);
+    if (number != DURBIZHAN_ACCEPTED) return detail::refused(number);
+    if (answer[DURBIZHAN_ENDS_AT_ONCE_HIT] == DURBIZHAN_CLEAR) return Ends{};
+    return Ends{{answer[DURBIZHAN_ENDS_AT_ONCE_FIRST], answer[DURBIZHAN_ENDS_AT_ONCE_LAST]}};
 }
 
 inline Result<Contacts> contacts(Universe universe, Rows rows, Balls balls, Words first, Words second,

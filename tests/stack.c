@@ -132,6 +132,20 @@ static void verdict(void)
     answer[0] = answer[4];
 }
 
+static void verdict_at_once(void)
+{
+    number = durbizhan_verdict_at_once(scene.axes, scene.bits, scene.frame_bits, scene.rows, scene.rows_count,
+                                       scene.balls, scene.balls_count, scene.first, scene.first_count,
+                                       scene.second, scene.second_count, 0, last_frame, answer);
+}
+
+static void ends_at_once(void)
+{
+    number = durbizhan_ends_at_once(scene.axes, scene.bits, scene.frame_bits, scene.rows, scene.rows_count,
+                                    scene.balls, scene.balls_count, scene.first, scene.first_count,
+                                    scene.second, scene.second_count, 0, last_frame, answer);
+}
+
 static void contacts(void)
 {
     number = durbizhan_contacts(scene.axes, scene.bits, scene.frame_bits, scene.rows, scene.rows_count,
@@ -370,6 +384,21 @@ static void contact_counts(void)
     }
     expect("some of the strip is sure, and more is possible", answer[0] < answer[2], 1);
     refused_runs(contacts, 1);
+    end();
+}
+
+/* The calls of an answer at once. */
+static void answers_at_once(const char *named, void (*call)(void))
+{
+    const struct scene deep[] = DEEP_RUNS;
+    begin(named);
+    last_frame = FRAMES - 1;
+    for (size_t i = 0; i < COUNT(deep); i++) {
+        scene = deep[i];
+        take(call, DURBIZHAN_ACCEPTED);
+        expect("a deep run is a hit", answer[0], DURBIZHAN_HIT);
+    }
+    refused_runs(call, 1);
     end();
 }
 
@@ -671,6 +700,8 @@ int main(void)
     conversions("durbizhan_pruned_merged_one", pruned_merged_one, 1);
     conversions("durbizhan_pruned_merged_two", pruned_merged_two, 1);
     conversions("durbizhan_verdict", verdict, 0);
+    answers_at_once("durbizhan_verdict_at_once", verdict_at_once);
+    answers_at_once("durbizhan_ends_at_once", ends_at_once);
     contact_counts();
     begin("durbizhan_well_formed");
     questions(well_formed, DURBIZHAN_ACCEPTED, DURBIZHAN_ACCEPTED);

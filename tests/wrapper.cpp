@@ -278,24 +278,35 @@ void verdicts()
     tried.all({0, 2, 3, 4, 5, 6, 9});
 }
 
-void contacts()
+// A question to which no room is lent, so that no case is refused for it.
+template <std::size_t places, class Wrapped, class Face, class Same>
+void without_room(const char *name, Wrapped wrapped, Face face, Same same)
 {
-    Tried tried{"contacts", {}};
+    Tried tried{name, {}};
     for (auto &[wanted, scene, lent] : windowed()) {
         const auto &[universe, rows, balls, first, second, window] = scene;
-        std::uint64_t answer[DURBIZHAN_CONTACTS_ANSWER];
-        const std::uint64_t number = durbizhan_contacts(
-            universe.axes, universe.bits, universe.frame_bits, at(rows), rows.size(), at(balls), balls.size(),
-            at(first), first.size(), at(second), second.size(), window.first, window.last, answer);
+        std::uint64_t answer[places];
+        const std::uint64_t number =
+            face(universe.axes, universe.bits, universe.frame_bits, at(rows), rows.size(), at(balls), balls.size(),
+                 at(first), first.size(), at(second), second.size(), window.first, window.last, answer);
         tried.held(wanted == DURBIZHAN_NO_ROOM ? 0 : wanted, number, 0,
-                   durbizhan::contacts(universe, rows, balls, first, second, window),
-                   [&](const durbizhan::Contacts &found) {
-                       return found.sure == answer[DURBIZHAN_CONTACTS_SURE] &&
-                              found.centre == answer[DURBIZHAN_CONTACTS_CENTRE] &&
-                              found.possible == answer[DURBIZHAN_CONTACTS_POSSIBLE];
-                   });
+                   wrapped(universe, rows, balls, first, second, window),
+                   [&](const auto &found) { return same(found, answer); });
     }
     tried.all({0, 2, 3, 4, 5, 9});
+}
+
+bool is_contacts(const durbizhan::Contacts &found, const std::uint64_t *answer)
+{
+    return found.sure == answer[DURBIZHAN_CONTACTS_SURE] && found.centre == answer[DURBIZHAN_CONTACTS_CENTRE] &&
+           found.possible == answer[DURBIZHAN_CONTACTS_POSSIBLE];
+}
+
+bool is_ends(const durbizhan::Ends &ends, const std::uint64_t *answer)
+{
+    if (!ends) return answer[DURBIZHAN_ENDS_AT_ONCE_HIT] == DURBIZHAN_CLEAR;
+    return answer[DURBIZHAN_ENDS_AT_ONCE_HIT] == DURBIZHAN_HIT && ends->first == answer[DURBIZHAN_ENDS_AT_ONCE_FIRST] &&
+           ends->last == answer[DURBIZHAN_ENDS_AT_ONCE_LAST];
 }
 
 // A cube that comes from -3 in one frame and stands at 1 for two, unless changed.
@@ -690,7 +701,11 @@ int main()
     pruned_two("pruned_raw_two", durbizhan::pruned_raw_two, durbizhan_pruned_raw_two);
     pruned_two("pruned_merged_two", durbizhan::pruned_merged_two, durbizhan_pruned_merged_two);
     verdicts();
-    contacts();
+    without_room<DURBIZHAN_VERDICT_AT_ONCE_ANSWER>("verdict_at_once", durbizhan::verdict_at_once,
+                                                   durbizhan_verdict_at_once, is_verdict);
+    without_room<DURBIZHAN_ENDS_AT_ONCE_ANSWER>("ends_at_once", durbizhan::ends_at_once, durbizhan_ends_at_once,
+                                                is_ends);
+    without_room<DURBIZHAN_CONTACTS_ANSWER>("contacts", durbizhan::contacts, durbizhan_contacts, is_contacts);
     movers();
     well_formeds();
     numbers();

@@ -6,7 +6,7 @@
 mod face;
 
 use durbizhan::{
-    Clearance, Colour, Contacts, Key, Merged, Numbers, Pruned, Refusal, Report, Shape, Universe, Verdict, Window,
+    Clearance, Colour, Contacts, Ends, Key, Merged, Numbers, Pruned, Refusal, Report, Shape, Universe, Verdict, Window,
 };
 
 const ACCEPTED: u64 = 0;
@@ -16,7 +16,7 @@ const NO_ROOM: u64 = 6;
 const ROOM: &[u64] = &[0, 2];
 const CONVERSION: &[u64] = &[0, 2, 3, 4, 5, 6];
 const VERDICT: &[u64] = &[0, 2, 3, 4, 5, 6, 9];
-const CONTACTS: &[u64] = &[0, 2, 3, 4, 5, 9];
+const WITHOUT_ROOM: &[u64] = &[0, 2, 3, 4, 5, 9];
 const MOVER: &[u64] = &[0, 2, 3, 4, 5, 6, 10, 11, 12];
 const WELL_FORMED: &[u64] = &[0, 2, 7];
 const READING: &[u64] = &[0, 2, 7, 9];
@@ -320,6 +320,64 @@ fn movers() {
     all_tried(MOVER, cases.iter().map(|case| case.0));
 }
 
+/// The verdict of a scene's trees at once.
+fn verdict_at_once(wanted: u64, scene: &Scene) {
+    let Scene { axes, bits, frame_bits, rows, balls, first, second, window, .. } = scene.clone();
+    let [first_frame, last_frame] = window;
+    let universe = Universe { axes, bits, frame_bits };
+    let window = Window { first: first_frame, last: last_frame };
+    let wrapped = durbizhan::verdict_at_once(universe, &rows, &balls, &first, &second, window);
+    let mut answer = [u64::MAX; 4];
+    let number = face::verdict_at_once(
+        axes,
+        bits,
+        frame_bits,
+        &rows,
+        &balls,
+        &first,
+        &second,
+        first_frame,
+        last_frame,
+        &mut answer,
+    );
+    let faced = match (number, answer) {
+        (ACCEPTED, [0, 0, 0, 0]) => Ok(Verdict::Clear),
+        (ACCEPTED, [1, first, last, voxels]) => Ok(Verdict::Hit { first, last, voxels }),
+        (number, [0, 0, 0, 0]) => Err(refused(number, 0)),
+        _ => panic!("verdict_at_once: number {number}, answer {answer:?}"),
+    };
+    held("verdict_at_once", wanted, number, wrapped, faced);
+}
+
+/// The ends of that verdict.
+fn ends_at_once(wanted: u64, scene: &Scene) {
+    let Scene { axes, bits, frame_bits, rows, balls, first, second, window, .. } = scene.clone();
+    let [first_frame, last_frame] = window;
+    let universe = Universe { axes, bits, frame_bits };
+    let window = Window { first: first_frame, last: last_frame };
+    let wrapped = durbizhan::ends_at_once(universe, &rows, &balls, &first, &second, window);
+    let mut answer = [u64::MAX; 3];
+    let number = face::ends_at_once(
+        axes,
+        bits,
+        frame_bits,
+        &rows,
+        &balls,
+        &first,
+        &second,
+        first_frame,
+        last_frame,
+        &mut answer,
+    );
+    let faced = match (number, answer) {
+        (ACCEPTED, [0, 0, 0]) => Ok(Ends::Clear),
+        (ACCEPTED, [1, first, last]) => Ok(Ends::Hit { first, last }),
+        (number, [0, 0, 0]) => Err(refused(number, 0)),
+        _ => panic!("ends_at_once: number {number}, answer {answer:?}"),
+    };
+    held("ends_at_once", wanted, number, wrapped, faced);
+}
+
 /// Sure and possible contact of a scene's trees.
 fn contact(wanted: u64, scene: &Scene) {
     let Scene { axes, bits, frame_bits, rows, balls, first, second, window, .. } = scene.clone();
@@ -348,15 +406,18 @@ fn contact(wanted: u64, scene: &Scene) {
     held("contacts", wanted, number, wrapped, faced);
 }
 
+/// What takes a scene, and no room.
 #[test]
-fn contacts() {
+fn without_room() {
     let mut cases = scenes();
     // balls that are not in fours, which no file says
     cases.extend([1, 2, 3, 5].map(|count| (3, Scene { balls: vec![0; count], ..example() })));
     for (wanted, scene) in &cases {
         contact(*wanted, scene);
+        verdict_at_once(*wanted, scene);
+        ends_at_once(*wanted, scene);
     }
-    all_tried(CONTACTS, cases.iter().map(|case| case.0));
+    all_tried(WITHOUT_ROOM, cases.iter().map(|case| case.0));
 }
 
 #[test]

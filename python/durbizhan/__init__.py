@@ -17,13 +17,14 @@ word and limit of include/durbizhan.h stands here under its own name, without th
 are fields of what comes back; `durbizhan.face` says what is lent and what comes back, `durbizhan.refusals` what is
 raised, `durbizhan.library` where the shared library is looked for.
 """
-from .answers import Clear, Clearance, Contacts, Hit, Merged, Numbers, Part, Pruned, Report, Verdict, Window
+from .answers import Clear, Clearance, Contacts, Ends, Hit, Merged, Numbers, Part, Pruned, Report, Span, Verdict, Window
 from .face import (
     balls,
     box,
     colour,
     contacts,
     cut,
+    ends_at_once,
     leaves,
     lines,
     merge,
@@ -46,6 +47,7 @@ from .face import (
     shape_write,
     sweep,
     verdict,
+    verdict_at_once,
     well_formed,
 )
 from .limits import (
@@ -140,16 +142,17 @@ __all__ = [
     "ACCEPTED", "BAD_EXPRESSION", "BAD_FILE", "BAD_KEYS", "BAD_PROXY", "BAD_ROWS", "BAD_STEP", "BAD_TREE",
     "BAD_UNIVERSE", "BALL_LENGTH", "BLACK", "BOX_NUMBERS", "BOX_ROWS", "BadExpression", "BadFile", "BadKeys",
     "BadProxy", "BadRows", "BadStep", "BadTree", "BadUniverse", "Box", "CENTRE_LIMIT", "CLEAR", "COEFFICIENT_LIMIT",
-    "CORNER_LENGTH", "CORNER_LIMIT", "Clear", "Clearance", "Contacts", "Cut", "FIRST_BALL", "FIRST_HALFSPACE", "HIT",
-    "Hit", "INTERSECTION", "Key", "LEAST_AXES", "LEAST_KEYS", "MINUS", "MOST_AXES", "MOST_BALLS", "MOST_BALL_NUMBERS",
-    "MOST_BITS", "MOST_EXPRESSIONS", "MOST_FRAMES", "MOST_FRAME_BITS", "MOST_KEYS", "MOST_LEVELS", "MOST_LINES_BYTES",
-    "MOST_LINES_SYMBOLS", "MOST_NUMBERS", "MOST_PENDING", "MOST_ROWS", "MOST_SCENE_BYTES", "MOST_SHAPE_SYMBOLS",
-    "MOST_STATIC_ROWS", "MOST_WORDS", "Merged", "Mover", "NODE_LENGTH", "NORMAL_LIMIT", "NOT_MERGED", "NO_ROOM",
-    "NoRoom", "NotMerged", "Numbers", "OFFSET_LIMIT", "OUTSIDE", "OVERFULL_TREE", "Outside", "OverfullTree", "Part",
-    "Pruned", "PrunedShape", "RADIUS_LIMIT", "ROW_LENGTH", "Refused", "Report", "SHAPE_HEADER_LENGTH",
-    "STACK_CONVERSION", "STACK_MOST", "STACK_OTHER", "Scene", "Shape", "UNION", "Universe", "Unknown", "VERSION",
-    "VERSION_MAJOR", "VERSION_MINOR", "Verdict", "WHITE", "Window", "ball", "balls", "box", "colour", "contacts", "cut",
-    "halfspace", "leaves", "lines", "merge", "merged_one", "merged_two", "mover", "numbers", "octree_export",
-    "octree_import", "part", "pruned_merged_one", "pruned_merged_two", "pruned_raw_one", "pruned_raw_two", "raw_one",
-    "raw_two", "report", "room", "scene", "shape_read", "shape_write", "sweep", "verdict", "well_formed",
+    "CORNER_LENGTH", "CORNER_LIMIT", "Clear", "Clearance", "Contacts", "Cut", "Ends", "FIRST_BALL", "FIRST_HALFSPACE",
+    "HIT", "Hit", "INTERSECTION", "Key", "LEAST_AXES", "LEAST_KEYS", "MINUS", "MOST_AXES", "MOST_BALLS",
+    "MOST_BALL_NUMBERS", "MOST_BITS", "MOST_EXPRESSIONS", "MOST_FRAMES", "MOST_FRAME_BITS", "MOST_KEYS", "MOST_LEVELS",
+    "MOST_LINES_BYTES", "MOST_LINES_SYMBOLS", "MOST_NUMBERS", "MOST_PENDING", "MOST_ROWS", "MOST_SCENE_BYTES",
+    "MOST_SHAPE_SYMBOLS", "MOST_STATIC_ROWS", "MOST_WORDS", "Merged", "Mover", "NODE_LENGTH", "NORMAL_LIMIT",
+    "NOT_MERGED", "NO_ROOM", "NoRoom", "NotMerged", "Numbers", "OFFSET_LIMIT", "OUTSIDE", "OVERFULL_TREE", "Outside",
+    "OverfullTree", "Part", "Pruned", "PrunedShape", "RADIUS_LIMIT", "ROW_LENGTH", "Refused", "Report",
+    "SHAPE_HEADER_LENGTH", "STACK_CONVERSION", "STACK_MOST", "STACK_OTHER", "Scene", "Shape", "Span", "UNION",
+    "Universe", "Unknown", "VERSION", "VERSION_MAJOR", "VERSION_MINOR", "Verdict", "WHITE", "Window", "ball", "balls",
+    "box", "colour", "contacts", "cut", "ends_at_once", "halfspace", "leaves", "lines", "merge", "merged_one",
+    "merged_two", "mover", "numbers", "octree_export", "octree_import", "part", "pruned_merged_one",
+    "pruned_merged_two", "pruned_raw_one", "pruned_raw_two", "raw_one", "raw_two", "report", "room", "scene",
+    "shape_read", "shape_write", "sweep", "verdict", "verdict_at_once", "well_formed",
 ]

@@ -59,12 +59,39 @@ class Hit:
         return f"hit first {self.first} last {self.last} voxels {self.voxels}"
 
 
+@dataclass(frozen=True)
+class Span:
+    """The first and the last frame of the window with a shared voxel. It is true, and `clear` is false.
+
+    >>> span = Span(1, 2)
+    >>> bool(span), span.clear, span.last, str(span)
+    (True, False, 2, 'hit first 1 last 2')
+    """
+
+    first: int
+    last: int
+    clear: ClassVar[bool] = False
+
+    def __bool__(self) -> Literal[True]:
+        return True
+
+    def __str__(self) -> str:
+        return f"hit first {self.first} last {self.last}"
+
+
 Verdict = Union[Clear, Hit]
+# the ends of a verdict
+Ends = Union[Clear, Span]
 
 
 def verdict_of(hit: int, first: int, last: int, voxels: int) -> Verdict:
     """A verdict as an answer has it: 0 is Clear."""
     return Hit(first, last, voxels) if hit else Clear()
+
+
+def ends_of(hit: int, first: int, last: int) -> Ends:
+    """The ends of a verdict as an answer has them: 0 is Clear."""
+    return Span(first, last) if hit else Clear()
 
 
 class Window(NamedTuple):

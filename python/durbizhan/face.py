@@ -21,6 +21,7 @@ from typing import Any, Callable, List, Optional, Sequence, Tuple
 from .answers import (
     Clearance,
     Contacts,
+    Ends,
     Merged,
     NumberRoom,
     Numbers,
@@ -30,8 +31,10 @@ from .answers import (
     Room,
     Row,
     Symbols,
+    Verdict,
     Whole,
     Window,
+    ends_of,
     verdict_of,
 )
 from .library import PROTOTYPES, Array, ask, call
@@ -265,6 +268,28 @@ def verdict(
     given = (*Universe(*universe), rows, balls, first, second, *Window(*window))
     answer, expression = _written("verdict", lambda: _enough(universe, first, second), *given, out=out)
     return Clearance(verdict_of(*answer[:4]), expression)
+
+
+def verdict_at_once(universe: Space, rows: Whole, balls: Whole, first: Whole, second: Whole, window: Frames) -> Verdict:
+    """The verdict of `verdict` at once: no room is lent, and no expression is written. Refused: BadUniverse, BadRows,
+    BadTree or OverfullTree, Outside.
+
+    >>> verdict_at_once((1, 0, 12), [-1, 1, 0, 0, 0], [], [256], [1], (0, 4095))
+    Hit(first=1, last=4095, voxels=4095)
+    """
+    answer = ask("verdict_at_once", *Universe(*universe), rows, balls, first, second, *Window(*window))[-1]
+    return verdict_of(*answer)
+
+
+def ends_at_once(universe: Space, rows: Whole, balls: Whole, first: Whole, second: Whole, window: Frames) -> Ends:
+    """The ends of that verdict alone, at once: nothing is counted, and a block is entered only where it could better
+    them. Refused as `verdict_at_once` is.
+
+    >>> ends_at_once((1, 0, 12), [-1, 1, 0, 0, 0], [], [256], [1], (0, 4095))
+    Span(first=1, last=4095)
+    """
+    answer = ask("ends_at_once", *Universe(*universe), rows, balls, first, second, *Window(*window))[-1]
+    return ends_of(*answer)
 
 
 def contacts(universe: Space, rows: Whole, balls: Whole, first: Whole, second: Whole, window: Frames) -> Contacts:

@@ -136,6 +136,8 @@ PROTOTYPES: Dict[str, Tuple[Parameter, ...]] = {
     "pruned_merged_one": (*ONE, WORK, OUT, answer(3, 1, 0)),
     "pruned_merged_two": (*TWO, WORK, OUT, answer(3, 1, 0)),
     "verdict": (*TWO, *WINDOW, OUT, answer(5, 4)),
+    "verdict_at_once": (*TWO, *WINDOW, answer(4)),
+    "ends_at_once": (*TWO, *WINDOW, answer(3)),
     "contacts": (*TWO, *WINDOW, answer(3)),
     "mover": (
         *UNIVERSE,

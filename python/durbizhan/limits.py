@@ -60,8 +60,8 @@ MOST_LINES_SYMBOLS = 32768
 SHAPE_HEADER_LENGTH = 12
 MOST_SHAPE_SYMBOLS = 4294967295
 
-# the stack that a call takes, in bytes: a conversion, a verdict or `contacts`; any function; any other one than those
-# and `lines`, `mover` and `sweep`
+# the stack that a call takes, in bytes: a conversion, a verdict, an answer at once or `contacts`; any function; any
+# other one than those and `lines`, `mover` and `sweep`
 STACK_CONVERSION = 81920
 STACK_MOST = 131072
 STACK_OTHER = 16384

@@ -6,7 +6,7 @@ from dataclasses import dataclass
 from typing import NamedTuple, Optional, Tuple
 
 from . import face
-from .answers import Contacts, NumberRoom, Pruned, Room, Symbols, Verdict, Whole, Window
+from .answers import Contacts, Ends, NumberRoom, Pruned, Room, Symbols, Verdict, Whole, Window
 from .library import ask
 from .limits import BALL_LENGTH, ROW_LENGTH
 from .shapes import Shape
@@ -71,6 +71,15 @@ class Scene:
         """Whether the two trees share space in the window; `out` gets their raw expression. Refused: BadUniverse,
         BadRows, BadTree or OverfullTree, Outside, NoRoom."""
         return face.verdict(*self._surfaces(), self.first, self.second, self.window, out).verdict
+
+    def verdict_at_once(self) -> Verdict:
+        """The same verdict at once, with no expression written. Refused: BadUniverse, BadRows, BadTree or OverfullTree,
+        Outside."""
+        return face.verdict_at_once(*self._surfaces(), self.first, self.second, self.window)
+
+    def ends(self) -> Ends:
+        """The first and the last frame of that verdict alone, at once. Refused as `verdict_at_once` is."""
+        return face.ends_at_once(*self._surfaces(), self.first, self.second, self.window)
 
     def contacts(self) -> Contacts:
         """Sure and possible contact in the window. Refused: BadUniverse, BadRows, BadTree or OverfullTree, Outside."""

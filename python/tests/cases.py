@@ -25,6 +25,7 @@ from durbizhan import (
     Part,
     Pruned,
     Report,
+    Span,
     Universe,
 )
 
@@ -110,12 +111,19 @@ def unconverted():
 
 
 def judged():
-    """Verdicts, and sure and possible contact."""
+    """Verdicts, in lent room and at once, and sure and possible contact."""
     both = (PLANE, ROWS, [], FIRST, SECOND)
     yield "verdict", (*both, ALL), Clearance(Hit(1, 2, 2), MET)
     yield "verdict", (*both, (2, 2)), Clearance(Hit(2, 2, 1), MET)
     yield "verdict", (*both, (3, 3)), Clearance(Clear(), MET)
     yield "verdict", (LINE, FROM_ONE, [0, 0, 0, 0], [256], [512], (0, 3)), Clearance(Hit(1, 3, 3), SPAN)
+    for window, hit in ((ALL, (1, 2, 2)), ((2, 2), (2, 2, 1))):
+        yield "verdict_at_once", (*both, window), Hit(*hit)
+        yield "ends_at_once", (*both, window), Span(*hit[:2])
+    yield "verdict_at_once", (*both, (3, 3)), Clear()
+    yield "ends_at_once", (*both, (3, 3)), Clear()
+    yield "verdict_at_once", (LINE, FROM_ONE, [0, 0, 0, 0], [256], [512], (0, 3)), Hit(1, 3, 3)
+    yield "ends_at_once", (LINE, FROM_ONE, [0, 0, 0, 0], [512], [256], (0, 3)), Span(1, 3)
     yield "contacts", (*both, ALL), Contacts(0, 2, 2)
     yield "contacts", (*both, (0, 0)), Contacts(0, 0, 0)
     yield "contacts", (LINE, FROM_ONE, [0, 0, 0, 0], [512], [256], (0, 3)), Contacts(3, 3, 3)
@@ -123,8 +131,8 @@ def judged():
 
 
 def unjudged():
-    """What verdicts and contacts refuse."""
-    for name in ("verdict", "contacts"):
+    """What verdicts, answers at once and contacts refuse."""
+    for name in ("verdict", "verdict_at_once", "ends_at_once", "contacts"):
         yield from ((name, (universe, FROM_ONE, [], [256], [1], (0, 0)), BadUniverse) for universe in UNIVERSES)
         yield from ((name, (LINE, rows, [], [256], [1], (0, 3)), kind) for kind, rows in PAST["rows"])
         yield from ((name, (LINE, FROM_ONE, balls, [256], [1], (0, 3)), kind) for kind, balls in PAST["balls"])

@@ -7,7 +7,7 @@ import threading
 import unittest
 
 import durbizhan
-from durbizhan import Box, Clear, Cut, Hit, Key, Mover, Scene, Shape, Universe, Window
+from durbizhan import Box, Clear, Cut, Hit, Key, Mover, Scene, Shape, Span, Universe, Window
 
 from .cases import EXAMPLES, FIRST, LINE, MET, PLANE, ROWS, SECOND, SPAN, scene_file
 
@@ -124,12 +124,16 @@ class Scenes(unittest.TestCase):
             first += "" if scene.version == 1 else f" frame {scene.universe.frame_bits}"
             second = f"leaves {scene.leaves()} raw {len(scene.raw().expression)} room {scene.room()}"
             self.assertEqual(f"{first}\n{second}\n{scene.verdict()}\n", durbizhan.lines(file), name)
+            verdict = scene.verdict()
+            self.assertEqual(scene.verdict_at_once(), verdict, name)
+            self.assertEqual(scene.ends(), Span(verdict.first, verdict.last) if verdict else Clear(), name)
 
     def test_what_the_readme_says(self):
         self.assertEqual(example("sleeve").verdict(), Hit(9, 9, 16))
         self.assertEqual(len(example("sleeve").raw().expression), 299)
         self.assertLess(len(example("sleeve").merged().expression), 299)
         self.assertEqual(example("sleeve").contacts(), (0, 16, 16))
+        self.assertEqual(example("sleeve").ends(), Span(9, 9))
         self.assertEqual(example("sleeve-shorter").verdict(), Clear())
         self.assertEqual(example("sleeve-shorter").contacts(), (0, 0, 0))
         self.assertEqual(example("two-heads").verdict(), Hit(4, 11, 32))

@@ -20,6 +20,7 @@ from .cases import EXAMPLES, TOP
 MODULES = [durbizhan, *(thing for thing in vars(durbizhan).values() if inspect.ismodule(thing))]
 # what each example is run on
 HELD = {
+    "answers": [EXAMPLES / "sleeve.scene"],
     "clear": [],
     "contacts": [EXAMPLES / "keyed.scene"],
     "mover": [EXAMPLES / "mover.keys"],
@@ -175,6 +176,10 @@ class Examples(unittest.TestCase):
             ("report", [prop, sleeve], f"{sleeve} is of another universe or window\n", 1),
             ("report", [prop, EXAMPLES / "sleeve.txt"], "refused 1\n", 1),
             ("report", [EXAMPLES / "missing"], "", 1),
+            ("answers", [EXAMPLES / "sleeve-shorter.scene"], "verdict clear\nends    clear\n", 0),
+            ("answers", [EXAMPLES / "sleeve.txt"], "refused 1\n", 1),
+            ("answers", [EXAMPLES / "missing"], "", 1),
+            ("answers", [], "", 2),
             ("contacts", [EXAMPLES / "sleeve.txt"], "refused 1\n", 1),
             ("contacts", [EXAMPLES / "missing"], "", 1),
             ("contacts", [], "", 2),

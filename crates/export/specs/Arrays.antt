@@ -19,6 +19,9 @@ use Rattle.bintree.specs.declared.Placed.{Placed}
 use Rattle.convert.specs.declared.counting.Contacts.{Contacts}
 use Rattle.convert.specs.declared.verdict.Clearance.{Clearance}
 use Rattle.pruned.specs.declared.answer.Conversion.{Conversion}
+use Rattle.at_once.specs.declared.answer.Judged.{Judged}
+use Rattle.at_once.specs.declared.answer.Span as spans
+use Rattle.at_once.specs.declared.answer.Spanned.{Spanned}
 use Rattle.files.specs.declared.Scene.{Scene}
 use Rattle.files.specs.declared.ShapeRead.{ShapeRead}
 use Rattle.report.specs.declared.Report.{Report}
@@ -27,6 +30,7 @@ use Rattle.standin.specs.declared.Triple.{Triple}
 use Rattle.standin.specs.declared.Solid.the-variants.{Box, Cut}
 use Rattle.standin.specs.declared.Proxy.{Proxy}
 use Rattle.export.specs.declared.verdicts.Told.{Told}
+use Rattle.export.specs.declared.answers.Ends.{Ends}
 
 -- a universe of its three numbers
 abbrev pub universeOf : ℕ → ℕ → ℕ → Universe
@@ -61,6 +65,17 @@ toldOf (Hit contact) = record { hit = 1; first = contact .first; last = contact 
 abbrev pub clearanceArray : Clearance → List ℕ
 clearanceArray a =
     let told = toldOf (a .verdict) in told .hit ∷ told .first ∷ told .last ∷ told .voxels ∷ a .length ∷ []
+
+-- rule 17.1: a verdict at once, and its ends as hit (0 Clear, 1 Hit), first frame and last frame
+abbrev pub judgedArray : Judged → List ℕ
+judgedArray a = let told = toldOf (a .verdict) in told .hit ∷ told .first ∷ told .last ∷ told .voxels ∷ []
+
+abbrev pub endsOf : spans.Span → Ends
+endsOf spans.the-variants.Clear = record { hit = 0; first = 0; last = 0 }
+endsOf (spans.the-variants.Hit first last) = record { hit = 1; first = first; last = last }
+
+abbrev pub spannedArray : Spanned → List ℕ
+spannedArray a = let ends = endsOf (a .span) in ends .hit ∷ ends .first ∷ ends .last ∷ []
 
 -- rule 14.2: the voxels that are sure, those that are black at their centre, and those that are possible
 abbrev pub contactsArray : Contacts → List ℕ

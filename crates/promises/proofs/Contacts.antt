@@ -30,7 +30,7 @@ use Rattle.promises.proofs.Located.{point-held}
 use Rattle.promises.proofs.Promises.{accepts, window-accepted, verdict-passed, verdict-is}
 
 module _ (u : Universe) (surfaces : Surfaces) (first second : List ℕ) (from to : ℕ) where
-  never : clearanceRefusal u surfaces first second from to ≡ noRoom → ⊥
+  pub never : clearanceRefusal u surfaces first second from to ≡ noRoom → ⊥
   unfolding clearanceChecks twoTreesChecks windowRefusal
   never =
       first-not noRoom

@@ -12,5 +12,6 @@ pub mod Octrees
 pub mod Located
 pub mod Never
 pub mod Contacts
+pub mod AtOnce
 pub mod Pruned
 pub mod Movers

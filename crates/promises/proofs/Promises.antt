@@ -2,12 +2,15 @@
 -- question and the colour question answer. `Promised` (specs/Promises.antt) lists it. Demands 2 and 3 give it, by way of what the contracts fix.
 use Prim.Native.Nat.{ℕ, _+_, _≤_}
 use mathlib.Core.Path.{_≡_, refl, sym, ap, ap₂, _∙_}
+use mathlib.Core.Bool.{Bool, true, false}
 use mathlib.Core.List.{List, [], _∷_}
 use native.Mathlib.Omega.{arith}
 use native.Mathlib.Decide.{ℕ-discrete}
 use borrow.Author.Tests.{eq-eqb, ne-eqb}
+use lib.Dec.{leb}
 use lib.ListN.{length}
 use Rattle.universe.specs.declared.Universe.{Universe}
+use Rattle.universe.specs.Refusals.{noRoom}
 use Rattle.universe.specs.Universe.{universeRefusal}
 use Rattle.universe.specs.Voxel.{windowRefusal}
 use Rattle.bintree.specs.declared.Colour.{Colour}
@@ -158,6 +161,19 @@ passed before out written e = go (ℕ-discrete before 0)
     go (yes z) = z
     go (no n) = absurd (n (ap (λ (w : Written). w .refusal) (written-refused before out written n) ∙ e))
 
+-- and one that is not refused for room is refused as its checks before 6 say
+pub unless-six : (before : ℕ) (out written : List ℕ) → (writtenAnswer before out written .refusal ≡ noRoom → ⊥) → writtenAnswer before out written .refusal ≡ before
+unfolding writtenAnswer
+unless-six before out written n = go (ℕ-discrete before 0)
+  where
+    fits : before ≡ 0 → (t : Bool) → leb (length written) (length out) ≡ t → writtenAnswer before out written .refusal ≡ before
+    fits z true e = rw (eq-eqb before 0 z, e) (sym z)
+    fits z false e = absurd (n (rw (eq-eqb before 0 z, e)))
+
+    go : Dec (before ≡ 0) → writtenAnswer before out written .refusal ≡ before
+    go (yes z) = fits z (leb (length written) (length out)) refl
+    go (no k) = sym (ap (λ (w : Written). w .refusal) (written-refused before out written k))
+
 -- ---- TWO TREES, intersected
 
 module _ (u : Universe) (surfaces : Surfaces) (first second : List ℕ) where
@@ -281,6 +297,14 @@ module _ (u : Universe) (surfaces : Surfaces) (first second : List ℕ) where
       verdict-is r =
           let v = verdict u (raw u surfaces (both tree₁ tree₂)) from to in
           verdict-told written v (sym (number-told written v) ∙ r)
+
+      -- where it is not refused for room, its number is that of the checks before
+      pub verdict-number : (given .refusal ≡ noRoom → ⊥) → given .refusal ≡ clearanceRefusal u surfaces first second from to
+      unfolding clearanceAnswer
+      verdict-number n =
+          let v = verdict u (raw u surfaces (both tree₁ tree₂)) from to in
+          number-told written v
+          ∙ unless-six (clearanceRefusal u surfaces first second from to) out (rawOfTwo u surfaces first second) (λ z. n (number-told written v ∙ z))
 
       -- whatever is refused is Clear
       pub verdict-refused : (given .refusal ≡ 0 → ⊥) → given .verdict ≡ Clear

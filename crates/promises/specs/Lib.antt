@@ -9,5 +9,6 @@ pub mod CutFromItself
 pub mod Swept
 pub mod Octrees
 pub mod Contacts
+pub mod AtOnce
 pub mod Pruned
 pub mod Movers

@@ -38,7 +38,7 @@ use Rattle.pruned.proofs.Steps.{ok, rows-few, balls-few, rows-small, st
 use Rattle.pruned.proofs.Wholes.{whole-values}
 
 -- ---- a leaf's word
-leaf-code-is : (names : Named) (w : ℕ) → isLeaf names w ≡ true → nodeCode (leafNode (leafOf w)) ≡ 2 * w
+pub leaf-code-is : (names : Named) (w : ℕ) → isLeaf names w ≡ true → nodeCode (leafNode (leafOf w)) ≡ 2 * w
 leaf-code-is names zero l = refl
 leaf-code-is names (suc zero) l = refl
 leaf-code-is names (suc (suc w)) l =
@@ -49,13 +49,13 @@ leaf-code-is names (suc (suc w)) l =
     by v (a-halfspace a h k) = rw (below-halfspace v h) (omega arith)
     by v (a-ball a h k) = rw (above-ball v a) (omega arith)
 
-leaf-postfix : (l : Leaf) → postfix (plainLeaf l) ≡ leafNode l ∷ []
+pub leaf-postfix : (l : Leaf) → postfix (plainLeaf l) ≡ leafNode l ∷ []
 unfolding postfix
 leaf-postfix white = refl
 leaf-postfix black = refl
 leaf-postfix (surface s) = refl
 
-leaf-sides : (names : Named) (w : ℕ) → isLeaf names w ≡ true → SidesNamed names (plainLeaf (leafOf w))
+pub leaf-sides : (names : Named) (w : ℕ) → isLeaf names w ≡ true → SidesNamed names (plainLeaf (leafOf w))
 leaf-sides names zero l = colour-named
 leaf-sides names (suc zero) l = colour-named
 leaf-sides names (suc (suc w)) l =
@@ -67,10 +67,10 @@ leaf-sides names (suc (suc w)) l =
     by v (a-ball a h k) = rw (above-ball v a) (ball-named k)
 
 -- ---- an operator's word
-operator-is : (w : ℕ) → isOperator w ≡ true → (2 ≤ w) × (w ≤ 4)
+pub operator-is : (w : ℕ) → isOperator w ≡ true → (2 ≤ w) × (w ≤ 4)
 operator-is w o = (leb-true _ _ (and-left (leb 2 w) (leb w 4) o), leb-true _ _ (and-right (leb 2 w) (leb w 4) o))
 
-node-postfix : (w : ℕ) → isOperator w ≡ true → (p q : Plain) →
+pub node-postfix : (w : ℕ) → isOperator w ≡ true → (p q : Plain) →
     postfix (plainNode (operatorOf w) p q) ≡ postfix p ++ (turnedFor w (postfix q) ++ (joining (meets w) ∷ []))
 unfolding postfix
 node-postfix zero o p q = absurd (omega (arith, operator-is 0 o .0))
@@ -80,6 +80,14 @@ node-postfix (suc (suc (suc zero))) o p q = refl
 node-postfix (suc (suc (suc (suc zero)))) o p q = rw (turn-postfix q)
 node-postfix (suc (suc (suc (suc (suc w))))) o p q = absurd (omega (arith, operator-is (suc (suc (suc (suc (suc w))))) o .1))
 
+-- the node of an operator but MINUS
+pub operator-code : (w : ℕ) → 2 ≤ w → w < 4 → nodeCode (joining (meets w)) ≡ 2 * w
+operator-code zero a b = absurd (omega arith)
+operator-code (suc zero) a b = absurd (omega arith)
+operator-code (suc (suc zero)) a b = refl
+operator-code (suc (suc (suc zero))) a b = refl
+operator-code (suc (suc (suc (suc w)))) a b = absurd (omega arith)
+
 turned-sides : {names : Named} (p : Plain) → SidesNamed names p → SidesNamed names (turned p)
 unfolding turned
 turned-sides (colour c) n = colour-named
@@ -87,7 +95,7 @@ turned-sides (side flag s) (side-named n) = side-named n
 turned-sides (unionOf p q) (union-named n m) = intersection-named (turned-sides p n) (turned-sides q m)
 turned-sides (intersectionOf p q) (intersection-named n m) = union-named (turned-sides p n) (turned-sides q m)
 
-node-sides : {names : Named} (o : Operator) (p q : Plain) → SidesNamed names p → SidesNamed names q → SidesNamed names (plainNode o p q)
+pub node-sides : {names : Named} (o : Operator) (p q : Plain) → SidesNamed names p → SidesNamed names q → SidesNamed names (plainNode o p q)
 node-sides Operator.union p q n m = union-named n m
 node-sides Operator.intersection p q n m = intersection-named n m
 node-sides Operator.minus p q n m = intersection-named n (turned-sides q m)
@@ -104,7 +112,7 @@ module _ {names : Named} (few-rows : names .halfspaces ≤ mostRows) (few-balls 
   side-small-code true (ball i) (ball-named h) = omega (arith, h)
   side-small-code false (ball i) (ball-named h) = omega (arith, h)
 
-  small-codes : (p : Plain) → SidesNamed names p → SmallCodes (postfix p)
+  pub small-codes : (p : Plain) → SidesNamed names p → SmallCodes (postfix p)
   unfolding postfix
   small-codes (colour White) n = code-small {n = ofColour White} (omega arith) no-codes
   small-codes (colour Black) n = code-small {n = ofColour Black} (omega arith) no-codes
@@ -114,7 +122,7 @@ module _ {names : Named} (few-rows : names .halfspaces ≤ mostRows) (few-balls 
   small-codes (intersectionOf p q) (intersection-named n m) =
       small-append (postfix p) _ (small-codes p n) (small-append (postfix q) _ (small-codes q m) (code-small {n = joining true} (omega arith) no-codes))
 
-drop-end : (i : ℕ) (l : List ℕ) → length l ≤ i → drop i l ≡ []
+pub drop-end : (i : ℕ) (l : List ℕ) → length l ≤ i → drop i l ≡ []
 drop-end zero [] h = refl
 drop-end zero (x ∷ l) h = absurd (omega arith)
 drop-end (suc i) [] h = refl
@@ -126,16 +134,16 @@ holds-behind : {surfaces : Surfaces} {b : Block} {work : List ℤ} {at : ℕ} (n
 holds-behind {at = at} [] ms h = let e : at + 0 ≡ at = omega arith in rw e h
 holds-behind {at = at} (n ∷ ns) ms (node x h) = let e : at + suc (length ns) ≡ suc at + length ns = omega arith in rw e (holds-behind ns ms h)
 
-abbrev rest : List ℕ → List ℕ
+abbrev pub rest : List ℕ → List ℕ
 rest [] = []
 rest (x ∷ l) = l
 
-turn-long : (ns : List Node) → length (turnNodes ns) ≡ length ns
+pub turn-long : (ns : List Node) → length (turnNodes ns) ≡ length ns
 unfolding turnNodes
 turn-long [] = refl
 turn-long (n ∷ ns) = ap suc (turn-long ns)
 
-turned-long : (w : ℕ) (ns : List Node) → length (turnedFor w ns) ≡ length ns
+pub turned-long : (w : ℕ) (ns : List Node) → length (turnedFor w ns) ≡ length ns
 turned-long w ns = by (eqb w 4)
   where
     by : (t : Bool) → length (cond t (turnNodes ns) ns) ≡ length ns
@@ -190,14 +198,7 @@ module _ {work : List ℤ} {start at word : ℕ} (job : Joining work start at wo
 
   module _ (other : word ≡ 4 → ⊥) where
     code-of : nodeCode (joining (meets word)) ≡ 2 * word
-    code-of = by word (word-few .0) (omega (arith, other, word-few .1))
-      where
-        by : (w : ℕ) → 2 ≤ w → w < 4 → nodeCode (joining (meets w)) ≡ 2 * w
-        by zero a b = absurd (omega arith)
-        by (suc zero) a b = absurd (omega arith)
-        by (suc (suc zero)) a b = refl
-        by (suc (suc (suc zero))) a b = refl
-        by (suc (suc (suc (suc w)))) a b = absurd (omega arith)
+    code-of = operator-code word (word-few .0) (omega (arith, other, word-few .1))
 
     pub plain-storable : Storable work at (2 * word) (pos 0) (pos 0)
     plain-storable = storable refl (omega (arith, word-few .1))
@@ -313,19 +314,19 @@ module _ {axes : ℕ} {rows : List ℤ} {sides : List ℕ} {word : ℕ} (job : L
 
 -- ---- the loop
 -- the nodes of the shapes pending, the last one first, and where each starts
-abbrev loaded : List Plain → List Node
+abbrev pub loaded : List Plain → List Node
 loaded [] = []
 loaded (p ∷ ps) = loaded ps ++ postfix p
 
-abbrev startsFrom : ℕ → List Plain → List ℕ
+abbrev pub startsFrom : ℕ → List Plain → List ℕ
 startsFrom from [] = []
 startsFrom from (p ∷ ps) = (from + length (loaded ps)) ∷ startsFrom from ps
 
-length-starts : (from : ℕ) (ps : List Plain) → length (startsFrom from ps) ≡ length ps
+pub length-starts : (from : ℕ) (ps : List Plain) → length (startsFrom from ps) ≡ length ps
 length-starts from [] = refl
 length-starts from (p ∷ ps) = ap suc (length-starts from ps)
 
-abbrev AllSides : Named → List Plain → Type 0
+abbrev pub AllSides : Named → List Plain → Type 0
 AllSides names [] = Unit {0}
 AllSides names (p ∷ ps) = SidesNamed names p × AllSides names ps
 

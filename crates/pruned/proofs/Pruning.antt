@@ -123,10 +123,21 @@ bits-join false (still p) (settled White) = refl
 bits-join false (still p) (settled Black) = refl
 bits-join false (still p) (still q) = refl
 
-left-join : (marks : Bool → Surface → Mark) (meet : Bool) (p q : Plain) → leftBy marks (joinPlain meet p q) ≡ joinLeft meet (leftBy marks p) (leftBy marks q)
+pub left-join : (marks : Bool → Surface → Mark) (meet : Bool) (p q : Plain) →
+    leftBy marks (joinPlain meet p q) ≡ joinLeft meet (leftBy marks p) (leftBy marks q)
 unfolding leftBy
 left-join marks true p q = refl
 left-join marks false p q = refl
+
+-- what is left of a leaf is the leaf
+pub leaf-left : {names : Named} (marks : Bool → Surface → Mark) {t : Plain} {n : Node} → LeafOf names t n → (q : Plain) → leftBy marks t ≡ still q → q ≡ t
+unfolding leftBy
+leaf-left marks colour-leaf q e = let z : _≡_ {A = ℕ} 0 1 = cc in absurd (omega arith)
+leaf-left marks (side-leaf {turned = turned} {s = s} m) q e = by (marks turned s) e
+  where
+    by : (k : Mark) → sideLeft turned s k ≡ still q → q ≡ Plain.side turned s
+    by (decided c) e = let z : _≡_ {A = ℕ} 0 1 = cc in absurd (omega arith)
+    by undecided e = cc
 
 -- ---- the shapes pending, the last one first: what they have written, where each starts, and their codes
 module _ (marks : Bool → Surface → Mark) where
@@ -147,7 +158,7 @@ module _ (marks : Bool → Surface → Mark) where
   length-codes (p ∷ ps) = ap suc (length-codes ps)
 
   -- ---- one tree, and two
-  one-mark : (p : Plain) → leftBits (leftBy marks p) ≡ bitsOf (allMarkBy marks (p ∷ []))
+  pub one-mark : (p : Plain) → leftBits (leftBy marks p) ≡ bitsOf (allMarkBy marks (p ∷ []))
   unfolding allMarkBy intersectionMark
   one-mark p = by (leftBy marks p)
     where
@@ -156,7 +167,7 @@ module _ (marks : Bool → Surface → Mark) where
       by (settled Black) = refl
       by (still q) = refl
 
-  two-mark : (p q : Plain) → joinedCode true (leftBits (leftBy marks p)) (leftBits (leftBy marks q)) ≡ bitsOf (allMarkBy marks (p ∷ q ∷ []))
+  pub two-mark : (p q : Plain) → joinedCode true (leftBits (leftBy marks p)) (leftBits (leftBy marks q)) ≡ bitsOf (allMarkBy marks (p ∷ q ∷ []))
   unfolding allMarkBy intersectionMark
   two-mark p q = by (leftBy marks p) (leftBy marks q)
     where
@@ -171,7 +182,7 @@ module _ (marks : Bool → Surface → Mark) where
       by (still r) (settled Black) = refl
       by (still r) (still s) = refl
 
-  one-nodes : (p : Plain) → written (p ∷ []) ≡ allPostfix (allLeftBy marks (p ∷ []))
+  pub one-nodes : (p : Plain) → written (p ∷ []) ≡ allPostfix (allLeftBy marks (p ∷ []))
   unfolding allLeftBy allPostfix
   one-nodes p = by (leftBy marks p)
     where
@@ -179,7 +190,7 @@ module _ (marks : Bool → Surface → Mark) where
       by (settled c) = refl
       by (still q) = sym (append-nil (postfix q))
 
-  two-nodes : (p q : Plain) → written (q ∷ p ∷ []) ≡ allPostfix (allLeftBy marks (p ∷ q ∷ []))
+  pub two-nodes : (p q : Plain) → written (q ∷ p ∷ []) ≡ allPostfix (allLeftBy marks (p ∷ q ∷ []))
   unfolding allLeftBy allPostfix
   two-nodes p q = by (leftBy marks p) (leftBy marks q)
     where
@@ -395,18 +406,6 @@ module _ {surfaces : Surfaces} {axes : ℕ} {low side : List ℕ} {axis half : �
                     small-high = rw (extreme-near (smalls .1) .same) (smalls .1);
                   }
 
-              left-leaf : (q : Plain) → leftBy marks (next .tree) ≡ still q → q ≡ next .tree
-              unfolding leftBy
-              left-leaf q e = by (next .stands) e
-                where
-                  by : {t : Plain} {n : Node} → LeafOf (named surfaces) t n → leftBy marks t ≡ still q → q ≡ t
-                  by colour-leaf f = let z : _≡_ {A = ℕ} 0 1 = cc in absurd (omega arith)
-                  by (side-leaf {turned = turned} {s = s} m) f = under (marks turned s) f
-                    where
-                      under : (k : Mark) → sideLeft turned s k ≡ still q → q ≡ Plain.side turned s
-                      under (decided c) f = let z : _≡_ {A = ℕ} 0 1 = cc in absurd (omega arith)
-                      under undecided f = cc
-
               leaf-done : Holds surfaces (blockOf (job .step)) (stored now end (pos code) (held x) (held y)) to (written marks (next .tree ∷ g .shapes))
                   × (endAfter bits 0 0 end end ≡ to + length (written marks (next .tree ∷ g .shapes)))
               unfolding leaf-job
@@ -414,7 +413,8 @@ module _ {surfaces : Surfaces} {axes : ℕ} {low side : List ℕ} {axis half : �
                   let e = stored-same now end (ap pos code-is) (extreme-near (smalls .0) .same ∙ judged .least-over) (extreme-near (smalls .1) .same
                   ∙ judged .greatest-over) in
                   rw (e, judged .judged)
-                  (leaf-stored now to end (next .stands) (leftBy marks (next .tree)) (written marks (g .shapes)) left-leaf (g .done) (g .end-is) store-in)
+                  (leaf-stored now to end (next .stands) (leftBy marks (next .tree)) (written marks (g .shapes))
+                  (leaf-left marks (next .stands)) (g .done) (g .end-is) store-in)
 
               end-most : (b e : ℕ) → endAfter b 0 0 e e ≤ e + 1
               end-most b e = by (eqb b 0)

@@ -35,7 +35,7 @@ turned-side false w h =
     let e : (2 * w + 0) % 2 ≡ 0 = omega arith in
     rw (le-ltb (2 * w + 0) 3 (omega arith), le-ltb (2 * w + 0) 8 (omega arith), e) (omega arith)
 
-turned-code : (n : Node) → turnedNumber (nodeCode n) ≡ nodeCode (turnNode n)
+pub turned-code : (n : Node) → turnedNumber (nodeCode n) ≡ nodeCode (turnNode n)
 turned-code (ofColour White) = refl
 turned-code (ofColour Black) = refl
 turned-code (joining true) = refl
@@ -50,7 +50,7 @@ module _ (surfaces : Surfaces) (b : Block) where
   same-values (ofSide turned (halfspace i)) = (refl, refl)
   same-values (ofSide turned (ball i)) = (refl, refl)
 
-turn-append : (ns : List Node) (n : Node) → turnNodes (ns ++ (n ∷ [])) ≡ turnNodes ns ++ (turnNode n ∷ [])
+pub turn-append : (ns : List Node) (n : Node) → turnNodes (ns ++ (n ∷ [])) ≡ turnNodes ns ++ (turnNode n ∷ [])
 unfolding turnNodes
 turn-append [] n = refl
 turn-append (m ∷ ns) n = ap (λ (l : List Node). turnNode m ∷ l) (turn-append ns n)

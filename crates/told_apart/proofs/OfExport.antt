@@ -36,6 +36,12 @@ durbizhan-verdict w _ _ = ((tt, refl), λ _ _ _ _ _. three w (λ p q. (same (p .
 pub durbizhan-contacts : (w : World) → TellsApart w export.verdicts.durbizhan_contacts.ended export.verdicts.durbizhan_contacts.clauses
 durbizhan-contacts w _ _ = ((tt, refl), λ _ _ _ _ _. two w (λ p q. (same (p .0) (q .0), λ i. behind 9 (same (p .1) (q .1) i, tt))))
 
+pub durbizhan-verdict-at-once : (w : World) → TellsApart w export.answers.durbizhan_verdict_at_once.ended export.answers.durbizhan_verdict_at_once.clauses
+durbizhan-verdict-at-once w _ _ = ((tt, refl), λ _ _ _ _ _. two w (λ p q. (same (p .0) (q .0), λ i. behind 9 (same (p .1) (q .1) i, tt))))
+
+pub durbizhan-ends-at-once : (w : World) → TellsApart w export.answers.durbizhan_ends_at_once.ended export.answers.durbizhan_ends_at_once.clauses
+durbizhan-ends-at-once w _ _ = ((tt, refl), λ _ _ _ _ _. two w (λ p q. (same (p .0) (q .0), λ i. behind 9 (same (p .1) (q .1) i, tt))))
+
 pub durbizhan-mover : (w : World) → TellsApart w export.movers.durbizhan_mover.ended export.movers.durbizhan_mover.clauses
 durbizhan-mover w _ _ = ((tt, refl), λ _ _ _ _ _. three w (λ p q. (same (p .0) (q .0), λ i. behind 17 (same (p .2) (q .2) i, (same (p .1) (q .1) i, tt)))))
 

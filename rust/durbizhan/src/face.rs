@@ -172,6 +172,40 @@ extern "C" {
         answer: *mut [u64; 5],
     ) -> u64;
 
+    pub fn durbizhan_verdict_at_once(
+        axes: u64,
+        bits: u64,
+        frame_bits: u64,
+        rows: *const i64,
+        rows_count: usize,
+        balls: *const i64,
+        balls_count: usize,
+        first: *const u16,
+        first_count: usize,
+        second: *const u16,
+        second_count: usize,
+        first_frame: u64,
+        last_frame: u64,
+        answer: *mut [u64; 4],
+    ) -> u64;
+
+    pub fn durbizhan_ends_at_once(
+        axes: u64,
+        bits: u64,
+        frame_bits: u64,
+        rows: *const i64,
+        rows_count: usize,
+        balls: *const i64,
+        balls_count: usize,
+        first: *const u16,
+        first_count: usize,
+        second: *const u16,
+        second_count: usize,
+        first_frame: u64,
+        last_frame: u64,
+        answer: *mut [u64; 3],
+    ) -> u64;
+
     pub fn durbizhan_contacts(
         axes: u64,
         bits: u64,

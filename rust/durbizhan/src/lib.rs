@@ -67,4 +67,6 @@ pub use refusal::Refusal;
 pub use reports::{report, Report};
 pub use sweeps::sweep;
 pub use universe::{Shape, Universe, Window};
-pub use verdicts::{contacts, numbers, verdict, Clearance, Contacts, Numbers, Verdict};
+pub use verdicts::{
+    contacts, ends_at_once, numbers, verdict, verdict_at_once, Clearance, Contacts, Ends, Numbers, Verdict,
+};

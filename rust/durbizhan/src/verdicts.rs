@@ -1,4 +1,4 @@
-//! Verdicts: of two trees, of an expression; and sure and possible contact.
+//! Verdicts: of two trees, in lent room and at once, of an expression; and sure and possible contact.
 
 use crate::face;
 use crate::refusal::accepted;
@@ -17,6 +17,20 @@ pub enum Verdict {
         last: u64,
         /// How many such voxels the window has.
         voxels: u64,
+    },
+}
+
+/// The ends of a verdict.
+#[derive(Clone, Copy, Debug, PartialEq, Eq)]
+pub enum Ends {
+    /// No voxel of the window is black in both.
+    Clear,
+    /// Some voxel is.
+    Hit {
+        /// The first frame of the window with such a voxel.
+        first: u64,
+        /// The last one.
+        last: u64,
     },
 }
 
@@ -111,6 +125,97 @@ pub fn verdict(
         )
     };
     clearance_of(number, answer)
+}
+
+/// The verdict of [`verdict`] at once: no room is lent, and no expression is written. Refused as that is, but never
+/// [`Refusal::NoRoom`].
+///
+/// ```
+/// use durbizhan::{halfspace, verdict_at_once, Universe, Verdict, Window, BLACK};
+///
+/// let frames = Universe { axes: 1, bits: 0, frame_bits: 12 };
+/// let window = Window { first: 0, last: 4095 };
+/// let found = verdict_at_once(frames, &[-2, 1, 0, 0, 0], &[], &[halfspace(0)], &[BLACK], window)?;
+/// assert_eq!(found, Verdict::Hit { first: 2, last: 4095, voxels: 4094 });
+/// # Ok::<(), durbizhan::Refusal>(())
+/// ```
+pub fn verdict_at_once(
+    universe: Universe,
+    rows: &[i64],
+    balls: &[i64],
+    first: &[u16],
+    second: &[u16],
+    window: Window,
+) -> Result<Verdict, Refusal> {
+    let mut answer = [0; 4];
+    let number = unsafe {
+        face::durbizhan_verdict_at_once(
+            universe.axes,
+            universe.bits,
+            universe.frame_bits,
+            rows.as_ptr(),
+            rows.len(),
+            balls.as_ptr(),
+            balls.len(),
+            first.as_ptr(),
+            first.len(),
+            second.as_ptr(),
+            second.len(),
+            window.first,
+            window.last,
+            &mut answer,
+        )
+    };
+    let [hit, first, last, voxels] = answer;
+    accepted(number, 0)?;
+    Ok(verdict_of(hit, first, last, voxels))
+}
+
+/// The ends of that verdict alone, at once: nothing is counted, and a block is entered only where it could better them.
+/// Refused as [`verdict_at_once`] is.
+///
+/// ```
+/// use durbizhan::{ends_at_once, halfspace, Ends, Universe, Window, BLACK};
+///
+/// let frames = Universe { axes: 1, bits: 0, frame_bits: 12 };
+/// let window = Window { first: 0, last: 4094 };
+/// let found = ends_at_once(frames, &[-2, 1, 0, 0, 0], &[], &[halfspace(0)], &[BLACK], window)?;
+/// assert_eq!(found, Ends::Hit { first: 2, last: 4094 });
+/// # Ok::<(), durbizhan::Refusal>(())
+/// ```
+pub fn ends_at_once(
+    universe: Universe,
+    rows: &[i64],
+    balls: &[i64],
+    first: &[u16],
+    second: &[u16],
+    window: Window,
+) -> Result<Ends, Refusal> {
+    let mut answer = [0; 3];
+    let number = unsafe {
+        face::durbizhan_ends_at_once(
+            universe.axes,
+            universe.bits,
+            universe.frame_bits,
+            rows.as_ptr(),
+            rows.len(),
+            balls.as_ptr(),
+            balls.len(),
+            first.as_ptr(),
+            first.len(),
+            second.as_ptr(),
+            second.len(),
+            window.first,
+            window.last,
+            &mut answer,
+        )
+    };
+    let [hit, first, last] = answer;
+    accepted(number, 0)?;
+    Ok(match hit {
+        0 => Ends::Clear,
+        _ => Ends::Hit { first, last },
+    })
 }
 
 /// Sure and possible contact of two trees over a window. Refused as [`verdict`] is, but never [`Refusal::NoRoom`].

@@ -241,7 +241,6 @@ type Room = fn(u64, u64, u64, u64, u64, &mut [u64; 1]) -> u64;
 type RawOne = fn(u64, u64, u64, &[i64], &[i64], &[u16], &mut [u8], &mut [u64; 1]) -> u64;
 type RawTwo = fn(u64, u64, u64, &[i64], &[i64], &[u16], &[u16], &mut [u8], &mut [u64; 1]) -> u64;
 type Verdict = fn(u64, u64, u64, &[i64], &[i64], &[u16], &[u16], u64, u64, &mut [u8], &mut [u64; 5]) -> u64;
-type Contacts = fn(u64, u64, u64, &[i64], &[i64], &[u16], &[u16], u64, u64, &mut [u64; 3]) -> u64;
 type Numbers = fn(u64, u64, u64, &[u8], u64, u64, &mut [u64; 5]) -> u64;
 type Report = fn(u64, u64, u64, &[u8], u64, u64, &mut [u64], &mut [u64; 2]) -> u64;
 type Sweep = fn(u64, u64, u64, u64, &[u8], &mut [u8], &mut [u64; 4]) -> u64;
@@ -385,17 +384,21 @@ fn compare_verdicts(line: &mut Line, case: &generate::RunCase, lent: usize) {
     });
 }
 
-fn contacts(line: &mut Line, random: &mut Random) {
+/// A question over two trees and a window with no room lent, and its answer of so many numbers.
+type AtOnce<const N: usize> =
+    fn(u64, u64, u64, &[i64], &[i64], &[u16], &[u16], u64, u64, &mut [u64; N]) -> u64;
+
+fn at_once<const N: usize>(line: &mut Line, random: &mut Random, plain: AtOnce<N>, library: AtOnce<N>) {
     let case = generate::run(random);
     if needed(&case, &[&case.first, &case.second]).is_some() {
-        compare_contacts(line, &case);
+        compare_at_once(line, &case, plain, library);
     }
 }
 
-fn compare_contacts(line: &mut Line, case: &generate::RunCase) {
-    let [plain, library] = [plain::contacts as Contacts, face::contacts].map(|count| {
-        let mut answer = longs(3);
-        let number = count(
+fn compare_at_once<const N: usize>(line: &mut Line, case: &generate::RunCase, plain: AtOnce<N>, library: AtOnce<N>) {
+    let [plain, library] = [plain, library].map(|ask| {
+        let mut answer = longs(N);
+        let number = ask(
             case.axes, case.bits, case.frame_bits, &case.rows, &case.balls, &case.first, &case.second,
             case.first_frame, case.last_frame, answer.array(),
         );
@@ -441,9 +444,9 @@ fn long_verdicts(line: &mut Line, random: &mut Random) {
     compare_verdicts(line, &case, lent);
 }
 
-fn long_contacts(line: &mut Line, random: &mut Random) {
+fn long_at_once<const N: usize>(line: &mut Line, random: &mut Random, plain: AtOnce<N>, library: AtOnce<N>) {
     let (case, _) = long_run(line, random, |_, blocks| blocks);
-    compare_contacts(line, &case);
+    compare_at_once(line, &case, plain, library);
 }
 
 fn reading_text(case: &generate::ReadingCase) -> String {
@@ -664,7 +667,7 @@ fn cuts(line: &mut Line, random: &mut Random) {
 // The numbers that each kind of entry point refuses with.
 const CONVERSION: &[u64] = &[BAD_UNIVERSE, BAD_ROWS, BAD_TREE, OVERFULL_TREE, NO_ROOM];
 const VERDICT: &[u64] = &[BAD_UNIVERSE, BAD_ROWS, BAD_TREE, OVERFULL_TREE, OUTSIDE, NO_ROOM];
-const CONTACTS: &[u64] = &[BAD_UNIVERSE, BAD_ROWS, BAD_TREE, OVERFULL_TREE, OUTSIDE];
+const AT_ONCE: &[u64] = &[BAD_UNIVERSE, BAD_ROWS, BAD_TREE, OVERFULL_TREE, OUTSIDE];
 const MOVER: &[u64] =
     &[BAD_UNIVERSE, BAD_PROXY, BAD_KEYS, BAD_STEP, BAD_ROWS, BAD_TREE, OVERFULL_TREE, NO_ROOM];
 const READING: &[u64] = &[BAD_UNIVERSE, BAD_EXPRESSION];
@@ -692,12 +695,20 @@ const ENTRY_POINTS: &[(&str, u64, &[u64], Compare)] = &[
     ("durbizhan_pruned_merged_one", 1000, CONVERSION, |l, r| pruned(l, r, 1, true)),
     ("durbizhan_pruned_merged_two", 1000, CONVERSION, |l, r| pruned(l, r, 2, true)),
     ("durbizhan_verdict", 1000, VERDICT, verdicts),
-    ("durbizhan_contacts", 1000, CONTACTS, contacts),
+    ("durbizhan_contacts", 1000, AT_ONCE, |l, r| at_once(l, r, plain::contacts, face::contacts)),
+    ("durbizhan_verdict_at_once", 1000, AT_ONCE, |l, r| at_once(l, r, plain::verdict_at_once, face::verdict_at_once)),
+    ("durbizhan_ends_at_once", 1000, AT_ONCE, |l, r| at_once(l, r, plain::ends_at_once, face::ends_at_once)),
     ("durbizhan_mover", 1000, MOVER, movers),
     ("durbizhan_raw_two, long", 1, &[NO_ROOM], |l, r| long_two_trees(l, r, plain::raw_two, face::raw_two)),
     ("durbizhan_merged_two, long", 1, &[NO_ROOM], |l, r| long_two_trees(l, r, plain::merged_two, face::merged_two)),
     ("durbizhan_verdict, long", 1, &[OUTSIDE, NO_ROOM], long_verdicts),
-    ("durbizhan_contacts, long", 1, &[OUTSIDE], long_contacts),
+    ("durbizhan_contacts, long", 1, &[OUTSIDE], |l, r| long_at_once(l, r, plain::contacts, face::contacts)),
+    ("durbizhan_verdict_at_once, long", 1, &[OUTSIDE], |l, r| {
+        long_at_once(l, r, plain::verdict_at_once, face::verdict_at_once)
+    }),
+    ("durbizhan_ends_at_once, long", 1, &[OUTSIDE], |l, r| {
+        long_at_once(l, r, plain::ends_at_once, face::ends_at_once)
+    }),
     ("durbizhan_well_formed", 2000, READING, well_formed),
     ("durbizhan_numbers", 2000, READING_AT, numbers),
     ("durbizhan_report", 500, REPORT, reports),

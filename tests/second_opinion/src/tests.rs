@@ -3,6 +3,8 @@
 
 use crate::fast::{plain_merged_fast, plain_numbers_fast, plain_raw_fast, plain_verdict_fast, Run};
 use crate::hand::{hand_merged, hand_raw, Hand};
+use crate::boxed::{boxed_verdict, Solid};
+use crate::words::{words_ends, words_verdict, Words};
 use crate::generate::{self, Random};
 use crate::generate::Named;
 use crate::plain::*;
@@ -694,6 +696,55 @@ fn pruned_by_hand_agrees() {
     }
     for scene in scenes::twenty(-1) {
         agree(scene.axes, scene.bits, scene.frame_bits, &scene.rows, &scene.balls, &scene.trees());
+    }
+}
+
+#[test]
+fn words_by_hand_agree() {
+    let agree = |axes, bits, frame_bits, rows: &[i64], balls: &[i64], trees: &[&[u16]], first, last| {
+        let run = Run::checked(axes, bits, frame_bits, rows, balls, trees).unwrap();
+        let mut room = vec![0; run.room() as usize];
+        let [hit, from, to, voxels, _] = plain_verdict_fast(&run, first, last, &mut room).unwrap();
+        let meant = (hit == 1).then_some((from, to, voxels));
+        let words = Words::checked(axes, bits, frame_bits, rows, balls, trees).unwrap();
+        assert_eq!(words_verdict(&words, first, last), Ok(meant));
+        assert_eq!(words_ends(&words, first, last), Ok(meant.map(|(from, to, _)| (from, to))));
+        hit
+    };
+    let mut random = Random::new(28);
+    let mut hits = 0;
+    for _ in 0..20_000 {
+        let given = generate::small_universe(&mut random, 10);
+        let [axes, bits, frame_bits] = given;
+        let (rows, balls, one, two) = drawn_run(&mut random, given);
+        let trees: &[&[u16]] = if random.chance(50) { &[&one] } else { &[&one, &two] };
+        let first = random.below(1 << frame_bits);
+        let last = first + random.below((1 << frame_bits) - first);
+        hits += agree(axes, bits, frame_bits, &rows, &balls, trees, first, last);
+    }
+    assert!((1_000..19_000).contains(&hits));
+    for scene in scenes::twenty(-1) {
+        let frames = 1 << scene.frame_bits;
+        for (first, last) in [(0, frames - 1), (frames / 3, frames / 2), (frames - 1, frames - 1)] {
+            agree(scene.axes, scene.bits, scene.frame_bits, &scene.rows, &scene.balls, &scene.trees(), first, last);
+        }
+    }
+}
+
+#[test]
+fn boxed_agrees() {
+    for (from, to) in [([0.25; 3], [0.75; 3]), ([0.5; 3], [0.5; 3]), ([0.2, 0.5, 0.5], [0.2, 0.5, 0.5])] {
+        let case = (4, 5, 4);
+        let mut rows = vec![];
+        let one = scenes::icosahedron(&mut rows, from, to, 0.2, case);
+        let before = rows.len();
+        let two = scenes::icosahedron(&mut rows, [0.75; 3], [0.25; 3], 0.2, case);
+        let words = Words::checked(case.0, case.1, case.2, &rows, &[], &[&one, &two]).unwrap();
+        let one = Solid { rows: &rows[..before], boxes: scenes::icosahedron_boxes(from, to, 0.2, case) };
+        let two = Solid { rows: &rows[before..], boxes: scenes::icosahedron_boxes([0.75; 3], [0.25; 3], 0.2, case) };
+        for (first, last) in [(0, 15), (3, 9), (15, 15)] {
+            assert_eq!(Ok(boxed_verdict(&one, &two, first, last)), words_verdict(&words, first, last));
+        }
     }
 }
 

@@ -1,0 +1,25 @@
+-- Laws of answers at once.
+pub mod Values
+pub mod Leaves
+pub mod Rooms
+pub mod Pruning
+pub mod Turning
+pub mod Loading
+pub mod Carrying
+pub mod Shifts
+pub mod Halvings
+pub mod WordEnds
+pub mod Windows
+pub mod Rows
+pub mod RowValues
+pub mod WordBlocks
+pub mod LeafWords
+pub mod TreeWords
+pub mod BallValues
+pub mod BallWords
+pub mod Jobs
+pub mod Counting
+pub mod Betters
+pub mod Lengths
+pub mod Wholes
+pub mod Checks

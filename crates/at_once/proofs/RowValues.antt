@@ -1,0 +1,198 @@
+-- A row's value at the centre of a block's first voxel and its steps, as the machine computes them: four terms and six products, none of which overflows.
+use mathlib.Core.Path.{_≡_, refl, sym, ap, _∙_}
+use mathlib.Core.Bool.{Bool, true, cond}
+use mathlib.Core.List.{List, [], _∷_}
+use Prim.Native.Nat.{ℕ, zero, suc, _+_, _-_, _*_, _≤_, _<_}
+use native.Mathlib.Omega.{arith}
+use native.Mathlib.Nat.{mul-le-mul}
+use lib.Dec.{leb, ltb, lit<}
+use lib.ListN.{length, getD, List·getD-eq-default}
+use lib.IntN.{ℤ, pos, negsuc, natAbs, _+ℤ_, _*ℤ_, +ℤ-idr}
+use borrow.Author.Tests.{leb-true, le-ltb}
+use mir.Syntax.{w64}
+use mir.Val.{SFits, toZ}
+use Rattle.lemmas.specs.Sums.{total, every}
+use Rattle.lemmas.proofs.Sums.{and-right, every-all}
+use Rattle.lemmas.proofs.Machine.{size-mul, Near, near, near-lit, near-nat, near-cast, near-add, near-mul, near-back, near-call, near-fits, near-as}
+use Rattle.lemmas.proofs.Whole.{ι, ν, _⊕_, _⊗_, eq-by}
+use Rattle.universe.specs.declared.Universe.{Universe}
+use Rattle.universe.specs.Universe.{mostAxes, longestSide, offsetLimit, coefficientLimit}
+use Rattle.csg.specs.Halfspace.{Halfspace, rowAt, withinLimits, centreValue}
+use Rattle.convert.specs.Small.{SmallPlaces}
+use Rattle.pruned.proofs.Moving.{held}
+use Rattle.masks.specs.Leaves.{stepLimit}
+use Rattle.at_once.specs.Words.{wordLevels, stepAt, termOf, firstValue, stepOf, RowNamed, SmallTables, StepsOf}
+
+abbrev termLimit : ℕ
+termLimit = coefficientLimit * (2 * longestSide + 1)
+
+module _ {rows : List ℤ} {i : ℕ} (row : RowNamed rows i) where
+  abbrev h : Halfspace
+  h = rowAt rows i
+
+  -- the coefficient of an axis, as it is read
+  read : (axis : ℕ) → getD rows (5 * i + 1 + axis) (pos 0) ≡ h .coefficient axis
+  read axis = let e : 5 * i + 1 + axis ≡ 5 * i + suc axis = omega arith in ap (λ (k : ℕ). getD rows k (pos 0)) e
+
+  coefficient-near : (axis : ℕ) → axis < mostAxes → Near (held (getD rows (5 * i + 1 + axis) (pos 0))) (h .coefficient axis) coefficientLimit
+  coefficient-near axis l = rw (read axis) (near (record { most = row .small .coefficient axis l .most }) tt)
+
+  -- ---- steps
+  module _ {table lengths : List ℕ} (tables : SmallTables table lengths) (j : ℕ) (l : j < wordLevels) where
+    abbrev axis : ℕ
+    axis = getD table j 0
+
+    doubled-near : Near (pos 2 *ℤ held (getD rows (5 * i + 1 + axis) (pos 0))) (pos 2 *ℤ h .coefficient axis) (2 * coefficientLimit)
+    doubled-near = near-mul {x = pos 2} {y = h .coefficient axis} (near-lit (pos 2)) (coefficient-near axis (tables .axis j l))
+
+    pub doubled-fits : SFits w64 (pos 2 *ℤ held (getD rows (5 * i + 1 + axis) (pos 0)))
+    doubled-fits = near-fits {x = pos 2 *ℤ h .coefficient axis} doubled-near tt
+
+    pub length-fits : SFits w64 (pos (getD lengths j 0))
+    length-fits = near-fits (near-nat (getD lengths j 0) longestSide (tables .short j .most)) tt
+
+    step-near : Near (held (pos 2 *ℤ held (getD rows (5 * i + 1 + axis) (pos 0))) *ℤ toZ w64 (getD lengths j 0)) (stepOf h table lengths j) stepLimit
+    step-near =
+        near-mul {x = pos 2 *ℤ h .coefficient axis} {y = pos (getD lengths j 0)}
+        (near-back {x = pos 2 *ℤ h .coefficient axis} doubled-near tt)
+        (near-cast (getD lengths j 0) longestSide (tables .short j .most) tt)
+
+    pub step-product : SFits w64 (held (pos 2 *ℤ held (getD rows (5 * i + 1 + axis) (pos 0))) *ℤ toZ w64 (getD lengths j 0))
+    step-product = near-fits {x = stepOf h table lengths j} step-near tt
+
+    pub step-is : held (held (pos 2 *ℤ held (getD rows (5 * i + 1 + axis) (pos 0))) *ℤ toZ w64 (getD lengths j 0)) ≡ stepOf h table lengths j
+    step-is = near-back {x = stepOf h table lengths j} step-near tt .same
+
+    -- a call's result
+    step-held : {s : ℤ} → s ≡ stepOf h table lengths j → Near (held s) (stepOf h table lengths j) stepLimit
+    step-held e = near-call {x = stepOf h table lengths j} e (record { same = refl; size = step-near .size }) tt
+
+    pub step-small : natAbs (stepOf h table lengths j) ≤ stepLimit
+    step-small = step-near .size
+
+  module _ {table lengths : List ℕ} (tables : SmallTables table lengths) {s₀ s₁ s₂ s₃ s₄ s₅ : ℤ}
+      (e₀ : s₀ ≡ stepOf h table lengths 0) (e₁ : s₁ ≡ stepOf h table lengths 1) (e₂ : s₂ ≡ stepOf h table lengths 2)
+      (e₃ : s₃ ≡ stepOf h table lengths 3) (e₄ : s₄ ≡ stepOf h table lengths 4) (e₅ : s₅ ≡ stepOf h table lengths 5) where
+    abbrev six : List ℤ
+    six = held s₀ ∷ held s₁ ∷ held s₂ ∷ held s₃ ∷ held s₄ ∷ held s₅ ∷ []
+
+    each : (j : ℕ) → j < wordLevels → stepAt six j ≡ stepOf h table lengths j
+    each zero l = step-held tables 0 l e₀ .same
+    each (suc zero) l = step-held tables 1 l e₁ .same
+    each (suc (suc zero)) l = step-held tables 2 l e₂ .same
+    each (suc (suc (suc zero))) l = step-held tables 3 l e₃ .same
+    each (suc (suc (suc (suc zero)))) l = step-held tables 4 l e₄ .same
+    each (suc (suc (suc (suc (suc zero))))) l = step-held tables 5 l e₅ .same
+    each (suc (suc (suc (suc (suc (suc j)))))) l = absurd (omega arith)
+
+    pub steps-are : StepsOf h table lengths six
+    steps-are = record { step = each; beyond = λ j l. List·getD-eq-default six (pos 0) l }
+
+  -- ---- the value
+  module _ {low : List ℕ} (lows : SmallPlaces low) where
+    module _ (axis : ℕ) (l : axis < mostAxes) where
+      place-few : 2 * getD low axis 0 + 1 ≤ 2 * longestSide + 1
+      place-few = omega (arith, lows .place axis .most)
+
+      term-near : Near (held (getD rows (5 * i + 1 + axis) (pos 0)) *ℤ toZ w64 (2 * getD low axis 0 + 1)) (termOf h low axis) termLimit
+      term-near =
+          near-mul {x = h .coefficient axis} {y = pos (2 * getD low axis 0 + 1)}
+          (coefficient-near axis l)
+          (near-cast (2 * getD low axis 0 + 1) (2 * longestSide + 1) place-few tt)
+
+      pub place-fits : SFits w64 (pos (2 * getD low axis 0 + 1))
+      place-fits = near-fits (near-nat (2 * getD low axis 0 + 1) (2 * longestSide + 1) place-few) tt
+
+      pub term-fits : SFits w64 (held (getD rows (5 * i + 1 + axis) (pos 0)) *ℤ toZ w64 (2 * getD low axis 0 + 1))
+      term-fits = near-fits {x = termOf h low axis} term-near tt
+
+      pub term-is : held (held (getD rows (5 * i + 1 + axis) (pos 0)) *ℤ toZ w64 (2 * getD low axis 0 + 1)) ≡ termOf h low axis
+      term-is = near-back {x = termOf h low axis} term-near tt .same
+
+      -- a call's result
+      term-held : {t : ℤ} → t ≡ termOf h low axis → Near (held t) (termOf h low axis) termLimit
+      term-held e = near-call {x = termOf h low axis} e (record { same = refl; size = term-near .size }) tt
+
+    offset-near : Near (pos 2 *ℤ held (h .offset)) (pos 2 *ℤ h .offset) (2 * offsetLimit)
+    offset-near = near-mul {x = pos 2} {y = h .offset} (near-lit (pos 2)) (near (record { most = row .small .offset }) tt)
+
+    pub offset-fits : SFits w64 (pos 2 *ℤ held (h .offset))
+    offset-fits = near-fits {x = pos 2 *ℤ h .offset} offset-near tt
+
+    module _ {a b c d : ℤ} (p : a ≡ termOf h low 0) (q : b ≡ termOf h low 1) (r : c ≡ termOf h low 2) (s : d ≡ termOf h low 3) where
+      abbrev two : ℤ
+      two = termOf h low 0 +ℤ termOf h low 1
+
+      abbrev three : ℤ
+      three = two +ℤ termOf h low 2
+
+      abbrev four : ℤ
+      four = three +ℤ termOf h low 3
+
+      two-near : Near (held a +ℤ held b) two (2 * termLimit)
+      two-near = near-add {x = termOf h low 0} {y = termOf h low 1} (term-held 0 (lit< tt) p) (term-held 1 (lit< tt) q)
+
+      three-near : Near (held (held a +ℤ held b) +ℤ held c) three (3 * termLimit)
+      three-near = near-add {x = two} {y = termOf h low 2} (near-back {x = two} two-near tt) (term-held 2 (lit< tt) r)
+
+      four-near : Near (held (held (held a +ℤ held b) +ℤ held c) +ℤ held d) four (4 * termLimit)
+      four-near = near-add {x = three} {y = termOf h low 3} (near-back {x = three} three-near tt) (term-held 3 (lit< tt) s)
+
+      value-near : Near (held (pos 2 *ℤ held (h .offset)) +ℤ held (held (held (held a +ℤ held b) +ℤ held c) +ℤ held d)) (pos 2 *ℤ h .offset +ℤ four)
+          (2 * offsetLimit + 4 * termLimit)
+      value-near = near-add {x = pos 2 *ℤ h .offset} {y = four} (near-back {x = pos 2 *ℤ h .offset} offset-near tt) (near-back {x = four} four-near tt)
+
+      pub two-fits : SFits w64 (held a +ℤ held b)
+      two-fits = near-fits {x = two} two-near tt
+
+      pub three-fits : SFits w64 (held (held a +ℤ held b) +ℤ held c)
+      three-fits = near-fits {x = three} three-near tt
+
+      pub four-fits : SFits w64 (held (held (held a +ℤ held b) +ℤ held c) +ℤ held d)
+      four-fits = near-fits {x = four} four-near tt
+
+      pub value-fits : SFits w64 (held (pos 2 *ℤ held (h .offset)) +ℤ held (held (held (held a +ℤ held b) +ℤ held c) +ℤ held d))
+      value-fits = near-fits {x = pos 2 *ℤ h .offset +ℤ four} value-near tt
+
+      pub value-is : held (held (pos 2 *ℤ held (h .offset)) +ℤ held (held (held (held a +ℤ held b) +ℤ held c) +ℤ held d)) ≡ firstValue h low
+      unfolding firstValue total
+      value-is =
+          near-back {x = pos 2 *ℤ h .offset +ℤ four} value-near tt .same
+          ∙ from (h .offset) (termOf h low 0) (termOf h low 1) (termOf h low 2) (termOf h low 3)
+        where
+          from : (o a b c d : ℤ) → pos 2 *ℤ o +ℤ (a +ℤ b +ℤ c +ℤ d) ≡ pos 2 *ℤ o +ℤ (pos 0 +ℤ a +ℤ b +ℤ c +ℤ d)
+          from o a b c d = eq-by (ν 2 ⊗ ι o ⊕ (ι a ⊕ ι b ⊕ ι c ⊕ ι d)) (ν 2 ⊗ ι o ⊕ (ν 0 ⊕ ι a ⊕ ι b ⊕ ι c ⊕ ι d)) (omega arith)
+
+-- ---- the axes that a universe lacks add nothing
+total-less : (n k : ℕ) (f : ℕ → ℤ) → ((i : ℕ) → n ≤ i → i < n + k → f i ≡ pos 0) → total (n + k) f ≡ total n f
+unfolding total
+total-less n zero f z = let e : n + 0 ≡ n = omega arith in ap (λ (m : ℕ). total m f) e
+total-less n (suc k) f z =
+    let e : n + suc k ≡ suc (n + k) = omega arith in
+    ap (λ (m : ℕ). total m f) e
+    ∙ ap (λ (x : ℤ). total (n + k) f +ℤ x) (z (n + k) (omega arith) (omega arith))
+    ∙ +ℤ-idr (total (n + k) f)
+    ∙ total-less n k f (λ i l m. z i l (omega arith))
+
+no-size : (z : ℤ) → natAbs z ≤ 0 → z ≡ pos 0
+no-size (pos n) l = ap pos (omega arith)
+no-size (negsuc n) l = absurd (omega arith)
+
+module _ (u : Universe) (few : u .axes ≤ mostAxes) (h : Halfspace) (within : withinLimits u h ≡ true) (low : List ℕ) where
+  no-coefficient : (i : ℕ) → u .axes ≤ i → i < mostAxes → h .coefficient i ≡ pos 0
+  unfolding withinLimits
+  no-coefficient i l m =
+      let test : ℕ → Bool = λ i. leb (natAbs (h .coefficient i)) (cond (ltb i (u .axes)) coefficientLimit 0) in
+      let all = every-all mostAxes test (and-right (leb (natAbs (h .offset)) offsetLimit) (every mostAxes test) within) i m in
+      no-size (h .coefficient i) (leb-true _ _ (rw (le-ltb i (u .axes) l) at all))
+
+  pub first-centre : firstValue h low ≡ centreValue u h low
+  unfolding firstValue centreValue
+  first-centre =
+      let e : mostAxes ≡ u .axes + (mostAxes - u .axes) = omega arith in
+      ap (λ (x : ℤ). pos 2 *ℤ h .offset +ℤ x)
+      (ap (λ (n : ℕ). total n (termOf h low)) e ∙ total-less (u .axes) (mostAxes - u .axes) (termOf h low) (λ i l m. none i l (omega arith)))
+    where
+      none : (i : ℕ) → u .axes ≤ i → i < mostAxes → termOf h low i ≡ pos 0
+      none i l m =
+          ap (λ (x : ℤ). x *ℤ pos (2 * getD low i 0 + 1)) (no-coefficient i l m) ∙ eq-by (ν 0 ⊗ ν (2 * getD low i 0 + 1)) (ν 0) (omega arith)

@@ -1,0 +1,17 @@
+-- `falling`: by the test of the amount.
+use Rattle.at_once.proofs.Values.{falls-nothing, falls-whole}
+use Rattle.at_once.proofs.leaf.falling.Statement.{statement}
+use Rattle.at_once.proofs.leaf.falling.Tie as tie
+
+returns : tie.Need-returns
+returns c = falls-nothing (c .before .pre) (c .if1 .taken)
+
+returns-2 : tie.Need-returns-2
+returns-2 c = falls-whole (c .before .pre) (c .if1 .left)
+
+pub falling-spec : {M : Type 1} → statement M
+falling-spec =
+    tie.close
+    (tie.spec
+    returns
+    returns-2)

@@ -1,0 +1,10 @@
+-- Answers at once: how trees stand in local room, how they are loaded and pruned there, words, and the recursions over
+-- blocks.
+pub mod Codes
+pub mod Values
+pub mod Pruning
+pub mod Loading
+pub mod Words
+pub mod Counting
+pub mod Whole
+pub mod Answers

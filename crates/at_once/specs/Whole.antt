@@ -1,0 +1,48 @@
+-- What the whole universe asks: two trees that no check refuses, over a window; and how their codes are loaded, one
+-- behind the other.
+use Prim.Native.Nat.{ℕ, suc, _+_, _*_, _≤_}
+use mathlib.Core.Path.{_≡_}
+use mathlib.Core.List.{List, [], _∷_}
+use lib.ListN.{length}
+use Rattle.universe.specs.declared.Universe.{Universe}
+use Rattle.universe.specs.Universe.{mostLevels}
+use Rattle.universe.specs.Voxel.{windowRefusal}
+use Rattle.csg.specs.Halfspace.{mostRows}
+use Rattle.csg.specs.Ball.{mostBalls}
+use Rattle.csg.specs.Surfaces.{Surfaces, Named, named}
+use Rattle.csg.specs.Tree.{Plain, plain}
+use Rattle.csg.specs.Words.{mostWords, treeRefusal, treeOf}
+use Rattle.pruned.specs.Nodes.{allPostfix, mostShapes}
+use Rattle.pruned.specs.Laying.{SoundScene}
+use Rattle.at_once.specs.Codes.{HoldsCodes}
+
+-- the most codes that stand at once: those of two trees for each level, and once more
+abbrev pub mostCodes : ℕ
+mostCodes = suc mostLevels * (2 * mostWords)
+
+-- both trees of a run
+abbrev pub bothTrees : Named → List ℕ → List ℕ → List Plain
+bothTrees names first second = plain (treeOf names first) ∷ plain (treeOf names second) ∷ []
+
+pub record BothJob (first second codes starts : List ℕ) : Type 0 where
+  pub names : Named
+  pub few-rows : names .halfspaces ≤ mostRows
+  pub few-balls : names .balls ≤ mostBalls
+  pub accepted-first : treeRefusal names first ≡ 0
+  pub accepted-second : treeRefusal names second ≡ 0
+  pub inside : length first + length second ≤ length codes
+  pub starts-long : length starts ≡ mostShapes
+
+pub record BothLoaded {first second codes starts : List ℕ} (job : BothJob first second codes starts)
+    (after starts′ : List ℕ) : Type 0 where
+  pub holds : HoldsCodes after 0 (allPostfix (bothTrees (job .names) first second))
+  pub counted : length first + length second ≡ length (allPostfix (bothTrees (job .names) first second))
+  pub long : length after ≡ length codes
+  pub starts-long : length starts′ ≡ mostShapes
+
+-- two trees that no check refuses, over a window
+pub record WholeReady (u : Universe) (surfaces : Surfaces) (first second : List ℕ) (from to : ℕ) : Type 0 where
+  pub scene : SoundScene u surfaces
+  pub accepted-first : treeRefusal (named surfaces) first ≡ 0
+  pub accepted-second : treeRefusal (named surfaces) second ≡ 0
+  pub window : windowRefusal u from to ≡ 0

@@ -1,0 +1,244 @@
+// The recursion over blocks that joins the black voxels of a window to a contact.
+use crate::digits::WORD_LEVELS;
+use crate::digits::ones_of;
+use crate::ends::word_end;
+use crate::frames::greater;
+use crate::frames::joined;
+use crate::frames::lesser;
+use crate::frames::voxels_of;
+use crate::marks::BLACK_BIT;
+use crate::marks::WHITE_BIT;
+use crate::prune::MOST_SHAPES;
+use crate::prune::prune;
+use crate::window::window_word;
+use crate::word::trees_word;
+use bintree::Contact;
+use universe::Universe;
+ghost use mathlib.Core.Path.{_≡_};
+ghost use Prim.Native.Nat.{_+_, _≤_};
+ghost use Rattle.csg.specs.Surfaces.{surfacesOf};
+ghost use Rattle.pruned.specs.Nodes.{Shelves};
+ghost use Rattle.at_once.specs.Counting.{contactOver, CountJob, CountWordJob, PutBack};
+
+// Joins a block whose voxels have a digit each in one word: the ends are read off it, and its ones are counted.
+fn count_word(
+    axes: usize,
+    rows: &[i64],
+    balls: &[i64],
+    table: &[usize; Universe::MOST_LEVELS as usize],
+    lengths: &[u64; WORD_LEVELS],
+    low: &[u64; Universe::MOST_AXES as usize],
+    left: u64,
+    codes: &[u16],
+    from: usize,
+    count: usize,
+    first: u64,
+    last: u64,
+    contact: Contact,
+) -> Contact
+    requires { let surfaces = surfacesOf (now rows) (now balls) in
+        ⌜ CountWordJob surfaces axes (now table) (now lengths) (now low) left (now codes) from count first last
+        contact ⌝ }
+    ensures { λ r. let surfaces = surfacesOf (now (rows .entry)) (now (balls .entry)) in
+        ⌜ ((job : CountWordJob surfaces axes (now (table .entry)) (now (lengths .entry)) (now (low .entry)) left
+        (now (codes .entry)) from count first last contact) → r ≡ contactOver first last (job .word .block) contact) ⌝ }
+{
+    let frame_axis = axes - 1;
+    let frame = low[frame_axis];
+    let trees = trees_word(
+        axes,
+        rows,
+        balls,
+        table,
+        lengths,
+        low,
+        left,
+        codes,
+        from,
+        count,
+    );
+    let window = window_word(first, last, frame_axis, table, lengths, left, frame);
+    let word = trees & window;
+    if word == 0 {
+        return contact;
+    }
+    let begin = word_end(false, frame_axis, table, lengths, left, word);
+    let end = word_end(true, frame_axis, table, lengths, left, word);
+    joined(contact, frame + begin, frame + end, ones_of(word))
+}
+
+// Joins a block: nothing where none of its frames are the window's or the trees are WHITE over it, its frames in the
+// window where they are BLACK, and else both halves. The codes of what is carried into it stay.
+pub(crate) fn count_block(
+    axes: usize,
+    rows: &[i64],
+    balls: &[i64],
+    table: &[usize; Universe::MOST_LEVELS as usize],
+    lengths: &[u64; WORD_LEVELS],
+    low: &mut [u64; Universe::MOST_AXES as usize],
+    side: &mut [u64; Universe::MOST_AXES as usize],
+    left: u64,
+    codes: &mut [u16],
+    from: usize,
+    count: usize,
+    starts: &mut [usize; MOST_SHAPES],
+    marks: &mut [u8; MOST_SHAPES],
+    first: u64,
+    last: u64,
+    contact: Contact,
+) -> Contact
+    requires { let surfaces = surfacesOf (now rows) (now balls) in
+        ⌜ CountJob surfaces axes (now table) (now lengths) (now low) (now side) left (now codes) from count (left + 1)
+        first last contact ⌝ }
+    requires { ⌜ Shelves (now starts) (now marks) ⌝ }
+    ensures { λ r. let surfaces = surfacesOf (now (rows .entry)) (now (balls .entry)) in
+        ⌜ ((job : CountJob surfaces axes (now (table .entry)) (now (lengths .entry)) (now (low .entry))
+        (now (side .entry)) left (now (codes .entry)) from count (left + 1) first last contact)
+        → r ≡ contactOver first last (job .block) contact) ⌝ }
+    ensures { λ _. ⌜ PutBack (from + count) (now (low .entry)) (now (side .entry)) (now (codes .entry))
+        (now (low .exit)) (now (side .exit)) (now (codes .exit)) ⌝ }
+    ensures { λ _. ⌜ Shelves (now (starts .exit)) (now (marks .exit)) ⌝ }
+{
+    let frame_axis = axes - 1;
+    let frame = low[frame_axis];
+    let wide = side[frame_axis];
+    let begin = greater(frame, first);
+    let end = lesser(frame + (wide - 1), last);
+    if end < begin {
+        return contact;
+    }
+    if left <= WORD_LEVELS as u64 {
+        return count_word(
+            axes,
+            rows,
+            balls,
+            table,
+            lengths,
+            low,
+            left,
+            codes,
+            from,
+            count,
+            first,
+            last,
+            contact,
+        );
+    }
+    let kept = prune(
+        axes,
+        rows,
+        balls,
+        low,
+        side,
+        codes,
+        from,
+        count,
+        starts,
+        marks,
+    );
+    let mark = kept.mark;
+    let nodes = kept.nodes;
+    if mark == WHITE_BIT {
+        return contact;
+    }
+    if mark == BLACK_BIT {
+        return joined(contact, begin, end, voxels_of(left, wide, begin, end));
+    }
+    count_halves(
+        axes,
+        rows,
+        balls,
+        table,
+        lengths,
+        low,
+        side,
+        left,
+        codes,
+        from + count,
+        nodes,
+        starts,
+        marks,
+        first,
+        last,
+        contact,
+    )
+}
+
+// Joins both halves of a block.
+fn count_halves(
+    axes: usize,
+    rows: &[i64],
+    balls: &[i64],
+    table: &[usize; Universe::MOST_LEVELS as usize],
+    lengths: &[u64; WORD_LEVELS],
+    low: &mut [u64; Universe::MOST_AXES as usize],
+    side: &mut [u64; Universe::MOST_AXES as usize],
+    left: u64,
+    codes: &mut [u16],
+    from: usize,
+    count: usize,
+    starts: &mut [usize; MOST_SHAPES],
+    marks: &mut [u8; MOST_SHAPES],
+    first: u64,
+    last: u64,
+    contact: Contact,
+) -> Contact
+    requires { let surfaces = surfacesOf (now rows) (now balls) in
+        ⌜ CountJob surfaces axes (now table) (now lengths) (now low) (now side) left (now codes) from count left
+        first last contact ⌝ }
+    requires { ⌜ 1 ≤ left ⌝ }
+    requires { ⌜ Shelves (now starts) (now marks) ⌝ }
+    ensures { λ r. let surfaces = surfacesOf (now (rows .entry)) (now (balls .entry)) in
+        ⌜ ((job : CountJob surfaces axes (now (table .entry)) (now (lengths .entry)) (now (low .entry))
+        (now (side .entry)) left (now (codes .entry)) from count left first last contact)
+        → r ≡ contactOver first last (job .block) contact) ⌝ }
+    ensures { λ _. ⌜ PutBack (from + count) (now (low .entry)) (now (side .entry)) (now (codes .entry))
+        (now (low .exit)) (now (side .exit)) (now (codes .exit)) ⌝ }
+    ensures { λ _. ⌜ Shelves (now (starts .exit)) (now (marks .exit)) ⌝ }
+{
+    let axis = table[(left - 1) as usize];
+    let near = low[axis];
+    let whole = side[axis];
+    let half = whole / 2;
+    side[axis] = half;
+    let below = count_block(
+        axes,
+        rows,
+        balls,
+        table,
+        lengths,
+        low,
+        side,
+        left - 1,
+        codes,
+        from,
+        count,
+        starts,
+        marks,
+        first,
+        last,
+        contact,
+    );
+    low[axis] = near + half;
+    let above = count_block(
+        axes,
+        rows,
+        balls,
+        table,
+        lengths,
+        low,
+        side,
+        left - 1,
+        codes,
+        from,
+        count,
+        starts,
+        marks,
+        first,
+        last,
+        below,
+    );
+    low[axis] = near;
+    side[axis] = whole;
+    above
+}

@@ -1,0 +1,1 @@
+// No code: colours of many voxels in one number, as definitions and laws.
