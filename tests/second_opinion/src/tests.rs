@@ -4,7 +4,7 @@
 use crate::fast::{plain_merged_fast, plain_numbers_fast, plain_raw_fast, plain_verdict_fast, Run};
 use crate::hand::{hand_merged, hand_raw, Hand};
 use crate::boxed::{boxed_verdict, Solid};
-use crate::words::{words_ends, words_verdict, Words};
+use crate::words::{words_contacts, words_ends, words_merged, words_verdict, Words};
 use crate::generate::{self, Random};
 use crate::generate::Named;
 use crate::plain::*;
@@ -699,35 +699,96 @@ fn pruned_by_hand_agrees() {
     }
 }
 
+/// The merged expression by words, in room of several sizes, is the plain one; what is behind it is kept, or all of it.
+fn merged_by_words_agrees(run: &Run, words: &Words) {
+    let room = run.room() as usize;
+    assert_eq!(words.room(), run.room());
+    let mut plain = vec![0; room];
+    let length = plain_merged_fast(run, &mut plain).unwrap();
+    for lent in [length, length - 1, room, room + 1, 0] {
+        let mut out = vec![b'.'; lent];
+        let meant = if length <= lent { Ok(length) } else { Err(length) };
+        assert_eq!(words_merged(words, &mut out), meant);
+        let written = meant.unwrap_or(0);
+        assert!(out[..written] == plain[..written] && out[written..].iter().all(|byte| *byte == b'.'));
+    }
+}
+
+/// All answers by words are the plain ones; whether there is a hit.
+fn words_agree(given: [u64; 3], rows: &[i64], balls: &[i64], trees: &[&[u16]], first: u64, last: u64) -> bool {
+    let [axes, bits, frame_bits] = given;
+    let run = Run::checked(axes, bits, frame_bits, rows, balls, trees).unwrap();
+    let mut room = vec![0; run.room() as usize];
+    let [hit, from, to, voxels, _] = plain_verdict_fast(&run, first, last, &mut room).unwrap();
+    let meant = (hit == 1).then_some((from, to, voxels));
+    let words = Words::checked(axes, bits, frame_bits, rows, balls, trees).unwrap();
+    assert_eq!(words_verdict(&words, first, last), Ok(meant));
+    assert_eq!(words_ends(&words, first, last), Ok(meant.map(|(from, to, _)| (from, to))));
+    merged_by_words_agrees(&run, &words);
+    let (universe, read) = run_checked(axes, bits, frame_bits, rows, balls, trees).unwrap();
+    let counts = contacts_by_blocks(&universe, &joined(&read), &Block::whole(&universe), first, last);
+    assert_eq!(words_contacts(&words, first, last), Ok(counts));
+    hit == 1
+}
+
 #[test]
 fn words_by_hand_agree() {
-    let agree = |axes, bits, frame_bits, rows: &[i64], balls: &[i64], trees: &[&[u16]], first, last| {
-        let run = Run::checked(axes, bits, frame_bits, rows, balls, trees).unwrap();
-        let mut room = vec![0; run.room() as usize];
-        let [hit, from, to, voxels, _] = plain_verdict_fast(&run, first, last, &mut room).unwrap();
-        let meant = (hit == 1).then_some((from, to, voxels));
-        let words = Words::checked(axes, bits, frame_bits, rows, balls, trees).unwrap();
-        assert_eq!(words_verdict(&words, first, last), Ok(meant));
-        assert_eq!(words_ends(&words, first, last), Ok(meant.map(|(from, to, _)| (from, to))));
-        hit
-    };
     let mut random = Random::new(28);
     let mut hits = 0;
     for _ in 0..20_000 {
         let given = generate::small_universe(&mut random, 10);
-        let [axes, bits, frame_bits] = given;
         let (rows, balls, one, two) = drawn_run(&mut random, given);
         let trees: &[&[u16]] = if random.chance(50) { &[&one] } else { &[&one, &two] };
-        let first = random.below(1 << frame_bits);
-        let last = first + random.below((1 << frame_bits) - first);
-        hits += agree(axes, bits, frame_bits, &rows, &balls, trees, first, last);
+        let first = random.below(1 << given[2]);
+        let last = first + random.below((1 << given[2]) - first);
+        hits += words_agree(given, &rows, &balls, trees, first, last) as usize;
     }
     assert!((1_000..19_000).contains(&hits));
     for scene in scenes::twenty(-1) {
         let frames = 1 << scene.frame_bits;
+        let given = [scene.axes, scene.bits, scene.frame_bits];
         for (first, last) in [(0, frames - 1), (frames / 3, frames / 2), (frames - 1, frames - 1)] {
-            agree(scene.axes, scene.bits, scene.frame_bits, &scene.rows, &scene.balls, &scene.trees(), first, last);
+            words_agree(given, &scene.rows, &scene.balls, &scene.trees(), first, last);
         }
+    }
+}
+
+/// Halfspaces with the greatest coefficients there are, on a voxel's corner and its centre and next to them: the values
+/// of a word are then as large as they can be.
+#[test]
+fn words_agree_at_the_limits() {
+    let mut random = Random::new(29);
+    for given in [[1, 0, 6], [1, 0, 7], [1, 0, 12], [2, 3, 3], [2, 0, 7], [3, 2, 2], [4, 1, 3], [4, 2, 2]] {
+        let universe = drawn(given);
+        for _ in 0..200 {
+            let mut row = [0; 5];
+            let mut twice = 0;
+            for axis in 0..universe.axes {
+                row[axis + 1] = [-1, 1][random.below(2) as usize] * 16_777_216;
+                twice += row[axis + 1] * random.below(2 * universe.side(axis) as u64 + 1) as i64;
+            }
+            row[0] = random.between(-1, 1) - twice / 2;
+            let tree: &[u16] = if random.chance(50) { &[256] } else { &[1, 256, 4] };
+            let first = random.below(1 << given[2]);
+            words_agree(given, &row, &[], &[tree], first, first + random.below((1 << given[2]) - first));
+        }
+    }
+}
+
+/// A shape and, beside it, planes less themselves: wherever they go text is begun and all of it taken back.
+#[test]
+fn words_take_back() {
+    let mut random = Random::new(30);
+    let given = [2, 7, 7];
+    for _ in 0..100 {
+        let mut rows = vec![];
+        for _ in 0..4 {
+            let [x, y] = [0; 2].map(|_: i32| random.between(-100, 100));
+            rows.extend([-64 * (x + y) + random.between(-2_000, 2_000), x, y, 0, 0]);
+        }
+        let planes = [257, 258, 2, 259, 2];
+        let tree = [&[256], &planes[..], &planes, &[4, 2]].concat();
+        words_agree(given, &rows, &[], &[&tree], 30, 90);
     }
 }
 

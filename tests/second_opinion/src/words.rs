@@ -1,10 +1,18 @@
-//! Answers at once, by hand: the verdict of a run over a window, and its ends alone, with no expression written. It is
-//! written for speed with all that Rust allows: what is left of the tree goes from a block to its halves, a halfspace
-//! with its value at the block's low corner; from six levels above the voxels on a leaf is a word of 64 colours in the
-//! order of the bintree, and operators are bit operations. The benchmark measures the library against it; the unit
-//! tests hold it to `fast`.
+//! Answers by words of 64 voxels, by hand: the verdict of a run over a window, and its ends alone, with no expression
+//! written; in `merged` the merged expression, in `contacts` sure and possible contact. It is written for speed with
+//! all that Rust allows: what is left of the tree goes from a block to its halves, a halfspace with its value at the
+//! block's low corner; from six levels above the voxels on a leaf is a word of 64 colours in the order of the bintree,
+//! and operators are bit operations. The benchmark measures the library against it; the unit tests hold it to `fast`
+//! and to `plain`.
 
-use crate::plain::{run_checked, window_checked, Answer, Hit, Surface, Tree, Universe};
+mod contacts;
+mod merged;
+mod text;
+
+use crate::plain::{room_of, run_checked, window_checked, Answer, Hit, Surface, Tree, Universe};
+pub use contacts::words_contacts;
+pub use merged::words_merged;
+use std::mem::MaybeUninit;
 
 /// A mark as two bits; 0 is undecided.
 const BLACK: u8 = 1;
@@ -45,9 +53,12 @@ pub struct Words {
     balls: Vec<[i64; 4]>,
     /// by levels left and then by halfspace
     reaches: Vec<Reach>,
+    /// by halfspace: the steps of a word, 0 where the universe has no such level
+    steps: Vec<[i64; LEVELS]>,
     /// by the levels left below a halving: its axis, and the length of the halves along it
     axes: Vec<usize>,
     lengths: Vec<i64>,
+    room: u64,
 }
 
 fn gather(tree: &Tree, words: &mut Words) {
@@ -90,12 +101,15 @@ impl Words {
             rows: vec![],
             balls: vec![],
             reaches: vec![],
+            steps: vec![],
             axes: order.iter().rev().copied().collect(),
             lengths: vec![0; levels],
+            room: 0,
         };
         for tree in &read {
             gather(tree, &mut words);
         }
+        words.room = room_of(&words.universe, words.rows.len() as u64, words.balls.len() as u64);
         if read.len() == 2 {
             words.nodes.push(Node { value: 0, code: INTERSECTION });
         }
@@ -118,7 +132,17 @@ impl Words {
                 sides[words.axes[left]] *= 2;
             }
         }
+        let rows = words.rows.len();
+        let step = |level: usize, place: usize| {
+            if level < levels { words.reaches[(level + 1) * rows + place].step } else { 0 }
+        };
+        words.steps = (0..rows).map(|place| std::array::from_fn(|level| step(level, place))).collect();
         Ok(words)
+    }
+
+    /// What the room formula says.
+    pub fn room(&self) -> u64 {
+        self.room
     }
 
     fn begun<const D: usize>(&self, first: u64, last: u64) -> Work<'_, D> {
@@ -177,6 +201,27 @@ pub fn words_ends(words: &Words, first: u64, last: u64) -> Answer<Option<(u64, u
     })
 }
 
+/// What is pending, of which nothing is cleared beforehand: a place is read only after it was set. A tree has at most
+/// 32 shapes pending, and two trees one more.
+struct Pending<T: Copy>([MaybeUninit<T>; 64]);
+
+impl<T: Copy> Pending<T> {
+    #[inline(always)]
+    fn new() -> Pending<T> {
+        Pending([const { MaybeUninit::uninit() }; 64])
+    }
+
+    #[inline(always)]
+    fn set(&mut self, place: usize, value: T) {
+        self.0[place & 63] = MaybeUninit::new(value);
+    }
+
+    #[inline(always)]
+    fn get(&self, place: usize) -> T {
+        unsafe { self.0[place & 63].assume_init() }
+    }
+}
+
 struct Work<'a, const D: usize> {
     words: &'a Words,
     nodes: Vec<Node>,
@@ -201,24 +246,21 @@ fn turned(code: u32, mark: u8) -> u8 {
     if code & TURNED != 0 { opposite(mark) } else { mark }
 }
 
-/// The word of the values from `v` on, a step for each digit that is 1: bit i is 1 where the value is not negative.
+/// The word of the values from `v` on, a step for each digit that is 1: digit i is 1 where the value is not negative. All
+/// are under 2^31 in size, so that two go into one number, 32 digits apart: each with 2^31 more, its highest digit is
+/// the one that is asked for.
 #[inline(always)]
 fn row_word(v: i64, steps: &[i64; LEVELS], left: usize) -> u64 {
-    let one = |v: i64| (v >= 0) as u64;
-    let two = |v: i64| one(v) | one(v + steps[0]) << 1;
-    let four = |v: i64| two(v) | two(v + steps[1]) << 2;
-    let eight = |v: i64| four(v) | four(v + steps[2]) << 4;
-    let sixteen = |v: i64| eight(v) | eight(v + steps[3]) << 8;
-    let half = |v: i64| sixteen(v) | sixteen(v + steps[4]) << 16;
-    match left {
-        6 => half(v) | half(v + steps[5]) << 32,
-        5 => half(v),
-        4 => sixteen(v),
-        3 => eight(v),
-        2 => four(v),
-        1 => two(v),
-        _ => one(v),
-    }
+    let twice = |number: i64| number.wrapping_add(number << 32) as u64;
+    let [s0, s1, s2, s3, s4, s5] = *steps;
+    let (s0, s1, s2, s3, s4) = (twice(s0), twice(s1), twice(s2), twice(s3), twice(s4));
+    let one = |p: u64| p >> 31 & 0x1_0000_0001;
+    let two = |p: u64| one(p) | one(p.wrapping_add(s0)) << 1;
+    let four = |p: u64| two(p) | two(p.wrapping_add(s1)) << 2;
+    let eight = |p: u64| four(p) | four(p.wrapping_add(s2)) << 4;
+    let sixteen = |p: u64| eight(p) | eight(p.wrapping_add(s3)) << 8;
+    let p = twice(v + (1 << 31)).wrapping_add((s5 << 32) as u64);
+    (sixteen(p) | sixteen(p.wrapping_add(s4)) << 16) & all_ones(left)
 }
 
 /// All bits of a block with so many levels left.
@@ -261,7 +303,7 @@ impl<const D: usize> Work<'_, D> {
     /// Judges the tree over the block at hand, and writes what is left of it behind.
     #[inline(always)]
     fn prune(&mut self, from: usize, end: usize, left: usize, low: &[i64; D], high: bool) -> (u8, usize) {
-        let mut pending = [(0u8, 0usize); 64];
+        let mut pending = Pending::<(u8, usize)>::new();
         let mut top = 0;
         let mut to = end;
         for place in from..end {
@@ -269,64 +311,60 @@ impl<const D: usize> Work<'_, D> {
             let code = node.code;
             if code & (UNION | INTERSECTION) == 0 {
                 let (mark, value) = self.judged(node, left, low, high);
-                pending[top & 63] = (mark, to);
+                pending.set(top, (mark, to));
                 top += 1;
                 unsafe { *self.nodes.get_unchecked_mut(to) = Node { value, code } };
                 to += (mark == 0) as usize;
                 continue;
             }
             top -= 1;
-            let ((a, start), (b, _)) = (pending[(top - 1) & 63], pending[top & 63]);
+            let ((a, start), (b, _)) = (pending.get(top - 1), pending.get(top));
             let settling = if code == UNION { BLACK } else { WHITE };
             if a == settling || b == settling {
-                pending[(top - 1) & 63].0 = settling;
+                pending.set(top - 1, (settling, start));
                 to = start;
             } else if a | b == 0 {
                 unsafe { *self.nodes.get_unchecked_mut(to) = node };
                 to += 1;
             } else {
                 // a decided son hands its parent over to the other, or both are decided alike
-                pending[(top - 1) & 63].0 = a & b;
+                pending.set(top - 1, (a & b, start));
             }
         }
-        (pending[0].0, to)
+        (pending.get(0).0, to)
     }
 
     /// The colours of the block at hand, which has at most six levels left.
     fn word(&self, from: usize, end: usize, left: usize, low: &[i64; D], high: bool) -> u64 {
         let all = all_ones(left);
-        let mut pending = [0u64; 64];
+        let mut pending = Pending::<u64>::new();
         let mut top = 0;
         for place in from..end {
             let node = unsafe { *self.nodes.get_unchecked(place) };
             let code = node.code;
             if code & (UNION | INTERSECTION) != 0 {
                 top -= 2;
-                let (a, b) = (pending[top & 63], pending[(top + 1) & 63]);
-                pending[top & 63] = if code == UNION { a | b } else { a & b };
+                let (a, b) = (pending.get(top), pending.get(top + 1));
+                pending.set(top, if code == UNION { a | b } else { a & b });
             } else {
                 let (mark, value) = self.judged(node, left, low, high);
-                pending[top & 63] = match mark {
+                let word = match mark {
                     BLACK => all,
                     WHITE => 0,
                     _ => self.leaf_word(code, value, left, low),
                 };
+                pending.set(top, word);
             }
             top += 1;
         }
-        pending[0]
+        pending.get(0)
     }
 
     fn leaf_word(&self, code: u32, value: i64, left: usize, low: &[i64; D]) -> u64 {
         let place = (code & INDEX) as usize;
-        let mut steps = [0; LEVELS];
         let word = if code & BALL == 0 {
-            let rows = self.words.rows.len();
-            for (j, step) in steps.iter_mut().enumerate().take(left) {
-                *step = 2 * self.words.reaches[(j + 1) * rows + place].step;
-            }
-            let row = &self.words.rows[place];
-            row_word(2 * value + row[1..=D].iter().sum::<i64>(), &steps, left)
+            let reach = self.words.reaches[place];
+            row_word(value + ((reach.least + reach.greatest) >> 1), &self.words.steps[place], left)
         } else {
             let ball = &self.words.balls[place];
             let off = std::array::from_fn(|axis| if axis + 1 < D { 2 * (low[axis] - ball[axis]) + 1 } else { 0 });
