@@ -144,6 +144,10 @@ module _ {places : ℕ} {table lengths : List ℕ} {left : ℕ} {offs : List ℤ
         most-is = most-same;
       }
 
+      pub low-is-of : (low-over .block ≡ low b) × (low-over .ball ≡ over .ball)
+      unfolding low-over
+      low-is-of = (refl, refl)
+
       module _ {w : ℕ} (e : w ≡ blockMask (ballColour (low-over .block .universe) (low-over .ball)) (left - 1) (low-over .block)) where
         low-is : w ≡ blockMask colours (left - 1) (low b)
         unfolding low-over
@@ -277,6 +281,10 @@ module _ {places : ℕ} {table lengths : List ℕ} {left : ℕ} {offs : List ℤ
           most-is = most-same;
         }
 
+        pub high-is-of : (high-over .block ≡ high b) × (high-over .ball ≡ over .ball)
+        unfolding high-over
+        high-is-of = (refl, refl)
+
         module _ {v : ℕ} (q : v ≡ blockMask (ballColour (high-over .block .universe) (high-over .ball)) (left - 1) (high-over .block)) where
           high-is : v ≡ blockMask colours (left - 1) (high b)
           unfolding high-over
@@ -359,6 +367,10 @@ module _ {surfaces : Surfaces} {axes : ℕ} {table lengths lows : List ℕ} {lef
       distance-is = first-near .same;
       most-is = most-held ball-named q;
     }
+
+    pub ball-is-of : (ball-over .block ≡ wordBlock w) × (ball-over .ball ≡ the-ball)
+    unfolding ball-over
+    ball-is-of = (refl, refl)
 
     pub gives-ball : {r : ℕ} → r ≡ blockMask (ballColour (ball-over .block .universe) (ball-over .ball)) left (ball-over .block) →
         r ≡ blockMask (surfaceColour surfaces (w .universe) (ball i)) left (wordBlock w)

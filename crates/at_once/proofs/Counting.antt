@@ -7,7 +7,7 @@ use mathlib.Core.List.{List}
 use native.Mathlib.Omega.{arith}
 use native.Mathlib.Nat.{mul-le-mul, le-trans, div-le-self, mod-eq-of-lt}
 use borrow.Author.Tests.{le-leb}
-use lib.Bits.{bitAnd}
+use lib.Bits.{bitAnd, and-zero-l}
 use lib.Count.{ones, ones-le}
 use lib.ListN.{getD, set}
 use lib.Pow.{pow-mono}
@@ -41,7 +41,7 @@ use Rattle.masks.proofs.Contacts.{contact-eq, contact-halves, contact-none, con
 use Rattle.masks.proofs.OneColour.{white-contact, black-contact}
 use Rattle.at_once.specs.Words.{wordLevels}
 use Rattle.at_once.specs.Pruning.{PrunedCodes}
-use Rattle.at_once.specs.Counting.{BlockJob, coloursOf, contactOver, endOver, CountJob, WordJob, CountWordJob, PutBack, joinedContact}
+use Rattle.at_once.specs.Counting.{BlockJob, coloursOf, contactOver, endOver, CountJob, WordJob, PutBack, joinedContact}
 use Rattle.at_once.specs.Counting.{BlackFrames, blackVoxels}
 use Rattle.at_once.proofs.Jobs.{frame-is, wide-is, frames-end, leftover, each-is, begin-is, end-is, prune-job, decided-white, decided-black, left-job}
 use Rattle.at_once.proofs.Jobs.{left-colours, left-suc, lower-block, upper-block, lower-job, lower-at}
@@ -165,15 +165,21 @@ module _ {surfaces : Surfaces} {axes : ℕ} {table lengths low side : List ℕ} 
     pub seen-is : blockMask (windowed u first last (coloursOf job)) left b ≡ word
     seen-is = sym (window-mask first last (coloursOf job) left b (leftover job)) ∙ word-is
 
+    pub trees-none : trees ≡ 0 → word ≡ 0
+    trees-none z = ap (λ (x : ℕ). bitAnd x window) z ∙ and-zero-l window
+
     pub word-none : word ≡ 0 → (k : Contact) → k ≡ contactOver first last job k
     word-none z k = sym (contact-none first last (coloursOf job) left b k (leftover job) (word-is ∙ z))
 
     module _ (some : word ≡ 0 → ⊥) where
-      pub word-end-fits : (backward : Bool) {e : ℕ} → e ≡ maskEnd backward u left word → frame + e < 2 ^ 64
-      word-end-fits backward {e} q =
+      word-inside : (backward : Bool) → lowAlong b (frameAxis u) + maskEnd backward u left word < frame + wide
+      word-inside backward =
           let m = end-inside first last left b (leftover job) backward (windowed u first last (coloursOf job)) (λ z. some (sym seen-is ∙ z)) in
           let p : lowAlong b (frameAxis u) + maskEnd backward u left word < lowAlong b (frameAxis u) + lengthAlong b (frameAxis u) = rw seen-is at m in
-          omega (arith, q, frame-is job, wide-is job, frames-end job)
+          omega (arith, frame-is job, wide-is job)
+
+      pub word-end-fits : (backward : Bool) {e : ℕ} → e ≡ maskEnd backward u left word → frame + e < 2 ^ 64
+      word-end-fits backward {e} q = omega (arith, q, frame-is job, word-inside backward, frames-end job)
 
       word-contact : (k : Contact) → contactOver first last job k ≡ joinedContact k (lowAlong b (frameAxis u) + maskEnd false u left word)
           (lowAlong b (frameAxis u) + maskEnd true u left word) (ones word)
@@ -185,6 +191,12 @@ module _ {surfaces : Surfaces} {axes : ℕ} {table lengths low side : List ℕ} 
       pub word-joined : (k : Contact) {x y n : ℕ} → x ≡ maskEnd false u left word → y ≡ maskEnd true u left word → n ≡ ones word →
           joinedContact k (frame + x) (frame + y) n ≡ contactOver first last job k
       word-joined k e f g = sym (word-contact k ∙ rw (e, f, g, frame-is job))
+
+      -- whose frames better nothing
+      pub word-within : (k : Contact) → k .first ≤ frame → frame + (wide - 1) ≤ k .last → {n : ℕ} → n ≡ ones word →
+          joinedContact k frame (frame + (wide - 1)) n ≡ contactOver first last job k
+      word-within k h l {n} e =
+          contact-eq _ _ (omega (arith, frame-is job)) (omega (arith, word-inside true)) (ap (λ (x : ℕ). k .voxels + x) e) ∙ sym (word-contact k)
 
       pub ones-fit : (k : Contact) {n : ℕ} → n ≡ ones word → contactOver first last job k .voxels < 2 ^ 64 → k .voxels + n < 2 ^ 64
       ones-fit k e h = omega (arith, ap (λ (x : Contact). x .voxels) (word-contact k))
@@ -235,24 +247,6 @@ module _ {surfaces : Surfaces} {axes : ℕ} {table lengths low side : List ℕ} 
   pub word-job : BlockJob surfaces axes table lengths low side left codes from count (left + 1) → left ≤ wordLevels →
       WordJob surfaces axes table lengths low left codes from count
   word-job job h = record { side = side; block = job; few = h }
-
-  pub word-ended : (job : BlockJob surfaces axes table lengths low side left codes from count (left + 1)) → left ≤ wordLevels →
-      (first last : ℕ) (backward : Bool) (known : ℕ) {r : ℕ} →
-      ((j : WordJob surfaces axes table lengths low left codes from count) → r ≡ endOver backward first last (j .block) known) →
-      r ≡ endOver backward first last job known
-  unfolding word-job
-  word-ended job h first last backward known f = f (word-job job h)
-
-  module _ {first last : ℕ} {k : Contact} (job : CountJob surfaces axes table lengths low side left codes from count (left + 1) first last k)
-      (h : left ≤ wordLevels) where
-    pub count-word-job : CountWordJob surfaces axes table lengths low left codes from count first last k
-    unfolding word-job
-    count-word-job = record { word = word-job (job .block) h; counts = job .counts }
-
-    pub word-counted : {r : Contact} → ((j : CountWordJob surfaces axes table lengths low left codes from count first last k) →
-        r ≡ contactOver first last (j .word .block) k) → r ≡ contactOver first last (job .block) k
-    unfolding count-word-job word-job
-    word-counted f = f count-word-job
 
 -- ---- both halves
 module _ {surfaces : Surfaces} {axes : ℕ} {table lengths low side : List ℕ} {left : ℕ} {codes : List ℕ} {from count : ℕ} {first last : ℕ} {k : Contact}

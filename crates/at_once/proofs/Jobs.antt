@@ -36,7 +36,7 @@ use Rattle.pruned.proofs.Looked.{open-not-white, part-all-colour, all-nodes-few
 use Rattle.pruned.proofs.Reading.{length-all, few-left}
 use Rattle.pruned.proofs.Laying.{judged-over, left-over}
 use Rattle.at_once.specs.Codes.{HoldsCodes, no-code, code, SameCodes, AtBlock, Carrying}
-use Rattle.at_once.specs.Words.{wordLevels, Halvings, wordBlock, TreesWord}
+use Rattle.at_once.specs.Words.{wordLevels, Halvings, Framed, WordBlock, wordBlock, TreesWord}
 use Rattle.at_once.specs.Pruning.{PruneJob, PrunedCodes}
 use Rattle.at_once.specs.Counting.{BlockJob, coloursOf, PutBack, BlackFrames}
 
@@ -165,20 +165,24 @@ module _ {surfaces : Surfaces} {axes : ℕ} {table lengths low side : List ℕ} 
       record { few = few-levels; order = omega arith; within = omega (arith, wide-some); short = omega (arith, frames-end) }
 
   -- ---- what is asked of words
-  pub trees-job : left ≤ wordLevels → TreesWord surfaces axes table lengths low left codes from count
-  trees-job h =
+  unfoldable pub trees-block : left ≤ wordLevels → WordBlock surfaces axes table lengths low left
+  trees-block h =
       record {
-        block = record {
-          universe = u;
-          scene = job .at .scene;
-          axes-are = job .at .axes-are;
-          given = job .at .given;
-          above = job .at .standing .above;
-          tabled = job .tabled;
-          few = h;
-        };
-        carried = job .carrying;
+        universe = u;
+        scene = job .at .scene;
+        axes-are = job .at .axes-are;
+        given = job .at .given;
+        above = job .at .standing .above;
+        tabled = job .tabled;
+        few = h;
       }
+
+  pub trees-job : left ≤ wordLevels → TreesWord surfaces axes table lengths low left codes from count
+  trees-job h = record { block = trees-block h; carried = job .carrying }
+
+  pub trees-of : (h : left ≤ wordLevels) → (trees-job h .block ≡ trees-block h) × (trees-job h .carried .trees ≡ job .carrying .trees)
+  unfolding trees-job
+  trees-of h = (refl, refl)
 
   pub halvings : left ≤ wordLevels → Halvings (axes - 1) table lengths left
   halvings h =
@@ -191,12 +195,16 @@ module _ {surfaces : Surfaces} {axes : ℕ} {table lengths low side : List ℕ} 
         above = job .at .standing .above;
       }
 
+  pub framed : left ≤ wordLevels → Framed (axes - 1) table lengths left (getD low (axes - 1) 0) (getD side (axes - 1) 0)
+  unfolding halvings
+  framed h = record { halvings = halvings h; wide-is = wide-is; inside = frames-end }
+
   -- and what they answer
   pub trees-are : (h : left ≤ wordLevels) {r : ℕ} →
       ((j : TreesWord surfaces axes table lengths low left codes from count) →
       r ≡ blockMask (allColour surfaces (j .block .universe) (j .carried .trees)) left (wordBlock (j .block))) →
       r ≡ blockMask (coloursOf job) left b
-  unfolding trees-job
+  unfolding trees-job trees-block
   trees-are h f = f (trees-job h)
 
   pub window-are : (h : left ≤ wordLevels) (first last : ℕ) {r : ℕ} →
@@ -204,6 +212,13 @@ module _ {surfaces : Surfaces} {axes : ℕ} {table lengths low side : List ℕ} 
       r ≡ windowMask first last u left (getD low (axes - 1) 0)
   unfolding halvings
   window-are h first last f = f (halvings h)
+
+  pub frames-are : (h : left ≤ wordLevels) (first last : ℕ) {r : ℕ} →
+      ((j : Framed (axes - 1) table lengths left (getD low (axes - 1) 0) (getD side (axes - 1) 0)) →
+      r ≡ windowMask first last (j .halvings .universe) left (getD low (axes - 1) 0)) →
+      r ≡ windowMask first last u left (getD low (axes - 1) 0)
+  unfolding halvings framed
+  frames-are h first last f = f (framed h)
 
   pub end-are : (h : left ≤ wordLevels) (backward : Bool) (word : ℕ) {r : ℕ} →
       ((j : Halvings (axes - 1) table lengths left) → r ≡ maskEnd backward (j .universe) left word) → r ≡ maskEnd backward u left word

@@ -11,7 +11,7 @@ use Rattle.bintree.specs.declared.Colour.the-variants.{White, Black}
 use Rattle.csg.specs.Halfspace.{rowCount}
 use Rattle.csg.specs.Ball.{ballCount}
 use Rattle.csg.specs.Surfaces.{Surfaces, Surface, halfspace, ball, Named, named, IsNamed, halfspace-named, ball-named}
-use Rattle.csg.specs.Tree.{Plain, side}
+use Rattle.csg.specs.Tree.{Plain, colour, side}
 use Rattle.csg.specs.Marks.{surfaceColour, sideColour, plainColour}
 use Rattle.demands.specs.Voxels.{Colouring}
 use Rattle.pruned.specs.Nodes.{Node, wordOf, bitOf, nodeCode, LeafOf, colour-leaf, side-leaf}
@@ -57,6 +57,12 @@ module _ {surfaces : Surfaces} {axes : ℕ} {table lengths low : List ℕ} {left
   pub ball-place : 512 ≤ name → name - 512 < ballCount (surfaces .balls)
   ball-place l = ball-here l .0
 
+  pub names-row : name < 512 → job .surface ≡ halfspace (name - 256)
+  names-row l = row-here l .2
+
+  pub names-ball : 512 ≤ name → job .surface ≡ ball (name - 512)
+  names-ball l = ball-here l .1
+
   pub gives-row : (l : name < 512) → {r : ℕ} → r ≡ blockMask (colours (halfspace (name - 256))) left (wordBlock (job .block)) →
       r ≡ blockMask (colours (job .surface)) left (wordBlock (job .block))
   gives-row l e = e ∙ ap (λ (s : Surface). blockMask (colours s) left (wordBlock (job .block))) (sym (row-here l .2))
@@ -73,36 +79,42 @@ module _ {surfaces : Surfaces} {axes : ℕ} {table lengths low : List ℕ} {left
   abbrev treeWord : Plain → ℕ
   treeWord p = blockMask (plainColour surfaces (job .block .universe) p) left b
 
-  pub gives-white : code ≡ 0 → 0 ≡ treeWord (job .tree)
-  unfolding plainColour
-  gives-white z = by (job .stands) (job .code-is)
+  pub is-white : code ≡ 0 → job .tree ≡ colour White
+  is-white z = by (job .stands) (job .code-is)
     where
-      by : {t : Plain} {n : Node} → LeafOf (named surfaces) t n → code ≡ nodeCode n → 0 ≡ treeWord t
-      by (colour-leaf {c = White}) e = sym (white-mask left b)
+      by : {t : Plain} {n : Node} → LeafOf (named surfaces) t n → code ≡ nodeCode n → t ≡ colour White
+      by (colour-leaf {c = White}) e = refl
       by (colour-leaf {c = Black}) e = absurd (omega arith)
       by (side-leaf {turned = turned} {s = halfspace i} m) e = absurd (omega arith)
       by (side-leaf {turned = turned} {s = ball i} m) e = absurd (omega arith)
 
-  pub gives-black : (code ≡ 0 → ⊥) → code < 512 → {ones : ℕ} → ones ≡ allOnes (2 ^ left) → ones ≡ treeWord (job .tree)
-  unfolding plainColour
-  gives-black z l f = f ∙ by (job .stands) (job .code-is)
+  pub is-black : (code ≡ 0 → ⊥) → code < 512 → job .tree ≡ colour Black
+  is-black z l = by (job .stands) (job .code-is)
     where
-      by : {t : Plain} {n : Node} → LeafOf (named surfaces) t n → code ≡ nodeCode n → allOnes (2 ^ left) ≡ treeWord t
+      by : {t : Plain} {n : Node} → LeafOf (named surfaces) t n → code ≡ nodeCode n → t ≡ colour Black
       by (colour-leaf {c = White}) e = absurd (z e)
-      by (colour-leaf {c = Black}) e = sym (black-mask left b)
+      by (colour-leaf {c = Black}) e = refl
       by (side-leaf {turned = turned} {s = halfspace i} m) e = absurd (omega arith)
       by (side-leaf {turned = turned} {s = ball i} m) e = absurd (omega arith)
 
+  pub gives-white : code ≡ 0 → 0 ≡ treeWord (job .tree)
+  unfolding plainColour
+  gives-white z = sym (white-mask left b) ∙ ap treeWord (sym (is-white z))
+
+  pub gives-black : (code ≡ 0 → ⊥) → code < 512 → {ones : ℕ} → ones ≡ allOnes (2 ^ left) → ones ≡ treeWord (job .tree)
+  unfolding plainColour
+  gives-black z l f = f ∙ sym (black-mask left b) ∙ ap treeWord (sym (is-black z l))
+
   -- a side
   module _ (l : 512 ≤ code) where
-    record Side : Type 0 where
-      turned : Bool
-      surface : Surface
-      is-named : IsNamed (named surfaces) surface
-      code-is : code ≡ 2 * wordOf surface + bitOf turned
-      tree-is : job .tree ≡ side turned surface
+    pub record Side : Type 0 where
+      pub turned : Bool
+      pub surface : Surface
+      pub is-named : IsNamed (named surfaces) surface
+      pub code-is : code ≡ 2 * wordOf surface + bitOf turned
+      pub tree-is : job .tree ≡ side turned surface
 
-    here : Side
+    pub here : Side
     here = by (job .stands) (job .code-is) refl
       where
         by : {t : Plain} {n : Node} → LeafOf (named surfaces) t n → code ≡ nodeCode n → job .tree ≡ t → Side
@@ -121,6 +133,10 @@ module _ {surfaces : Surfaces} {axes : ℕ} {table lengths low : List ℕ} {left
       is-named = here .is-named;
       name-is = half (here .turned) (wordOf (here .surface)) (here .code-is);
     }
+
+    pub side-is : (side-job .block ≡ job .block) × (side-job .surface ≡ here .surface)
+    unfolding side-job
+    side-is = (refl, refl)
 
     abbrev own : ℕ
     own = blockMask (surfaceColour surfaces (job .block .universe) (here .surface)) left b

@@ -179,7 +179,7 @@ no-size (pos n) l = ap pos (omega arith)
 no-size (negsuc n) l = absurd (omega arith)
 
 module _ (u : Universe) (few : u .axes ≤ mostAxes) (h : Halfspace) (within : withinLimits u h ≡ true) (low : List ℕ) where
-  no-coefficient : (i : ℕ) → u .axes ≤ i → i < mostAxes → h .coefficient i ≡ pos 0
+  pub no-coefficient : (i : ℕ) → u .axes ≤ i → i < mostAxes → h .coefficient i ≡ pos 0
   unfolding withinLimits
   no-coefficient i l m =
       let test : ℕ → Bool = λ i. leb (natAbs (h .coefficient i)) (cond (ltb i (u .axes)) coefficientLimit 0) in

@@ -22,6 +22,26 @@ use Rattle.masks.proofs.Trees.{union-mask, intersection-mask}
 use Rattle.at_once.specs.Codes.{HoldsCodes, no-code, code, Carrying}
 use Rattle.at_once.specs.Words.{WordBlock, wordBlock, LeafWord, TreesWord, joinedWord, wholeWord}
 
+-- ---- the words of trees pending, whatever they are
+abbrev pub wordsOf : (Plain → ℕ) → List Plain → List ℕ
+wordsOf word [] = []
+wordsOf word (p ∷ ps) = word p ∷ wordsOf word ps
+
+length-words : (word : Plain → ℕ) (ps : List Plain) → length (wordsOf word ps) ≡ length ps
+length-words word [] = refl
+length-words word (p ∷ ps) = ap suc (length-words word ps)
+
+-- operators join them
+pub record Joins (word : Plain → ℕ) : Type 0 where
+  pub join : (meet : Bool) (p q : Plain) → joinedWord meet (word p) (word q) ≡ word (joinPlain meet p q)
+
+-- of one tree, or of two
+abbrev pub allWord : (Plain → ℕ) → List Plain → ℕ
+allWord word [] = 0
+allWord word (p ∷ []) = word p
+allWord word (p ∷ q ∷ ps) = joinedWord true (word p) (word q)
+
+-- ---- those of colours
 module _ {surfaces : Surfaces} {axes : ℕ} {table lengths low : List ℕ} {left : ℕ} (w : WordBlock surfaces axes table lengths low left) where
   abbrev b : Block
   b = wordBlock w
@@ -29,18 +49,13 @@ module _ {surfaces : Surfaces} {axes : ℕ} {table lengths low : List ℕ} {left
   abbrev pub treeWord : Plain → ℕ
   treeWord p = blockMask (plainColour surfaces (w .universe) p) left b
 
-  abbrev pub wordsOf : List Plain → List ℕ
-  wordsOf [] = []
-  wordsOf (p ∷ ps) = treeWord p ∷ wordsOf ps
-
-  length-words : (ps : List Plain) → length (wordsOf ps) ≡ length ps
-  length-words [] = refl
-  length-words (p ∷ ps) = ap suc (length-words ps)
-
   join-words : (meet : Bool) (p q : Plain) → joinedWord meet (treeWord p) (treeWord q) ≡ treeWord (joinPlain meet p q)
   unfolding plainColour
   join-words true p q = intersection-mask (plainColour surfaces (w .universe) p) (plainColour surfaces (w .universe) q) left b
   join-words false p q = union-mask (plainColour surfaces (w .universe) p) (plainColour surfaces (w .universe) q) left b
+
+  pub word-joins : Joins treeWord
+  word-joins = record { join = join-words }
 
   black-too : (c : Colour) → intersectionColour c Black ≡ c
   unfolding intersectionColour
@@ -57,8 +72,13 @@ module _ {surfaces : Surfaces} {axes : ℕ} {table lengths low : List ℕ} {left
       intersection-mask (plainColour surfaces (w .universe) p) (plainColour surfaces (w .universe) q) left b
       ∙ mask-agree _ _ left b (λ i l. ap (intersectionColour _) (sym (black-too _)))
 
+  pub all-word : {ps : List Plain} → OneOrTwo (named surfaces) ps → allWord treeWord ps ≡ blockMask (allColour surfaces (w .universe) ps) left b
+  all-word (one {p} c) = one-word p
+  all-word (two {p} {q} c d) = two-words p q
+
+-- ---- the loop
 module _ {surfaces : Surfaces} {axes : ℕ} {table lengths low : List ℕ} {left : ℕ} {codes : List ℕ} {from count : ℕ} where
-  pub record Going (job : TreesWord surfaces axes table lengths low left codes from count) (words : List ℕ) (pending i : ℕ) : Type 0 where
+  pub record Going (word : Plain → ℕ) (job : TreesWord surfaces axes table lengths low left codes from count) (words : List ℕ) (pending i : ℕ) : Type 0 where
     pub shapes : List Plain
     pub rest : List Node
     pub reads : Reads (named surfaces) rest shapes (lastFirst (job .carried .trees))
@@ -66,11 +86,11 @@ module _ {surfaces : Surfaces} {axes : ℕ} {table lengths low : List ℕ} {left
     pub onward : i + length rest ≡ from + count
     pub few : pending ≤ mostShapes
     pub words-long : length words ≡ mostShapes
-    pub words-are : stackOf words pending ≡ wordsOf (job .block) shapes
+    pub words-are : stackOf words pending ≡ wordsOf word shapes
 
   module _ (job : TreesWord surfaces axes table lengths low left codes from count) where
-    pub going-start : {words : List ℕ} → length words ≡ mostShapes → Going job words 0 from
-    going-start e = record {
+    pub going-start : (word : Plain → ℕ) {words : List ℕ} → length words ≡ mostShapes → Going word job words 0 from
+    going-start word e = record {
       shapes = [];
       rest = allPostfix (job .carried .trees);
       reads = reads-all (job .carried .few);
@@ -81,9 +101,9 @@ module _ {surfaces : Surfaces} {axes : ℕ} {table lengths low : List ℕ} {left
       words-are = refl;
     }
 
-    module _ {words : List ℕ} {pending i : ℕ} (g : Going job words pending i) where
+    module _ {word : Plain → ℕ} {words : List ℕ} {pending i : ℕ} (g : Going word job words pending i) where
       count-is : pending ≡ length (g .shapes)
-      count-is = sym (length-stack words pending) ∙ ap length (g .words-are) ∙ length-words (job .block) (g .shapes)
+      count-is = sym (length-stack words pending) ∙ ap length (g .words-are) ∙ length-words word (g .shapes)
 
       module _ (h : i < from + count) where
         pub code-inside : i < length codes
@@ -143,8 +163,16 @@ module _ {surfaces : Surfaces} {axes : ℕ} {table lengths low : List ℕ} {left
           pub leaf-job : LeafWord surfaces axes table lengths low left (getD codes i 0)
           leaf-job = record { block = job .block; tree = next .tree; leaf = next .leaf; stands = next .stands; code-is = next .at }
 
-          pub going-leaf : {r : ℕ} → r ≡ blockMask (plainColour surfaces (leaf-job .block .universe) (leaf-job .tree)) left (wordBlock (leaf-job .block)) →
-              Going job (set words pending r) (pending + 1) (i + 1)
+          pub leaf-block : leaf-job .block ≡ job .block
+          unfolding leaf-job
+          leaf-block = refl
+
+          pub leaf-is : {r : ℕ} → r ≡ blockMask (plainColour surfaces (leaf-job .block .universe) (leaf-job .tree)) left (wordBlock (leaf-job .block)) →
+              r ≡ treeWord (job .block) (leaf-job .tree)
+          unfolding leaf-job
+          leaf-is e = e
+
+          pub going-leaf : {r : ℕ} → r ≡ word (leaf-job .tree) → Going word job (set words pending r) (pending + 1) (i + 1)
           unfolding leaf-job
           going-leaf {r} e =
               rw (add-one i) (record {
@@ -167,26 +195,26 @@ module _ {surfaces : Surfaces} {axes : ℕ} {table lengths low : List ℕ} {left
           join-two = omega (arith, count-is, ap length (nextJoin .shapes-are))
 
           words-two : getD words (pending - 1) 0 ∷ getD words (pending - 2) 0 ∷ stackOf words (pending - 2)
-              ≡ treeWord (job .block) (nextJoin .second) ∷ treeWord (job .block) (nextJoin .first) ∷ wordsOf (job .block) (nextJoin .under)
-          words-two = sym (stack-two words pending join-two) ∙ g .words-are ∙ ap (wordsOf (job .block)) (nextJoin .shapes-are)
+              ≡ word (nextJoin .second) ∷ word (nextJoin .first) ∷ wordsOf word (nextJoin .under)
+          words-two = sym (stack-two words pending join-two) ∙ g .words-are ∙ ap (wordsOf word) (nextJoin .shapes-are)
 
-          first-is : getD words (pending - 2) 0 ≡ treeWord (job .block) (nextJoin .first)
+          first-is : getD words (pending - 2) 0 ≡ word (nextJoin .first)
           first-is = let e = words-two in cc
 
-          second-is : getD words (pending - 1) 0 ≡ treeWord (job .block) (nextJoin .second)
+          second-is : getD words (pending - 1) 0 ≡ word (nextJoin .second)
           second-is = let e = words-two in cc
 
-          under-are : stackOf words (pending - 2) ≡ wordsOf (job .block) (nextJoin .under)
+          under-are : stackOf words (pending - 2) ≡ wordsOf word (nextJoin .under)
           under-are = let e = words-two in cc
 
           meet-is : isMeet (getD codes i 0) ≡ nextJoin .meet
           meet-is = ap isMeet (nextJoin .at) ∙ join-code (nextJoin .meet) .1
 
-          pub going-join : {r : ℕ} → r ≡ joinedWord (isMeet (getD codes i 0)) (getD words (pending - 2) 0) (getD words (pending - 1) 0) →
-              Going job (set words (pending - 2) r) (pending - 1) (i + 1)
-          going-join {r} e =
-              let f : r ≡ treeWord (job .block) (joinPlain (nextJoin .meet) (nextJoin .first) (nextJoin .second)) =
-              e ∙ rw (meet-is, first-is, second-is) (join-words (job .block) (nextJoin .meet) (nextJoin .first) (nextJoin .second)) in
+          pub going-join : Joins word → {r : ℕ} → r ≡ joinedWord (isMeet (getD codes i 0)) (getD words (pending - 2) 0) (getD words (pending - 1) 0) →
+              Going word job (set words (pending - 2) r) (pending - 1) (i + 1)
+          going-join joins {r} e =
+              let f : r ≡ word (joinPlain (nextJoin .meet) (nextJoin .first) (nextJoin .second)) =
+              e ∙ rw (meet-is, first-is, second-is) (joins .join (nextJoin .meet) (nextJoin .first) (nextJoin .second)) in
               rw (add-one i) (record {
                 shapes = joinPlain (nextJoin .meet) (nextJoin .first) (nextJoin .second) ∷ nextJoin .under;
                 rest = nextJoin .later;
@@ -208,21 +236,18 @@ module _ {surfaces : Surfaces} {axes : ℕ} {table lengths low : List ℕ} {left
             by (pushed l f r) e = absurd (omega arith)
             by (joined r) e = absurd (omega arith)
 
-        pub going-end : {r : ℕ} → r ≡ wholeWord words pending →
-            r ≡ blockMask (allColour surfaces (job .block .universe) (job .carried .trees)) left (wordBlock (job .block))
+        pub going-end : {r : ℕ} → r ≡ wholeWord words pending → r ≡ allWord word (job .carried .trees)
         going-end {r} m = by (job .carried .few) shapes-end
           where
-            by : {ps : List Plain} → OneOrTwo (named surfaces) ps → g .shapes ≡ lastFirst ps →
-                r ≡ blockMask (allColour surfaces (job .block .universe) ps) left (wordBlock (job .block))
+            by : {ps : List Plain} → OneOrTwo (named surfaces) ps → g .shapes ≡ lastFirst ps → r ≡ allWord word ps
             by (one {p} c) e =
                 let n : pending ≡ 1 = count-is ∙ ap length e in
-                let s : stackOf words 1 ≡ treeWord (job .block) p ∷ [] = ap (stackOf words) (sym n) ∙ g .words-are ∙ ap (wordsOf (job .block)) e in
-                let f : getD words 0 0 ≡ treeWord (job .block) p = cc in
-                m ∙ rw (n, f) (one-word (job .block) p)
+                let s : stackOf words 1 ≡ word p ∷ [] = ap (stackOf words) (sym n) ∙ g .words-are ∙ ap (wordsOf word) e in
+                let f : getD words 0 0 ≡ word p = cc in
+                m ∙ rw (n, f) refl
             by (two {p} {q} c d) e =
                 let n : pending ≡ 2 = count-is ∙ ap length e in
-                let s : stackOf words 2 ≡ treeWord (job .block) q ∷ treeWord (job .block) p ∷ [] =
-                ap (stackOf words) (sym n) ∙ g .words-are ∙ ap (wordsOf (job .block)) e in
-                let f : getD words 0 0 ≡ treeWord (job .block) p = cc in
-                let k : getD words 1 0 ≡ treeWord (job .block) q = cc in
-                m ∙ rw (n, f, k) (two-words (job .block) p q)
+                let s : stackOf words 2 ≡ word q ∷ word p ∷ [] = ap (stackOf words) (sym n) ∙ g .words-are ∙ ap (wordsOf word) e in
+                let f : getD words 0 0 ≡ word p = cc in
+                let k : getD words 1 0 ≡ word q = cc in
+                m ∙ rw (n, f, k) refl

@@ -145,7 +145,7 @@ module _ {u : Universe} {surfaces : Surfaces} {words₁ words₂ : List ℕ} {fr
     left-is : left ≡ levels u
     left-is = levels-told u refl e l
 
-    block-is : blockLeft u left (replicate mostAxes 0) ≡ wholeBlock u
+    pub block-is : blockLeft u left (replicate mostAxes 0) ≡ wholeBlock u
     block-is = ap (λ (n : ℕ). blockLeft u n (replicate mostAxes 0)) left-is ∙ whole-is u
 
     module _ {table lengths side codes codes₁ starts starts₁ : List ℕ} (long : length codes ≡ mostCodes) (shelf : length starts ≡ mostShapes)
@@ -178,6 +178,10 @@ module _ {u : Universe} {surfaces : Surfaces} {words₁ words₂ : List ℕ} {fr
             room = omega (arith, loaded .long);
             bounded = omega (arith, loaded .long);
           }
+
+      pub whole-is-of : (whole-job .at .universe ≡ u) × (whole-job .carrying .trees ≡ bothTrees (named surfaces) words₁ words₂)
+      unfolding whole-job
+      whole-is-of = (refl, refl)
 
       abbrev colours : Colouring
       colours = treeColour surfaces u (both s t)

@@ -119,7 +119,7 @@ module _ {surfaces : Surfaces} {axes : ℕ} {table lengths low : List ℕ} {left
     pub row-named : RowNamed (surfaces .rows) i
     row-named = record { here = l; small = rows-small (w .scene) i l }
 
-    within : withinLimits u h ≡ true
+    pub within : withinLimits u h ≡ true
     unfolding rowsRefusal
     within =
         let rows = surfaces .rows in
@@ -130,7 +130,7 @@ module _ {surfaces : Surfaces} {axes : ℕ} {table lengths low : List ℕ} {left
         (unless-holds (shaped && every (rowCount rows) test) badRows (omega arith) (w .scene .accepted-rows))) i l
 
     module _ {v : ℤ} (e : v ≡ firstValue h low) {steps : List ℤ} (s : StepsOf h table lengths steps) where
-      value-near : Near (held v) (centreValue u h low) valueLimit
+      pub value-near : Near (held v) (centreValue u h low) valueLimit
       value-near =
           near-call {x = centreValue u h low} (e ∙ first-centre u (taken .few-axes) h within low)
           (record { same = refl; size = value-few u taken h within low first-voxel }) tt
@@ -142,13 +142,18 @@ module _ {surfaces : Surfaces} {axes : ℕ} {table lengths low : List ℕ} {left
       pub row-ready : RowReady wordLevels (held v) steps
       row-ready = record { value = omega (arith, near-size value-near .most); step = λ j. small-step j (decLt j wordLevels) }
 
-      pub row-gives : {r : ℕ} → r ≡ rowMask (held v) (stepAt steps) left → r ≡ blockMask (surfaceColour surfaces u (halfspace i)) left b
-      row-gives p =
-          p
-          ∙ ap (λ (z : ℤ). rowMask z (stepAt steps) left) (value-near .same)
-          ∙ row-mask-cong (centreValue u h low) (stepAt steps) (rowStep u h) left
+      -- the steps are the block's
+      pub steps-same : (x : ℤ) → rowMask x (stepAt steps) left ≡ rowMask x (rowStep u h) left
+      steps-same x =
+          row-mask-cong x (stepAt steps) (rowStep u h) left
           (λ j m. s .step j (omega (arith, w .few))
           ∙ ap₂ (λ (a k : ℕ). pos 2 *ℤ h .coefficient a *ℤ pos k)
           (axis-at j (omega (arith, w .above)))
           (w .tabled .length-at j (omega (arith, w .few)) (omega (arith, w .above))))
+
+      pub row-gives : {r : ℕ} → r ≡ rowMask (held v) (stepAt steps) left → r ≡ blockMask (surfaceColour surfaces u (halfspace i)) left b
+      row-gives p =
+          p
+          ∙ ap (λ (z : ℤ). rowMask z (stepAt steps) left) (value-near .same)
+          ∙ steps-same (centreValue u h low)
           ∙ sym (surface-halfspace surfaces i left b levels-left)

@@ -55,11 +55,6 @@ pub record WordJob (surfaces : Surfaces) (axes : ℕ) (table lengths low : List 
   pub block : BlockJob surfaces axes table lengths low side left codes from count (left + 1)
   pub few : left ≤ wordLevels
 
-pub record CountWordJob (surfaces : Surfaces) (axes : ℕ) (table lengths low : List ℕ) (left : ℕ) (codes : List ℕ)
-    (from count : ℕ) (first last : ℕ) (contact : Contact) : Type 0 where
-  pub word : WordJob surfaces axes table lengths low left codes from count
-  pub counts : contactOver first last (word .block) contact .voxels < 2 ^ 64
-
 -- what is changed of the low places and of the sides is put back, and the codes below a place stay
 pub record PutBack (place : ℕ) (low side codes low′ side′ codes′ : List ℕ) : Type 0 where
   pub lows : low′ ≡ low

@@ -5,6 +5,10 @@ pub mod Values
 pub mod Pruning
 pub mod Loading
 pub mod Words
+pub mod Own
 pub mod Counting
+pub mod Tallies
 pub mod Whole
 pub mod Answers
+pub mod Merged
+pub mod Contacts

@@ -1,17 +1,18 @@
 -- What the words of a block ask: the tables of its halvings, and numbers so small that no sum of a row's value and its
 -- steps, nor of a ball's squares, overflows.
-use Prim.Native.Nat.{ℕ, _+_, _-_, _*_, _≤_, _<_}
+use Prim.Native.Nat.{ℕ, _+_, _-_, _*_, _^_, _≤_, _<_}
 use mathlib.Core.Path.{_≡_}
 use mathlib.Core.Bool.{Bool, true, false, cond}
 use mathlib.Core.List.{List}
 use lib.Dec.{ltb, eqb}
 use lib.Bits.{bitAnd, bitOr}
 use lib.IntN.{ℤ, pos, natAbs, _+ℤ_, _*ℤ_}
+use lib.Signed.{leZ}
 use lib.ListN.{length, getD}
-use Rattle.lemmas.specs.Sums.{total}
+use Rattle.lemmas.specs.Sums.{sum, total}
 use Rattle.universe.specs.declared.Universe.{Universe}
 use Rattle.universe.specs.declared.Block.{Block}
-use Rattle.universe.specs.Universe.{mostAxes, universeRefusal, levels, frameAxis}
+use Rattle.universe.specs.Universe.{mostAxes, longestSide, universeRefusal, levels, frameAxis, blockSide}
 use Rattle.universe.specs.Questions.{axesLeft}
 use Rattle.universe.specs.Block.{Given}
 use Rattle.csg.specs.Halfspace.{Halfspace, rowAt, rowCount}
@@ -44,6 +45,13 @@ pub record Halvings (frame : ℕ) (table lengths : List ℕ) (left : ℕ) : Type
   pub tabled : Tabled universe table lengths
   pub few : left ≤ wordLevels
   pub above : left ≤ levels universe
+
+-- the block's frames: the first one, and how many
+pub record Framed (axis : ℕ) (table lengths : List ℕ) (left frame wide : ℕ) : Type 0 where
+  pub halvings : Halvings axis table lengths left
+  pub wide-is :
+      wide ≡ blockSide (halvings .universe) (levels (halvings .universe) - left) (frameAxis (halvings .universe))
+  pub inside : frame + wide ≤ longestSide
 
 -- a block with so many levels left and these low places, in a scene that no check refuses, and the tables of its
 -- halvings
@@ -94,6 +102,60 @@ pub record SmallTables (table lengths : List ℕ) : Type 0 where
 pub record StepsOf (h : Halfspace) (table lengths : List ℕ) (steps : List ℤ) : Type 0 where
   pub step : (j : ℕ) → j < wordLevels → stepAt steps j ≡ stepOf h table lengths j
   pub beyond : (j : ℕ) → wordLevels ≤ j → stepAt steps j ≡ pos 0
+
+-- what falls by a step and what rises, by each of some steps
+abbrev pub fallOf : ℤ → ℤ
+fallOf s = cond (leZ (pos 0) s) (pos 0) s
+
+abbrev pub riseOf : ℤ → ℤ
+riseOf s = cond (leZ (pos 0) s) s (pos 0)
+
+abbrev pub fallAt : List ℤ → ℕ → ℤ
+fallAt steps j = fallOf (stepAt steps j)
+
+abbrev pub riseAt : List ℤ → ℕ → ℤ
+riseAt steps j = riseOf (stepAt steps j)
+
+pub record SmallSteps (steps : List ℤ) : Type 0 where
+  pub step : (j : ℕ) → natAbs (stepAt steps j) ≤ stepLimit
+
+-- two values in one number, 32 digits apart, each with 2^30 more; and a step in both places
+abbrev pub paired : ℤ → ℤ → ℤ
+paired x y = (y +ℤ pos (2 ^ 30)) *ℤ pos (2 ^ 32) +ℤ (x +ℤ pos (2 ^ 30))
+
+abbrev pub inBoth : ℤ → ℤ
+inBoth s = s *ℤ pos (2 ^ 32 + 1)
+
+pub record OnePair (pair : ℤ) : Type 0 where
+  pub first : ℤ
+  pub second : ℤ
+  pub pair-is : pair ≡ paired first second
+  pub few-first : natAbs first < 2 ^ 30
+  pub few-second : natAbs second < 2 ^ 30
+
+-- two values so small that with n steps more, each in both places, they stay so
+abbrev pub sizesOf : ℕ → (ℕ → ℤ) → ℕ
+sizesOf n step = sum n (λ j. natAbs (step j))
+
+pub record PairReady (n : ℕ) (pair : ℤ) (steps : List ℤ) : Type 0 where
+  pub first : ℤ
+  pub second : ℤ
+  pub step : ℕ → ℤ
+  pub pair-is : pair ≡ paired first second
+  pub steps-are : (j : ℕ) → j < n → stepAt steps j ≡ inBoth (step j)
+  pub few-first : natAbs first + sizesOf n step < 2 ^ 30
+  pub few-second : natAbs second + sizesOf n step < 2 ^ 30
+
+-- steps that have room, and those of five digits in both places
+pub record FewSteps (steps : List ℤ) : Type 0 where
+  pub few : (j : ℕ) → j < wordLevels → natAbs (stepAt steps j) < 2 ^ 30
+
+pub record TwiceSteps (steps both : List ℤ) : Type 0 where
+  pub twice : (j : ℕ) → j < 5 → stepAt both j ≡ inBoth (stepAt steps j)
+
+-- a value that has room with all its steps
+pub record FewValues (v : ℤ) (steps : List ℤ) : Type 0 where
+  pub few : natAbs v + sizesOf wordLevels (stepAt steps) < 2 ^ 30
 
 -- ---- balls
 -- a ball that there is, within its limits

@@ -4,6 +4,7 @@ use bintree::Verdict;
 ghost use mathlib.Core.Path.{_≡_};
 ghost use Rattle.bintree.specs.Windows.{verdictOf};
 ghost use Rattle.at_once.specs.Answers.{refusedJudged, doneJudged, refusedSpanned, doneSpanned};
+ghost use Rattle.at_once.specs.Contacts.{refusedContacts, doneContacts};
 
 // What a verdict at once answers. Read the refusal first: a refused verdict is Clear.
 pub struct Judged {
@@ -63,6 +64,42 @@ impl Spanned {
         Spanned {
             refusal: 0,
             span: span,
+        }
+    }
+}
+
+// What the question for sure and possible contact answers: the voxels of the window over whose own block the trees'
+// intersection is BLACK, those that are black at their centre, and those over whose own block it is not WHITE. Read the
+// refusal first.
+pub struct Contacts {
+    pub refusal: u64,
+    pub sure: u64,
+    pub centre: u64,
+    pub possible: u64,
+}
+
+impl Contacts {
+    // Refused with a number.
+    pub(crate) fn refused(number: u64) -> Contacts
+        ensures { λ r. ⌜ r ≡ refusedContacts number ⌝ }
+    {
+        Contacts {
+            refusal: number,
+            sure: 0,
+            centre: 0,
+            possible: 0,
+        }
+    }
+
+    // The three counts.
+    pub(crate) fn done(sure: u64, centre: u64, possible: u64) -> Contacts
+        ensures { λ r. ⌜ r ≡ doneContacts sure centre possible ⌝ }
+    {
+        Contacts {
+            refusal: 0,
+            sure: sure,
+            centre: centre,
+            possible: possible,
         }
     }
 }

@@ -10,7 +10,7 @@ use crate::marks::BLACK_BIT;
 use crate::marks::WHITE_BIT;
 use crate::prune::MOST_SHAPES;
 use crate::prune::prune;
-use crate::window::window_word;
+use crate::window::frames_word;
 use crate::word::trees_word;
 use bintree::Contact;
 use universe::Universe;
@@ -18,9 +18,11 @@ ghost use mathlib.Core.Path.{_≡_};
 ghost use Prim.Native.Nat.{_+_, _≤_};
 ghost use Rattle.csg.specs.Surfaces.{surfacesOf};
 ghost use Rattle.pruned.specs.Nodes.{Shelves};
-ghost use Rattle.at_once.specs.Counting.{contactOver, CountJob, CountWordJob, PutBack};
+ghost use Rattle.at_once.specs.Counting.{contactOver, CountJob, PutBack};
+ghost use Rattle.at_once.specs.Words.{wordLevels};
 
-// Joins a block whose voxels have a digit each in one word: the ends are read off it, and its ones are counted.
+// Joins a block whose voxels have a digit each in one word: its ones are counted, and the ends are read off it where
+// the block's frames could better those that are known.
 fn count_word(
     axes: usize,
     rows: &[i64],
@@ -28,6 +30,7 @@ fn count_word(
     table: &[usize; Universe::MOST_LEVELS as usize],
     lengths: &[u64; WORD_LEVELS],
     low: &[u64; Universe::MOST_AXES as usize],
+    side: &[u64; Universe::MOST_AXES as usize],
     left: u64,
     codes: &[u16],
     from: usize,
@@ -37,14 +40,14 @@ fn count_word(
     contact: Contact,
 ) -> Contact
     requires { let surfaces = surfacesOf (now rows) (now balls) in
-        ⌜ CountWordJob surfaces axes (now table) (now lengths) (now low) left (now codes) from count first last
-        contact ⌝ }
+        ⌜ CountJob surfaces axes (now table) (now lengths) (now low) (now side) left (now codes) from count (left + 1)
+        first last contact ⌝ }
+    requires { ⌜ left ≤ wordLevels ⌝ }
     ensures { λ r. let surfaces = surfacesOf (now (rows .entry)) (now (balls .entry)) in
-        ⌜ ((job : CountWordJob surfaces axes (now (table .entry)) (now (lengths .entry)) (now (low .entry)) left
-        (now (codes .entry)) from count first last contact) → r ≡ contactOver first last (job .word .block) contact) ⌝ }
+        ⌜ ((job : CountJob surfaces axes (now (table .entry)) (now (lengths .entry)) (now (low .entry))
+        (now (side .entry)) left (now (codes .entry)) from count (left + 1) first last contact)
+        → r ≡ contactOver first last (job .block) contact) ⌝ }
 {
-    let frame_axis = axes - 1;
-    let frame = low[frame_axis];
     let trees = trees_word(
         axes,
         rows,
@@ -57,14 +60,27 @@ fn count_word(
         from,
         count,
     );
-    let window = window_word(first, last, frame_axis, table, lengths, left, frame);
+    if trees == 0 {
+        return contact;
+    }
+    let frame_axis = axes - 1;
+    let frame = low[frame_axis];
+    let wide = side[frame_axis];
+    let window = frames_word(first, last, frame_axis, table, lengths, left, frame, wide);
     let word = trees & window;
     if word == 0 {
         return contact;
     }
+    let voxels = ones_of(word);
+    let stop = frame + (wide - 1);
+    if contact.first <= frame {
+        if stop <= contact.last {
+            return joined(contact, frame, stop, voxels);
+        }
+    }
     let begin = word_end(false, frame_axis, table, lengths, left, word);
     let end = word_end(true, frame_axis, table, lengths, left, word);
-    joined(contact, frame + begin, frame + end, ones_of(word))
+    joined(contact, frame + begin, frame + end, voxels)
 }
 
 // Joins a block: nothing where none of its frames are the window's or the trees are WHITE over it, its frames in the
@@ -115,6 +131,7 @@ pub(crate) fn count_block(
             table,
             lengths,
             low,
+            side,
             left,
             codes,
             from,

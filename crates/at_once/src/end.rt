@@ -8,7 +8,7 @@ use crate::marks::BLACK_BIT;
 use crate::marks::WHITE_BIT;
 use crate::prune::MOST_SHAPES;
 use crate::prune::prune;
-use crate::window::window_word;
+use crate::window::frames_word;
 use crate::word::trees_word;
 use universe::Universe;
 ghost use mathlib.Core.Path.{_≡_};
@@ -17,7 +17,8 @@ ghost use Prim.Native.Nat.{_+_, _≤_};
 ghost use Rattle.csg.specs.Surfaces.{surfacesOf};
 ghost use Rattle.pruned.specs.Nodes.{Shelves};
 ghost use Rattle.masks.specs.Ends.{better};
-ghost use Rattle.at_once.specs.Counting.{endOver, BlockJob, WordJob, PutBack};
+ghost use Rattle.at_once.specs.Counting.{endOver, BlockJob, PutBack};
+ghost use Rattle.at_once.specs.Words.{wordLevels};
 
 // One of two numbers, by a test.
 fn chosen(test: bool, one: u64, other: u64) -> u64
@@ -45,6 +46,7 @@ fn end_word(
     table: &[usize; Universe::MOST_LEVELS as usize],
     lengths: &[u64; WORD_LEVELS],
     low: &[u64; Universe::MOST_AXES as usize],
+    side: &[u64; Universe::MOST_AXES as usize],
     left: u64,
     codes: &[u16],
     from: usize,
@@ -54,13 +56,14 @@ fn end_word(
     known: u64,
 ) -> u64
     requires { let surfaces = surfacesOf (now rows) (now balls) in
-        ⌜ WordJob surfaces axes (now table) (now lengths) (now low) left (now codes) from count ⌝ }
+        ⌜ BlockJob surfaces axes (now table) (now lengths) (now low) (now side) left (now codes) from count
+        (left + 1) ⌝ }
+    requires { ⌜ left ≤ wordLevels ⌝ }
     ensures { λ r. let surfaces = surfacesOf (now (rows .entry)) (now (balls .entry)) in
-        ⌜ ((job : WordJob surfaces axes (now (table .entry)) (now (lengths .entry)) (now (low .entry)) left
-        (now (codes .entry)) from count) → r ≡ endOver backward first last (job .block) known) ⌝ }
+        ⌜ ((job : BlockJob surfaces axes (now (table .entry)) (now (lengths .entry)) (now (low .entry))
+        (now (side .entry)) left (now (codes .entry)) from count (left + 1))
+        → r ≡ endOver backward first last job known) ⌝ }
 {
-    let frame_axis = axes - 1;
-    let frame = low[frame_axis];
     let trees = trees_word(
         axes,
         rows,
@@ -73,7 +76,13 @@ fn end_word(
         from,
         count,
     );
-    let window = window_word(first, last, frame_axis, table, lengths, left, frame);
+    if trees == 0 {
+        return known;
+    }
+    let frame_axis = axes - 1;
+    let frame = low[frame_axis];
+    let wide = side[frame_axis];
+    let window = frames_word(first, last, frame_axis, table, lengths, left, frame, wide);
     let word = trees & window;
     if word == 0 {
         return known;
@@ -138,6 +147,7 @@ pub(crate) fn end_block(
             table,
             lengths,
             low,
+            side,
             left,
             codes,
             from,

@@ -1,4 +1,4 @@
-// Answers at once: the verdict of two trees over a window, and its ends, with no room lent.
+// Answers at once: the verdict of two trees over a window, its ends, and sure and possible contact, with no room lent.
 mod answer;
 mod ball;
 mod count;
@@ -6,17 +6,29 @@ mod digits;
 mod end;
 mod ends;
 mod frames;
+mod lay;
 mod leaf;
 mod load;
 mod marks;
+mod merged;
+mod own;
+mod pair;
 mod prune;
+mod reaches;
+mod shared;
+mod tally;
+mod text;
 mod verdict;
 mod whole;
 mod window;
 mod word;
 
+pub use answer::Contacts;
 pub use answer::Judged;
 pub use answer::Span;
 pub use answer::Spanned;
+pub use merged::merged_of_one;
+pub use merged::merged_of_two;
+pub use shared::contacts_of_two;
 pub use verdict::ends_at_once;
 pub use verdict::verdict_at_once;

@@ -19,7 +19,7 @@ pub(crate) const INTERSECTION_NODE: u16 = 6;
 const PAST_JOINS: u16 = 8;
 
 // Whether a code is an operator's.
-fn is_join(code: u16) -> bool
+pub(crate) fn is_join(code: u16) -> bool
     ensures { λ r. ⌜ r ≡ isJoin code ⌝ }
 {
     if code < UNION_NODE {

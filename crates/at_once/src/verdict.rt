@@ -10,7 +10,7 @@ ghost use Rattle.convert.specs.Answers.{clearanceRefusal};
 ghost use Rattle.at_once.specs.Answers.{verdictAtOnce, endsAtOnce};
 
 // 0, or the number that refuses a verdict of two trees over a window: that of their conversion, or 9.
-fn refusal_of(
+pub(crate) fn refusal_of(
     universe: Universe,
     rows: &[i64],
     balls: &[i64],

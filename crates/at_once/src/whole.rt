@@ -22,10 +22,10 @@ ghost use Rattle.at_once.specs.Answers.{spanOf};
 ghost use Rattle.at_once.specs.Whole.{BothJob, BothLoaded, WholeReady};
 
 // The most codes that stand at once: those of two trees for each level, and once more.
-const MOST_CODES: usize = (Universe::MOST_LEVELS as usize + 1) * 2 * csg::MOST_WORDS;
+pub(crate) const MOST_CODES: usize = (Universe::MOST_LEVELS as usize + 1) * 2 * csg::MOST_WORDS;
 
 // The sides of the whole universe; 0 along an axis that it lacks.
-fn whole_sides(universe: Universe) -> [u64; Universe::MOST_AXES as usize]
+pub(crate) fn whole_sides(universe: Universe) -> [u64; Universe::MOST_AXES as usize]
     ensures { λ r. ⌜ r ≡ wholeSides universe ⌝ }
 {
     [
@@ -38,7 +38,7 @@ fn whole_sides(universe: Universe) -> [u64; Universe::MOST_AXES as usize]
 
 // The lengths along their axis of the halves of blocks, by the levels left, as far as words go: each is twice the one
 // before along that axis.
-fn lengths_of(
+pub(crate) fn lengths_of(
     universe: Universe,
     table: &[usize; Universe::MOST_LEVELS as usize],
 ) -> [u64; WORD_LEVELS]
@@ -61,7 +61,12 @@ fn lengths_of(
 }
 
 // Loads the codes of two trees, one behind the other.
-fn load_both(first: &[u16], second: &[u16], codes: &mut [u16], starts: &mut [usize; MOST_SHAPES])
+pub(crate) fn load_both(
+    first: &[u16],
+    second: &[u16],
+    codes: &mut [u16],
+    starts: &mut [usize; MOST_SHAPES],
+)
     requires { ⌜ BothJob (now first) (now second) (now codes) (now starts) ⌝ }
     ensures { λ _. let codes₀ = now (codes .entry) in
         ⌜ ((job : BothJob (now (first .entry)) (now (second .entry)) codes₀ (now (starts .entry)))

@@ -2,6 +2,13 @@
 use crate::digits::WORD_LEVELS;
 use crate::digits::all_ones;
 use crate::digits::side_by_side;
+use crate::pair::MOST_APART;
+use crate::pair::pairs_word;
+use crate::prune::INTERSECTION_NODE;
+use crate::prune::MOST_SHAPES;
+use crate::prune::is_join;
+use crate::reaches::fall_of;
+use crate::reaches::rise_of;
 use universe::Universe;
 ghost use mathlib.Core.Path.{_≡_};
 ghost use Prim.Native.Nat.{_+_, _*_, _≤_, _<_};
@@ -15,7 +22,6 @@ ghost use Rattle.csg.specs.Surfaces.{surfacesOf, halfspace, ball};
 ghost use Rattle.csg.specs.Marks.{surfaceColour, plainColour};
 ghost use Rattle.convert.specs.Small.{SmallPlace, SmallPlaces, BallCentre};
 ghost use Rattle.pruned.specs.Left.{allColour};
-ghost use Rattle.pruned.specs.Nodes.{isJoin};
 ghost use Rattle.masks.specs.Block.{blockMask};
 ghost use Rattle.masks.specs.Leaves.{rowMask};
 ghost use Rattle.at_once.specs.Words.{
@@ -87,15 +93,35 @@ fn thirty_two(v: i64, steps: &[i64; WORD_LEVELS]) -> u64
     sixteen(v, steps) | sixteen(v + steps[4], steps) << 16
 }
 
-fn sixty_four(v: i64, steps: &[i64; WORD_LEVELS]) -> u64
+// So it goes where the values are too large for two in one number.
+fn each_of_sixty_four(v: i64, steps: &[i64; WORD_LEVELS]) -> u64
     requires { ⌜ RowReady 6 v (now steps) ⌝ }
     ensures { λ r. ⌜ r ≡ rowMask v (stepAt (now (steps .entry))) 6 ⌝ }
 {
     thirty_two(v, steps) | thirty_two(v + steps[5], steps) << 32
 }
 
+// All ones where the least value is 0 or more, 0 where the greatest is less, and else digit by digit.
+fn sixty_four(v: i64, steps: &[i64; WORD_LEVELS]) -> u64
+    requires { ⌜ RowReady 6 v (now steps) ⌝ }
+    ensures { λ r. ⌜ r ≡ rowMask v (stepAt (now (steps .entry))) 6 ⌝ }
+{
+    let least = v + fall_of(steps);
+    if 0 <= least {
+        return 0xffff_ffff_ffff_ffff;
+    }
+    let greatest = v + rise_of(steps);
+    if greatest < 0 {
+        return 0;
+    }
+    if greatest - least < MOST_APART {
+        return pairs_word(v, steps);
+    }
+    each_of_sixty_four(v, steps)
+}
+
 // The word of a halfspace over a block with so many levels left. The digits that the block does not have are 0.
-fn row_word(v: i64, steps: &[i64; WORD_LEVELS], left: u64) -> u64
+pub(crate) fn row_word(v: i64, steps: &[i64; WORD_LEVELS], left: u64) -> u64
     requires { ⌜ RowReady 6 v (now steps) ⌝ }
     requires { ⌜ left ≤ wordLevels ⌝ }
     ensures { λ r. ⌜ r ≡ rowMask v (stepAt (now (steps .entry))) left ⌝ }
@@ -119,7 +145,7 @@ fn term_of_row(
 }
 
 // That value.
-fn value_of_row(rows: &[i64], i: usize, low: &[u64; Universe::MOST_AXES as usize]) -> i64
+pub(crate) fn value_of_row(rows: &[i64], i: usize, low: &[u64; Universe::MOST_AXES as usize]) -> i64
     requires { ⌜ RowNamed (now rows) i ⌝ }
     requires { ⌜ SmallPlaces (now low) ⌝ }
     ensures { λ r. ⌜ r ≡ firstValue (rowAt (now (rows .entry)) i) (now (low .entry)) ⌝ }
@@ -148,7 +174,7 @@ fn step_of_row(
 }
 
 // What each digit adds to it.
-fn steps_of_row(
+pub(crate) fn steps_of_row(
     rows: &[i64],
     i: usize,
     table: &[usize; Universe::MOST_LEVELS as usize],
@@ -200,7 +226,7 @@ fn off_along(place: u64, centre: i64) -> i64
 }
 
 // How far that is along each axis.
-fn offs_of_ball(
+pub(crate) fn offs_of_ball(
     balls: &[i64],
     i: usize,
     low: &[u64; Universe::MOST_AXES as usize],
@@ -239,7 +265,7 @@ fn distance_of(places: usize, offs: [i64; csg::MOST_PLACES]) -> i64
 }
 
 // Four times the square of the radius of ball i.
-fn most_of_ball(balls: &[i64], i: usize) -> i64
+pub(crate) fn most_of_ball(balls: &[i64], i: usize) -> i64
     requires { ⌜ BallNamed (now balls) i ⌝ }
     ensures { λ r. ⌜ r ≡ pos (4 * radiusSquared (ballAt (now (balls .entry)) i)) ⌝ }
 {
@@ -333,7 +359,7 @@ fn surface_word(
 }
 
 // The code from which on nodes are surfaces' sides; below it a leaf is WHITE or BLACK.
-const FIRST_SIDE: u16 = 2 * csg::FIRST_HALFSPACE;
+pub(crate) const FIRST_SIDE: u16 = 2 * csg::FIRST_HALFSPACE;
 
 // The word of a leaf with this code: a side that is reversed has the digits exchanged that the block has.
 fn leaf_word(
@@ -366,25 +392,8 @@ fn leaf_word(
     word
 }
 
-// The codes of the operators' nodes: from UNION's on, from INTERSECTION's on, and one past them.
-const UNION_CODE: u16 = 4;
-
-const INTERSECTION_CODE: u16 = 6;
-
-const PAST_JOINS: u16 = 8;
-
-// Whether a code is an operator's.
-fn is_join(code: u16) -> bool
-    ensures { λ r. ⌜ r ≡ isJoin code ⌝ }
-{
-    if code < UNION_CODE {
-        return false;
-    }
-    code < PAST_JOINS
-}
-
 // Two words joined by an operator.
-fn joined_word(meet: bool, first: u64, second: u64) -> u64
+pub(crate) fn joined_word(meet: bool, first: u64, second: u64) -> u64
     ensures { λ r. ⌜ r ≡ joinedWord meet first second ⌝ }
 {
     if meet {
@@ -393,11 +402,8 @@ fn joined_word(meet: bool, first: u64, second: u64) -> u64
     first | second
 }
 
-// The most shapes that are pending while two trees are read one after the other.
-const MOST_SHAPES: usize = csg::MOST_PENDING + 1;
-
 // The word of one tree, or of two intersected.
-fn whole_word(words: &[u64; MOST_SHAPES], pending: usize) -> u64
+pub(crate) fn whole_word(words: &[u64; MOST_SHAPES], pending: usize) -> u64
     ensures { λ r. ⌜ r ≡ wholeWord (now (words .entry)) pending ⌝ }
 {
     if pending == 2 {
@@ -437,7 +443,7 @@ pub(crate) fn trees_word(
         let code = codes[i];
         if is_join(code) {
             let joined = joined_word(
-                INTERSECTION_CODE <= code,
+                INTERSECTION_NODE <= code,
                 words[pending - 2],
                 words[pending - 1],
             );

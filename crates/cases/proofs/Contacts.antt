@@ -14,7 +14,7 @@ use Rattle.csg.specs.Marks.{surfaceMark, surfaceColour, sideMark, sideColour, p
 use Rattle.demands.specs.Voxels.{blackVoxelsAt}
 use Rattle.contacts.specs.Contacts.{sureColour, possibleColour, windowVoxels}
 use Rattle.convert.specs.Answers.{twoTreesChecks, clearanceChecks}
-use Rattle.convert.specs.Contacts.{contactsAnswer}
+use Rattle.at_once.specs.Contacts.{contactsAnswer}
 use Rattle.cases.specs.Contacts.{ContactCasesHold}
 
 pub contact-cases-hold : ContactCasesHold

@@ -7,8 +7,8 @@ use lib.IntN.{ℤ, pos}
 use lib.ListN.{replicate}
 use Rattle.universe.specs.declared.Universe.{Universe}
 use Rattle.csg.specs.Surfaces.{surfacesOf}
-use Rattle.convert.specs.declared.counting.Contacts.{Contacts}
-use Rattle.convert.specs.Contacts.{contactsAnswer}
+use Rattle.at_once.specs.declared.answer.Contacts.{Contacts}
+use Rattle.at_once.specs.Contacts.{contactsAnswer}
 use Rattle.cases.specs.Cases.{minus, row}
 use Rattle.cases.specs.FrameBits.{Asked, _is_, universeOf}
 use Rattle.cases.specs.Balls.{ball}

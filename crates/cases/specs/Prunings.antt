@@ -1,5 +1,6 @@
 -- Section 16 of the rules: the pruned conversions, worked out from the rules. A case is one line: the number, whether
--- work room is lacking, the length, the nodes looked at and what is left in the room for symbols, and what they must be.
+-- work room is lacking, the length, the nodes looked at and what is left in the room for symbols, and what they must
+-- be.
 use Prim.Native.Nat.{ℕ}
 use mathlib.Core.Path.{_≡_}
 use mathlib.Core.Bool.{cond}

@@ -66,7 +66,7 @@ fn over(
     first_frame: u64,
     last_frame: u64,
 ) {
-    let answer = convert::contacts_of_two(
+    let answer = at_once::contacts_of_two(
         universe,
         rows,
         balls,
@@ -321,10 +321,78 @@ fn refusals() {
     over(b"the window", universe(2, 2, 2), &[], &[], &[1], &[1], 0, 4);
 }
 
+// Levels at both sides of a word's six, more frames than places and fewer, and windows that cut a word: planes that
+// move, a ball, and what is left of one.
+fn words() {
+    let rows = [-7i64, 2, 1, -1, 0, 9, -1, -3, 2, 0];
+    let balls = [2i64, 2, 0, 2];
+    over(
+        b"five levels",
+        universe(3, 1, 3),
+        &rows,
+        &balls,
+        &[512],
+        &[257],
+        1,
+        6,
+    );
+    over(
+        b"six levels",
+        universe(3, 2, 2),
+        &rows,
+        &balls,
+        &[1, 256, 4],
+        &[257, 512, 2],
+        1,
+        2,
+    );
+    over(
+        b"seven levels",
+        universe(3, 2, 3),
+        &rows,
+        &balls,
+        &[256, 512, 2],
+        &[257],
+        1,
+        6,
+    );
+    over(
+        b"ten levels",
+        universe(3, 4, 2),
+        &rows,
+        &balls,
+        &[257, 512, 4],
+        &[1],
+        2,
+        3,
+    );
+    over(
+        b"twelve levels",
+        universe(4, 2, 6),
+        &[-7, 2, 1, -1, 0, 9, -1, -3, 2, -1],
+        &[2, 1, 3, 2],
+        &[257, 512, 2],
+        &[1, 256, 512, 3, 4],
+        5,
+        5 + 36,
+    );
+    over(
+        b"nine levels of frames",
+        universe(1, 0, 9),
+        &[-201, 2, 0, 0, 0, 301, -1, 0, 0, 0],
+        &[],
+        &[256],
+        &[257],
+        99,
+        300,
+    );
+}
+
 fn main() {
     planes();
     windows();
     balls();
     smallest();
+    words();
     refusals();
 }

@@ -1,5 +1,5 @@
--- What is carried across a halving. The amounts of a block's halves are the whole universe's, halved as often as the axis was; with them the extremes over the block
--- become those over either half (the laws of csg), and both are small, so that nothing overflows.
+-- What is carried across a halving. The amounts of a block's halves are the whole universe's, halved as often as the axis was; with them the extremes over the
+-- block become those over either half (the laws of csg), and both are small, so that nothing overflows.
 use Prim.Native.Nat.{ℕ, zero, suc, _+_, _-_, _*_, _/_, _^_, _≤_, _<_}
 use mathlib.Core.Path.{_≡_, refl, sym, ap, ap₂, _∙_}
 use mathlib.Core.Bool.{Bool, true, false, cond, false≢true}
@@ -45,7 +45,8 @@ use Rattle.convert.specs.Blocks.{Ready, Standing, Halved, Carried, Judgi
 use Rattle.convert.proofs.Slots.{stored-length, small-product, halved-at, raised-at, lowered-at}
 use Rattle.convert.proofs.Naming.{slots-few, slots-named}
 use Rattle.convert.proofs.BallCodes.{ball-ready}
-use Rattle.convert.proofs.Blocks.{low-small, side-small, axis-in, axis-few, half-is, side-even, side-set, lower-is, upper-is, lower-standing, upper-standing}
+use Rattle.convert.proofs.Blocks.{low-small, side-small, axis-in, axis-few, half-is, side-even, side-set}
+use Rattle.convert.proofs.Blocks.{lower-is, upper-is, lower-standing, upper-standing}
 use Rattle.convert.proofs.Judging.{small-rows, small-balls, white-codes, black-codes, row-code, ball-code}
 
 -- what the machine reads of a number that it holds

@@ -1,5 +1,5 @@
--- Judging by what is carried is judging the block: a row's code is by its extremes, a ball's by its squares, and the codes of a tree's leaves, joined, are those of
--- its marks over two blocks; at level L those of its colours at the centres, which are the marks' wherever these are decided.
+-- Judging by what is carried is judging the block: a row's code is by its extremes, a ball's by its squares, and the codes of a tree's leaves, joined, are those
+-- of its marks over two blocks; at level L those of its colours at the centres, which are the marks' wherever these are decided.
 use Prim.Native.Nat.{ℕ, zero, suc, _+_, _-_, _*_, _%_, _^_, _≤_, _<_}
 use mathlib.Core.Path.{_≡_, refl, sym, ap, ap₂, _∙_}
 use mathlib.Core.Bool.{Bool, true, false, cond, _&&_}

@@ -15,4 +15,3 @@ pub mod Beginning
 pub mod Answers
 pub mod OneTree
 pub mod Clearances
-pub mod Contacts

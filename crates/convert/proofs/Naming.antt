@@ -1,5 +1,5 @@
--- The slots of two accepted trees. Reading the words tells that each slot holds a row that is there, and that they are few: each operator takes one shape off, so
--- that no tree has more leaves than half its words and one. The slot of a word holds its own row.
+-- The slots of two accepted trees. Reading the words tells that each slot holds a row that is there, and that they are few: each operator takes one shape off,
+-- so that no tree has more leaves than half its words and one. The slot of a word holds its own row.
 use Prim.Native.Nat.{ℕ, zero, suc, _+_, _-_, _*_, _≤_, _<_}
 use mathlib.Core.Path.{_≡_, refl, sym, ap, _∙_}
 use mathlib.Core.Bool.{Bool, true, false, cond, false≢true}
@@ -19,7 +19,8 @@ use Rattle.csg.specs.Halfspace.{mostRows, rowCount}
 use Rattle.csg.specs.Surfaces.{Named, Surfaces, named}
 use Rattle.csg.specs.Tree.{Leaf, Operator}
 use Rattle.csg.specs.Words.{mostWords, firstHalfspace, namesHalfspace, isOperator, isLeaf, treeRefusal, treeOf, fold}
-use Rattle.csg.proofs.Words.{among-is, Names, a-halfspace, a-ball, leaf-names, accepted-length, accepted-run, Reads, reads, left-one, leaf-next, two-pending, join-next}
+use Rattle.csg.proofs.Words.{among-is, Names, a-halfspace, a-ball, leaf-names, accepted-length, accepted-run}
+use Rattle.csg.proofs.Words.{Reads, reads, left-one, leaf-next, two-pending, join-next}
 use Rattle.convert.specs.Slots.{rowsNamed, slotsOf, mostSlots}
 use Rattle.convert.specs.Blocks.{Ready, Slots}
 use Rattle.convert.proofs.Slots.{namedBy, named-one, named-rest}

@@ -1,5 +1,5 @@
--- What is carried in slots. A run of stores is told by what stands at each place after it (`stored-at`, `stored-above`), so that values moved and moved back are
--- as they were. An amount that is halved so many times is what the machine shifts it to.
+-- What is carried in slots. A run of stores is told by what stands at each place after it (`stored-at`, `stored-above`), so that values moved and moved back
+-- are as they were. An amount that is halved so many times is what the machine shifts it to.
 use Prim.Native.Nat.{ℕ, zero, suc, _+_, _*_, _-_, _/_, _^_, _≤_, _<_}
 use mathlib.Core.Path.{_≡_, refl, sym, ap, ap₂, _∙_}
 use mathlib.Core.Bool.{Bool, true, false, cond}
@@ -16,7 +16,8 @@ use lib.Signed.{leZ, ltZ, nonNeg}
 use lib.Seq.{sets, getD-set-same, getD-set-other, ext-getD, take-suc, take-all}
 use mir.Syntax.{w64}
 use mir.Val.{Fits, SFits, toZ, ofZ}
-use Rattle.lemmas.proofs.Machine.{Near, near, near-lit, near-nat, near-as, near-add, near-sub, near-back, near-cast, near-fits, near-unsigned, size-add, size-neg}
+use Rattle.lemmas.proofs.Machine.{Near, near, near-lit, near-nat, near-as, near-add, near-sub, near-back, near-cast, near-fits, near-unsigned}
+use Rattle.lemmas.proofs.Machine.{size-add, size-neg}
 use Rattle.lemmas.proofs.Sums.{and-right}
 use Rattle.lemmas.proofs.Stores.{sets-append}
 use Rattle.lemmas.proofs.Whole.{ι, ν, _⊕_, _⊖_, eq-by, le-by, ltZ-true, ltZ-false, le-leZ, lt-leZ, negative-size}

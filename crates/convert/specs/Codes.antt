@@ -5,20 +5,16 @@ use Prim.Native.Nat.{ℕ, _+_, _*_, _/_}
 use mathlib.Core.Bool.{Bool, true, false, cond}
 use mathlib.Core.List.{List}
 use lib.Bits.{bitAnd, bitOr}
-use lib.Dec.{eqb, leb, ltb}
+use lib.Dec.{leb, ltb}
 use lib.IntN.{ℤ, pos, natAbs, _+ℤ_}
 use lib.ListN.{getD}
 use lib.Signed.{leZ}
 use Rattle.lemmas.specs.Sums.{sum}
-use Rattle.bintree.specs.declared.Colour.{Colour}
 use Rattle.bintree.specs.declared.Colour.the-variants.{White, Black}
 use Rattle.csg.specs.Halfspace.{Mark, decided, undecided}
 use Rattle.csg.specs.Ball.{Ball, square, radiusSquared, nearest, farthest, off}
 use Rattle.csg.specs.Tree.{Operator, union, intersection, minus}
 use Rattle.convert.specs.declared.ball.Squares.{Squares}
-use Rattle.convert.specs.declared.decision.Crossing.{Crossing}
-use Rattle.convert.specs.declared.decision.Crossing.the-variants.{In, Out, Crossed}
-use Rattle.convert.specs.declared.decision.Decision.{Decision}
 
 -- a mark in two bits
 abbrev pub blackBit : ℕ
@@ -44,16 +40,6 @@ blackBits = paired blackBit blackBit
 
 abbrev pub whiteBits : ℕ
 whiteBits = paired whiteBit whiteBit
-
--- what is decided at a voxel, by the bits of the mark over its own block and those of the colour at its centre
-abbrev pub crossingBy : ℕ → Crossing
-crossingBy mark = cond (eqb mark blackBit) In (cond (eqb mark whiteBit) Out Crossed)
-
-abbrev pub colourBy : ℕ → Colour
-colourBy colour = cond (eqb colour blackBit) Black White
-
-unfoldable pub decisionBy : ℕ → ℕ → Decision
-decisionBy mark colour = record { crossing = crossingBy mark; centre = colourBy colour }
 
 -- the code of a voxel: the colour's bits stand above those of two marks, so that the codes of two voxels are paired as
 -- marks are

@@ -1,6 +1,6 @@
--- What the recursion over blocks carries, by rules 2.3 and 2.4: every halfspace word of the two trees has a slot, in the
--- words' order, and of the row in a slot stand there the least and the greatest value over the block at hand, and for
--- each axis by how much the two move.
+-- What the recursion over blocks carries, by rules 2.3 and 2.4: every halfspace word of the two trees has a slot, in
+-- the words' order, and of the row in a slot stand there the least and the greatest value over the block at hand, and
+-- for each axis by how much the two move.
 use Prim.Native.Nat.{ℕ, zero, suc, _+_, _*_, _-_, _/_, _^_, _≤_, _<_}
 use mathlib.Core.Path.{_≡_}
 use mathlib.Core.Bool.{Bool, true, false, cond}

@@ -135,7 +135,8 @@ fn set_offsets(
     values: &mut [i64; MOST_SLOTS],
 )
     requires { ⌜ Slotted (now rows) (now slots) count ⌝ }
-    ensures { λ _. ⌜ now (values .exit) ≡ offsetsIn (now (rows .entry)) (now (slots .entry)) count (now (values .entry)) ⌝ }
+    ensures { λ _. let rows = now (rows .entry) in
+        ⌜ now (values .exit) ≡ offsetsIn rows (now (slots .entry)) count (now (values .entry)) ⌝ }
 {
     let mut i: usize = 0;
     while i < count {

@@ -233,7 +233,7 @@ fn codes_of_tree(
 
 // The codes of two trees intersected over two blocks, at level L with the colours at the centres. Above it, where the
 // first tree is WHITE over both, the second is not asked.
-pub(crate) fn codes(
+fn codes(
     universe: Universe,
     rows: &[i64],
     balls: &[i64],

@@ -1,4 +1,4 @@
-// A mark in two bits, its code; the codes over two blocks in one number; and the joining of such numbers by an operator.
+// A mark in two bits, its code; the codes over two blocks in one number; and such numbers joined by an operator.
 ghost use mathlib.Core.Path.{_≡_};
 ghost use Prim.Native.Nat.{_≤_};
 ghost use Rattle.csg.specs.Words.{operatorOf};

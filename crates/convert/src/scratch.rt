@@ -12,8 +12,8 @@ ghost use Rattle.convert.specs.Blocks.{Ready};
 // Scratch room for where no more than this is lent.
 pub(crate) const SHORT: usize = 4096;
 
-// Scratch room for where more is lent.
-const LONG: usize = 32768;
+// Scratch room for where more is lent; a longer expression is laid twice.
+pub const MOST_SCRATCH: usize = 32_768;
 
 // The expression is written into scratch room first, and again only where it is longer.
 fn through(
@@ -95,7 +95,7 @@ pub(crate) fn long(
         let written = writtenOfTwo merging universe surfaces (now (first .entry)) (now (second .entry)) in
         ⌜ now (out .exit) ≡ writtenBuffer 0 (now (out .entry)) written ⌝ }
 {
-    let mut scratch = [0u8; LONG];
+    let mut scratch = [0u8; MOST_SCRATCH];
     through(
         universe,
         rows,

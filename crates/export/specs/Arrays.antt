@@ -16,9 +16,9 @@ use Rattle.bintree.specs.declared.Merged.{Merged}
 use Rattle.bintree.specs.declared.Numbers.{Numbers}
 use Rattle.bintree.specs.declared.Coloured.{Coloured}
 use Rattle.bintree.specs.declared.Placed.{Placed}
-use Rattle.convert.specs.declared.counting.Contacts.{Contacts}
 use Rattle.convert.specs.declared.verdict.Clearance.{Clearance}
 use Rattle.pruned.specs.declared.answer.Conversion.{Conversion}
+use Rattle.at_once.specs.declared.answer.Contacts.{Contacts}
 use Rattle.at_once.specs.declared.answer.Judged.{Judged}
 use Rattle.at_once.specs.declared.answer.Span as spans
 use Rattle.at_once.specs.declared.answer.Spanned.{Spanned}

@@ -74,7 +74,7 @@ pub extern "C" fn durbizhan_raw_one(
         bits: bits,
         frame_bits: frame_bits,
     };
-    let written = convert::raw_of_one(universe, rows, balls, words, out);
+    let written = local::raw_of_one(universe, rows, balls, words, out);
     *answer = [written.length];
     written.refusal
 }
@@ -113,7 +113,7 @@ pub extern "C" fn durbizhan_raw_two(
         bits: bits,
         frame_bits: frame_bits,
     };
-    let written = convert::raw_of_two(universe, rows, balls, first, second, out);
+    let written = local::raw_of_two(universe, rows, balls, first, second, out);
     *answer = [written.length];
     written.refusal
 }
@@ -145,7 +145,7 @@ pub extern "C" fn durbizhan_merged_one(
         bits: bits,
         frame_bits: frame_bits,
     };
-    let written = convert::merged_of_one(universe, rows, balls, words, out);
+    let written = at_once::merged_of_one(universe, rows, balls, words, out);
     *answer = [written.length];
     written.refusal
 }
@@ -184,7 +184,7 @@ pub extern "C" fn durbizhan_merged_two(
         bits: bits,
         frame_bits: frame_bits,
     };
-    let written = convert::merged_of_two(universe, rows, balls, first, second, out);
+    let written = at_once::merged_of_two(universe, rows, balls, first, second, out);
     *answer = [written.length];
     written.refusal
 }

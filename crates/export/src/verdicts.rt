@@ -6,7 +6,7 @@ ghost use mathlib.Core.Path.{_≡_};
 ghost use Rattle.csg.specs.Surfaces.{surfacesOf};
 ghost use Rattle.bintree.specs.Verdicts.{numbersAnswer};
 ghost use Rattle.convert.specs.Answers.{clearanceAnswer, clearanceBuffer};
-ghost use Rattle.convert.specs.Contacts.{contactsAnswer};
+ghost use Rattle.at_once.specs.Contacts.{contactsAnswer};
 ghost use Rattle.export.specs.Arrays.{universeOf, toldOf, clearanceArray, contactsArray, numbersArray};
 
 // A verdict as four numbers: hit (0 Clear, 1 Hit), first frame, last frame, voxels.
@@ -77,7 +77,7 @@ pub extern "C" fn durbizhan_verdict(
         bits: bits,
         frame_bits: frame_bits,
     };
-    let found = convert::verdict_of_two(
+    let found = local::verdict_of_two(
         universe,
         rows,
         balls,
@@ -124,7 +124,7 @@ pub extern "C" fn durbizhan_contacts(
         bits: bits,
         frame_bits: frame_bits,
     };
-    let found = convert::contacts_of_two(
+    let found = at_once::contacts_of_two(
         universe,
         rows,
         balls,

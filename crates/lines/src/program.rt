@@ -68,7 +68,7 @@ fn write_judged(
 {
     let mut symbols = [0u8; LENT];
     let window = scene.window;
-    let clearance = convert::verdict_of_two(
+    let clearance = local::verdict_of_two(
         scene.universe,
         rows,
         balls,

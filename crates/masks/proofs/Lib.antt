@@ -14,3 +14,5 @@ pub mod Ends
 pub mod MaskEnds
 pub mod Contacts
 pub mod OneColour
+pub mod Own
+pub mod Seen

@@ -1,16 +1,16 @@
 -- How large values, steps and distances are: a row within its limits has no larger value at a voxel than its numbers times the longest side allow. The
 -- sums on the way from a block's first voxel to another are values at voxels too (`half-value` of Leaves), so they are no larger.
 use mathlib.Core.Path.{_≡_, ap}
-use mathlib.Core.Bool.{Bool, true, cond}
+use mathlib.Core.Bool.{Bool, true, false, cond}
 use mathlib.Core.List.{List}
 use Prim.Native.Nat.{ℕ, zero, suc, _+_, _*_, _≤_, _<_}
 use native.Mathlib.Omega.{arith}
 use native.Mathlib.Nat.{mul-le-mul, le-refl, le-trans}
 use lib.Dec.{ltb, leb}
 use lib.Pow.{pow-mono}
-use lib.IntN.{ℤ, pos, negℤ, natAbs, _*ℤ_}
+use lib.IntN.{ℤ, pos, negℤ, natAbs, _+ℤ_, _*ℤ_}
 use borrow.Author.Tests.{leb-true, lt-ltb}
-use Rattle.lemmas.specs.Sums.{total, every}
+use Rattle.lemmas.specs.Sums.{sum, total, every}
 use Rattle.lemmas.proofs.Sums.{below, top, and-left, and-right, every-all}
 use Rattle.lemmas.proofs.Machine.{size-mul, size-add, size-neg}
 use Rattle.universe.specs.declared.Universe.{Universe}
@@ -22,6 +22,7 @@ use Rattle.csg.specs.Halfspace.{Halfspace, withinLimits, centreValue}
 use Rattle.csg.specs.Ball.{Ball, placeAxes, mostPlaces, centreLimitAlong, radiusWithin, ballWithin, off, distanceAt}
 use Rattle.masks.specs.Steps.{axisLeft, sideLeft}
 use Rattle.masks.specs.Leaves.{rowStep, valueLimit, stepLimit, offLimit, distanceLimit}
+use Rattle.masks.specs.Own.{reach, reached}
 
 total-few : (n : ℕ) (f : ℕ → ℤ) (most : ℕ) → ((i : ℕ) → i < n → natAbs (f i) ≤ most) → natAbs (total n f) ≤ n * most
 unfolding total
@@ -30,6 +31,12 @@ total-few (suc n) f most h = omega (arith, size-add (total n f) (f n), total-few
 
 total-within : (n most-terms : ℕ) (f : ℕ → ℤ) (most : ℕ) → n ≤ most-terms → ((i : ℕ) → i < n → natAbs (f i) ≤ most) → natAbs (total n f) ≤ most-terms * most
 total-within n most-terms f most l h = le-trans (total-few n f most h) (mul-le-mul l (le-refl most))
+
+-- a total whose terms have room for something more
+total-more : (n : ℕ) (f : ℕ → ℤ) (g : ℕ → ℕ) (most : ℕ) → ((i : ℕ) → i < n → natAbs (f i) + g i ≤ most) → natAbs (total n f) + sum n g ≤ n * most
+unfolding total sum
+total-more zero f g most h = omega arith
+total-more (suc n) f g most h = omega (arith, size-add (total n f) (f n), total-more n f g most (below h), top h)
 
 module _ (u : Universe) (accept : Accepted u) (h : Halfspace) (within : withinLimits u h ≡ true) where
   offset-few : natAbs (h .offset) ≤ offsetLimit
@@ -60,6 +67,33 @@ module _ (u : Universe) (accept : Accepted u) (h : Halfspace) (within : withinLi
       one : (i : ℕ) → i < u .axes → natAbs (h .coefficient i *ℤ pos (2 * placeAlong v i + 1)) ≤ coefficientLimit * (2 * longestSide)
       one i l =
           let place : 2 * placeAlong v i + 1 ≤ 2 * longestSide = omega (arith, voxel-taken u v accept e .inside i l, side-few u accept i) in
+          omega (arith, size-mul (h .coefficient i) (pos (2 * placeAlong v i + 1)), mul-le-mul (coefficient-few i l) place)
+
+  -- and so does twice its least value over the voxel, or its greatest
+  pub reached-few : (possible : Bool) (v : List ℕ) → voxelRefusal u v ≡ 0 → natAbs (centreValue u h v +ℤ reached possible (reach (u .axes) h)) ≤ valueLimit
+  unfolding centreValue reach
+  reached-few possible v e =
+      let terms : ℕ → ℤ = λ i. h .coefficient i *ℤ pos (2 * placeAlong v i + 1) in
+      let sizes : ℕ → ℕ = λ i. natAbs (h .coefficient i) in
+      let each = coefficientLimit * (2 * longestSide) in
+      omega (
+        arith,
+        size-add (centreValue u h v) (reached possible (reach (u .axes) h)),
+        size-add (pos 2 *ℤ h .offset) (total (u .axes) terms),
+        size-mul (pos 2) (h .offset),
+        offset-few,
+        size possible (reach (u .axes) h),
+        total-more (u .axes) terms sizes each one,
+        mul-le-mul (accept .few-axes) (le-refl each),
+      )
+    where
+      size : (possible : Bool) (n : ℕ) → natAbs (reached possible n) ≤ n
+      size true n = omega arith
+      size false n = omega (arith, size-neg (pos n))
+
+      one : (i : ℕ) → i < u .axes → natAbs (h .coefficient i *ℤ pos (2 * placeAlong v i + 1)) + natAbs (h .coefficient i) ≤ coefficientLimit * (2 * longestSide)
+      one i l =
+          let place : 2 * placeAlong v i + 2 ≤ 2 * longestSide = omega (arith, voxel-taken u v accept e .inside i l, side-few u accept i) in
           omega (arith, size-mul (h .coefficient i) (pos (2 * placeAlong v i + 1)), mul-le-mul (coefficient-few i l) place)
 
   -- THEOREM: and so does each step

@@ -10,3 +10,5 @@ pub mod Windows
 pub mod Ends
 pub mod MaskEnds
 pub mod Contacts
+pub mod Own
+pub mod Seen

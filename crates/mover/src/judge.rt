@@ -47,7 +47,7 @@ fn need_in(
     let end = lay_rows(size, moments, corners, i, rows, all);
     let own = box_words(rows.len() / ROW_LENGTH);
     let mut nothing = [0u8; 0];
-    let written = convert::raw_of_two(universe, &all[..end], balls, words, &own, &mut nothing);
+    let written = local::raw_of_two(universe, &all[..end], balls, words, &own, &mut nothing);
     written.length
 }
 
@@ -160,7 +160,7 @@ fn judge_in(
 {
     let end = lay_rows(size, moments, corners, i, rows, all);
     let own = box_words(rows.len() / ROW_LENGTH);
-    convert::verdict_of_two(
+    local::verdict_of_two(
         universe,
         &all[..end],
         balls,

@@ -20,10 +20,10 @@ use Rattle.demands.proofs.Colours.{both-colour}
 use Rattle.contacts.specs.Contacts.{sureColour, possibleColour, windowVoxels}
 use Rattle.contacts.proofs.Contacts as contacts
 use Rattle.contacts.proofs.Middle.{verdict-middle, no-contact}
-use Rattle.convert.specs.declared.counting.Contacts.{Contacts}
 use Rattle.convert.specs.Blocks.{treesOf}
 use Rattle.convert.specs.Answers.{twoTreesChecks, clearanceChecks, clearanceRefusal}
-use Rattle.convert.specs.Contacts.{refusedContacts, doneContacts, contactsAnswer}
+use Rattle.at_once.specs.declared.answer.Contacts.{Contacts}
+use Rattle.at_once.specs.Contacts.{refusedContacts, doneContacts, contactsAnswer}
 use Rattle.promises.specs.Contacts.{sharedColour, Contacted}
 use Rattle.promises.proofs.Never.{NoneIs, no-more, and-then, unless-not, first-not, universe-not, rows-not, balls-not, tree-not}
 use Rattle.promises.proofs.Located.{point-held}

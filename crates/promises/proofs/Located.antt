@@ -49,7 +49,8 @@ module _ (q x n : ℕ) (some : 0 < q) where
       by (yes l) = omega arith
       by (no l) = let g : suc (x / q) ≤ m = omega arith in absurd (omega (arith, lt-mul-div-succ x some, mul-le-mul-left q g))
 
-module _ (u : Universe) (e : universeRefusal u ≡ 0) (from to : ℕ) (window : windowRefusal u from to ≡ 0) (q : ℕ) (p : ℕ → ℕ) (w : PointWithin u from to q p) where
+module _ (u : Universe) (e : universeRefusal u ≡ 0) (from to : ℕ) (window : windowRefusal u from to ≡ 0) (q : ℕ) (p : ℕ → ℕ)
+    (w : PointWithin u from to q p) where
   a : Accepted u
   a = accepted u e
 

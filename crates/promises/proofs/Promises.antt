@@ -162,7 +162,8 @@ passed before out written e = go (ℕ-discrete before 0)
     go (no n) = absurd (n (ap (λ (w : Written). w .refusal) (written-refused before out written n) ∙ e))
 
 -- and one that is not refused for room is refused as its checks before 6 say
-pub unless-six : (before : ℕ) (out written : List ℕ) → (writtenAnswer before out written .refusal ≡ noRoom → ⊥) → writtenAnswer before out written .refusal ≡ before
+pub unless-six : (before : ℕ) (out written : List ℕ) → (writtenAnswer before out written .refusal ≡ noRoom → ⊥) →
+    writtenAnswer before out written .refusal ≡ before
 unfolding writtenAnswer
 unless-six before out written n = go (ℕ-discrete before 0)
   where

@@ -1,12 +1,11 @@
 -- The pruned conversions beside the first: their answers are made of the same checks and the same symbols, with the work room's check between, and the nodes
--- looked at are bounded by the laws of crate `pruned`.
+-- looked at are bounded. All by the laws of crate `pruned`.
 use Prim.Native.Nat.{ℕ, _+_, _*_, _≤_, _<_}
 use mathlib.Core.Path.{_≡_, refl, sym, ap, subst, _∙_}
 use mathlib.Core.Bool.{true, false}
 use mathlib.Core.List.{List, [], _∷_}
 use native.Mathlib.Decide.{ℕ-discrete, decLe}
 use native.Mathlib.Omega.{arith}
-use borrow.Author.Tests.{eq-eqb, ne-eqb}
 use lib.IntN.{ℤ}
 use lib.ListN.{length}
 use Rattle.universe.specs.declared.Universe.{Universe}
@@ -14,7 +13,7 @@ use Rattle.universe.specs.Universe.{levels}
 use Rattle.universe.specs.Block.{wholeBlock}
 use Rattle.universe.specs.Refusals.{noRoom}
 use Rattle.universe.specs.Lent.{overwritten, roomRefusal}
-use Rattle.universe.proofs.Lent.{room-enough, room-short, untouched}
+use Rattle.universe.proofs.Lent.{room-enough, room-short}
 use Rattle.bintree.specs.declared.Written.{Written}
 use Rattle.bintree.specs.Answers.{writtenAnswer, writtenBuffer}
 use Rattle.csg.specs.Surfaces.{Surfaces, named}
@@ -28,9 +27,9 @@ use Rattle.pruned.specs.declared.answer.Conversion.{Conversion}
 use Rattle.pruned.specs.Left.{allNodes}
 use Rattle.pruned.specs.Looked.{nodesLooked}
 use Rattle.pruned.specs.Answers.{oneTree, twoTrees, nodesLent, nodesNeeded, refusedConversion, shortOfWork, shortOfSymbols, doneConversion, writtenConversion}
-use Rattle.pruned.specs.Answers.{writtenRoom}
 use Rattle.pruned.specs.Answers.{conversionAnswer, conversionRoom}
 use Rattle.pruned.specs.Answers as pruned
+use Rattle.pruned.proofs.Answers.{is-refused, is-short, is-written, Same, same}
 use Rattle.pruned.proofs.Looked.{StandsFor, one-stands, two-stand, looked-most}
 use Rattle.pruned.proofs.Loads.{words-nodes}
 use Rattle.pruned.proofs.Conversions.{all-accepted, one-refusal}
@@ -44,72 +43,23 @@ module _ (before : ℕ) (work : List ℤ) (needed : ℕ) (out symbols : List ℕ
   abbrev left : List ℕ
   left = conversionRoom before work needed out symbols
 
-  is-refused : (before ≡ 0 → ⊥) → answer ≡ refusedConversion before
-  unfolding conversionAnswer
-  is-refused h = rw (ne-eqb before 0 h)
-
-  left-refused : (before ≡ 0 → ⊥) → left ≡ out
-  unfolding conversionRoom
-  left-refused h = rw (ne-eqb before 0 h, ne-eqb before 0 h)
-
-  module _ (z : before ≡ 0) where
-    is-short : nodesLent work < needed → answer ≡ shortOfWork needed
-    unfolding conversionAnswer
-    is-short h = rw (z, room-short (nodesLent work) needed h)
-
-    is-written : needed ≤ nodesLent work → answer ≡ writtenConversion out symbols looked
-    unfolding conversionAnswer
-    is-written h = rw (z, room-enough (nodesLent work) needed h)
-
-    left-written : needed ≤ nodesLent work → left ≡ writtenRoom out symbols
-    unfolding conversionRoom
-    left-written h = rw (z, room-enough (nodesLent work) needed h)
-
-  -- ---- a conversion that does not lack work room, beside the first: both end in too little room, or are done
   abbrev first : Written
   first = writtenAnswer before out symbols
 
   abbrev first-left : List ℕ
   first-left = writtenBuffer before out symbols
 
-  pub record Same : Type 0 where
-    pub number : answer .refusal ≡ first .refusal
-    pub long : answer .length ≡ first .length
-    pub room : left ≡ first-left
-    pub lack : answer .«short_of_work» ≡ false
+  refused : (before ≡ 0 → ⊥) → answer ≡ refusedConversion before
+  refused = is-refused before work needed out symbols looked
 
-  same : needed ≤ nodesLent work → Same
-  unfolding writtenAnswer writtenBuffer writtenConversion writtenRoom
-  same h = by (ℕ-discrete before 0) (decLe (length symbols) (length out))
-    where
-      by : Dec (before ≡ 0) → Dec (length symbols ≤ length out) → Same
-      by (no n) k =
-          let e = is-refused n in
-          let r = ne-eqb before 0 n in
-          record {
-            number = ap (λ (x : Conversion). x .refusal) e ∙ rw r;
-            long = ap (λ (x : Conversion). x .length) e ∙ rw r;
-            room = left-refused n ∙ rw r (untouched symbols out n);
-            lack = ap (λ (x : Conversion). x .«short_of_work») e;
-          }
-      by (yes z) (yes k) =
-          let e = is-written z h in
-          let m = room-enough (length out) (length symbols) k in
-          record {
-            number = ap (λ (x : Conversion). x .refusal) e ∙ rw (z, m);
-            long = ap (λ (x : Conversion). x .length) e ∙ rw (z, m);
-            room = left-written z h ∙ rw (z, m);
-            lack = ap (λ (x : Conversion). x .«short_of_work») e ∙ rw m;
-          }
-      by (yes z) (no k) =
-          let e = is-written z h in
-          let m = room-short (length out) (length symbols) (omega arith) in
-          record {
-            number = ap (λ (x : Conversion). x .refusal) e ∙ rw (z, m);
-            long = ap (λ (x : Conversion). x .length) e ∙ rw (z, m);
-            room = left-written z h ∙ rw (z, m);
-            lack = ap (λ (x : Conversion). x .«short_of_work») e ∙ rw m;
-          }
+  short : before ≡ 0 → nodesLent work < needed → answer ≡ shortOfWork needed
+  short = is-short before work needed out symbols looked
+
+  written : before ≡ 0 → needed ≤ nodesLent work → answer ≡ writtenConversion out symbols looked
+  written = is-written before work needed out symbols looked
+
+  as-first : needed ≤ nodesLent work → Same before work needed out symbols looked
+  as-first h = same before work needed out symbols looked (λ z. h)
 
   -- ---- the nodes: those looked at where it is done, else none
   nodes-by : {G : Type 0} → (answer .refusal ≡ 0 → before ≡ 0 → answer .looked ≡ looked → G) → ((answer .refusal ≡ 0 → ⊥) → answer .looked ≡ 0 → G) → G
@@ -117,27 +67,27 @@ module _ (before : ℕ) (work : List ℤ) (needed : ℕ) (out symbols : List ℕ
   nodes-by {G} yes′ no′ = by (ℕ-discrete before 0) (decLe needed (nodesLent work)) (decLe (length symbols) (length out))
     where
       by : Dec (before ≡ 0) → Dec (needed ≤ nodesLent work) → Dec (length symbols ≤ length out) → G
-      by (no n) h k = let e = is-refused n in no′ (λ z. n (sym (ap (λ (x : Conversion). x .refusal) e) ∙ z)) (ap (λ (x : Conversion). x .looked) e)
+      by (no n) h k = let e = refused n in no′ (λ z. n (sym (ap (λ (x : Conversion). x .refusal) e) ∙ z)) (ap (λ (x : Conversion). x .looked) e)
       by (yes z) (no h) k =
-          let e = is-short z (omega arith) in
+          let e = short z (omega arith) in
           no′ (λ y. omega (arith, ap (λ (x : Conversion). x .refusal) e)) (ap (λ (x : Conversion). x .looked) e)
       by (yes z) (yes h) (yes k) =
-          let e : answer ≡ doneConversion (length symbols) looked = is-written z h ∙ rw (room-enough (length out) (length symbols) k) in
+          let e : answer ≡ doneConversion (length symbols) looked = written z h ∙ rw (room-enough (length out) (length symbols) k) in
           yes′ (ap (λ (x : Conversion). x .refusal) e) z (ap (λ (x : Conversion). x .looked) e)
       by (yes z) (yes h) (no k) =
-          let e : answer ≡ shortOfSymbols (length symbols) = is-written z h ∙ rw (room-short (length out) (length symbols) (omega arith)) in
+          let e : answer ≡ shortOfSymbols (length symbols) = written z h ∙ rw (room-short (length out) (length symbols) (omega arith)) in
           no′ (λ y. omega (arith, ap (λ (x : Conversion). x .refusal) e)) (ap (λ (x : Conversion). x .looked) e)
 
   alike : (u : Universe) (surfaces : Surfaces) (words : ℕ) (tree : Tree) (trees : List Plain) → looked ≡ nodesLooked u surfaces trees →
       (before ≡ 0 → looked ≤ blocksExamined u surfaces tree * words) → Alike u surfaces before needed words tree trees work first first-left answer left
   alike u surfaces words tree trees e most =
       record {
-        same-number = λ h. same h .number;
-        same-length = λ h. same h .long;
-        same-symbols = λ h. same h .room;
-        no-lack = λ h. same h .lack;
-        before-work = λ n. ap (λ (x : Conversion). x .refusal) (is-refused n);
-        lack = λ z h. let k = is-short z h in
+        same-number = λ h. as-first h .number;
+        same-length = λ h. as-first h .long;
+        same-symbols = λ h. as-first h .room;
+        no-lack = λ h. as-first h .lack;
+        before-work = λ n. ap (λ (x : Conversion). x .refusal) (refused n);
+        lack = λ z h. let k = short z h in
             (ap (λ (x : Conversion). x .refusal) k, ap (λ (x : Conversion). x .«short_of_work») k, ap (λ (x : Conversion). x .length) k);
         looked = λ z. nodes-by (λ y b k. k ∙ e) (λ n k. absurd (n z));
         looked-most = nodes-by (λ y b k. omega (arith, most b)) (λ n k. omega arith);

@@ -14,8 +14,8 @@ use Rattle.demands.specs.Voxels.{Colouring}
 use Rattle.contacts.specs.Contacts.{sureColour, possibleColour, windowVoxels}
 use Rattle.contacts.specs.Points.{InsideTree}
 use Rattle.contacts.specs.Middle.{VerdictOf}
-use Rattle.convert.specs.declared.counting.Contacts.{Contacts}
 use Rattle.convert.specs.Answers.{clearanceRefusal, clearanceAnswer}
+use Rattle.at_once.specs.declared.answer.Contacts.{Contacts}
 
 -- a voxel is black in both trees at its centre
 abbrev pub sharedColour : Universe → Surfaces → List ℕ → List ℕ → Colouring

@@ -340,7 +340,7 @@ module _ {steps : List ℤ} {turned : Bool} {left : ℕ} {x y : ℤ} {looked : L
     lower-values : (v ≡ least h (blockLeft u n (l₀ .low))) × (w ≡ greatest h (blockLeft u n (l₀ .low)))
     unfolding step-low stepping
     lower-values =
-        let m = step-low (l₀ .scene) refl standing′ refl {centre = false} (λ f. absurd (not-so f)) .moves (l₀ .row) in
+        let m = step-low (l₀ .scene) refl standing′ refl {centre = false} (λ f. absurd (not-so f)) refl .moves (l₀ .row) in
         let o = e .over (h .coefficient axis) half (by-held ∙ amount-is) in (
           o .0 ∙ ap (movedLeast false (h .coefficient axis) half) (least-held l₀ ∙ l₀ .least-is ∙ ap (least h) same-block) ∙ sym (m .0),
           o .1 ∙ ap (movedGreatest false (h .coefficient axis) half) (greatest-held l₀ ∙ l₀ .greatest-is ∙ ap (greatest h) same-block) ∙ sym (m .1),
@@ -367,7 +367,7 @@ module _ {steps : List ℤ} {turned : Bool} {left : ℕ} {x y : ℤ} {looked : L
         × (w ≡ greatest h (blockLeft u n (highLows (l₀ .low) (l₀ .side) axis)))
     unfolding step-high stepping
     upper-values =
-        let m = step-high (l₀ .scene) refl standing′ refl {centre = false} (λ f. absurd (not-so f)) .moves (l₀ .row) in
+        let m = step-high (l₀ .scene) refl standing′ refl {centre = false} (λ f. absurd (not-so f)) refl .moves (l₀ .row) in
         let o = e .over (h .coefficient axis) half (by-held ∙ amount-is) in (
           o .0 ∙ ap (movedLeast true (h .coefficient axis) half) (least-held l₀ ∙ l₀ .least-is ∙ ap (least h) same-block) ∙ sym (m .0),
           o .1 ∙ ap (movedGreatest true (h .coefficient axis) half) (greatest-held l₀ ∙ l₀ .greatest-is ∙ ap (greatest h) same-block) ∙ sym (m .1),

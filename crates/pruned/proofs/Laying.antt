@@ -8,6 +8,7 @@ use mathlib.Core.List.{List, [], _∷_}
 use native.Mathlib.Omega.{arith}
 use native.Mathlib.Nat.{mul-le-mul-left}
 use borrow.Author.Tests.{eq-eqb, eqb-true}
+use lib.Count.{trailingZeros}
 use lib.Dec.{eqb, eqb·suc-zero}
 use lib.IntN.{ℤ}
 use lib.ListN.{length, getD, set}
@@ -28,7 +29,7 @@ use Rattle.csg.proofs.Marks.{intersection-colours}
 use Rattle.csg.proofs.Nested.{low-nested, high-nested}
 use Rattle.convert.specs.Codes.{bitsOf}
 use Rattle.convert.specs.Blocks.{Standing, blockLeft, halvedSides, highLows}
-use Rattle.convert.proofs.Blocks.{axis-is, axis-few, lower-is, upper-is}
+use Rattle.convert.proofs.Blocks.{axis-is, axis-few, half-is, lower-is, upper-is}
 use Rattle.convert.specs.Shapes.{shaped, symbolOfBits, isOne, endLimit}
 use Rattle.convert.proofs.Shapes.{shaped-leaf, shaped-size, shaped-one, shaped-apart}
 use Rattle.bintree.proofs.Shape.{size-positive}
@@ -36,12 +37,14 @@ use Rattle.bintree.proofs.Lays.{leaf-laid, apart-laid}
 use Rattle.lemmas.proofs.Stores.{restored}
 use Rattle.pruned.specs.Left.{Left, settled, asMark, unionLeft, intersectionLeft, leftBy, left, allMark, allColour, kept, allLeft, allNodes}
 use Rattle.pruned.specs.Looked.{examineAll, lookedFrom}
-use Rattle.pruned.specs.Nodes.{allPostfix, Holds, SameBelow, OneOrTwo, Stepping, judgedMarks, blockOf, marksOf, allMarkBy, allLeftBy, Pruning, Pruned}
+use Rattle.pruned.specs.Nodes.{allPostfix, Holds, SameBelow, OneOrTwo, doubled, Stepping, judgedMarks, blockOf, marksOf, allMarkBy, allLeftBy, Pruning}
+use Rattle.pruned.specs.Nodes.{Pruned}
 use Rattle.pruned.specs.Laying.{packedShape, joinedPacked, joinedOut, lowerPart, upperPart, halvesShape, lookedInHalves, BlockJob, BlockLaid, HalvesJob}
 use Rattle.pruned.specs.Laying.{HalvesLaid}
 use Rattle.pruned.proofs.Left.{mark-is}
 use Rattle.pruned.proofs.Looked.{all-nodes-fewer, looked-least, all-decided, all-undecided, looked-decided, looked-undecided, examine-left}
 use Rattle.pruned.proofs.Memory.{holds-same}
+use Rattle.pruned.proofs.Doublings.{doubled-is}
 use Rattle.pruned.proofs.Steps.{stepping, step-low, step-high}
 use Rattle.pruned.proofs.Reading.{length-all, few-left, fewer-nodes}
 
@@ -415,11 +418,18 @@ module _ {surfaces : Surfaces} {axes : ℕ} {table low side : List ℕ} {left : 
   last : eqb (left - 1) 0 ≡ true → left - 1 ≡ 0
   last e = eqb-true (left - 1) 0 e
 
-  step₁ : Stepping surfaces axes low (halvedSides side axis) axis half false (eqb (left - 1) 0)
-  step₁ = step-low (job .scene) (job .axes-are) standing′ at-level last
+  -- the half's length is a power of two
+  length-is : {times : ℕ} → times ≡ trailingZeros 64 half → doubled times ≡ half
+  length-is told =
+      doubled-is u (levels u - (left - 1)) axis (half-is u (job .scene .accepted-universe) (left - 1) low side standing′ axis at-level)
+      (omega (arith, job .standing .inside axis .most)) told
 
-  step₂ : Stepping surfaces axes (highLows low side axis) (halvedSides side axis) axis half true (eqb (left - 1) 0)
-  step₂ = step-high (job .scene) (job .axes-are) standing′ at-level last
+  step₁ : {times : ℕ} → times ≡ trailingZeros 64 half → Stepping surfaces axes low (halvedSides side axis) axis (doubled times) false (eqb (left - 1) 0)
+  step₁ told = step-low (job .scene) (job .axes-are) standing′ at-level last (length-is told)
+
+  step₂ : {times : ℕ} → times ≡ trailingZeros 64 half →
+      Stepping surfaces axes (highLows low side axis) (halvedSides side axis) axis (doubled times) true (eqb (left - 1) 0)
+  step₂ told = step-high (job .scene) (job .axes-are) standing′ at-level last (length-is told)
 
   lower-block : blockLeft u (left - 1) low ≡ Block·low P
   lower-block = sym (lower-is u (job .scene .accepted-universe) (left - 1) low side standing′ axis at-level) ∙ ap Block·low (sym same-block)
@@ -442,11 +452,12 @@ module _ {surfaces : Surfaces} {axes : ℕ} {table low side : List ℕ} {left : 
   inside-same : 3 * (from + count) ≤ length work
   inside-same = omega (arith, room-same)
 
-  pub lower-job : BlockJob surfaces axes table low (set side axis half) axis half false (left - 1) work from count (from + count) looked (at + 1)
+  pub lower-job : {times : ℕ} → times ≡ trailingZeros 64 half →
+      BlockJob surfaces axes table low (set side axis half) axis (doubled times) false (left - 1) work from count (from + count) looked (at + 1)
   unfolding step₁ step-low stepping
-  lower-job =
+  lower-job told =
       record {
-        step = step₁;
+        step = step₁ told;
         scene = job .scene;
         left-is = refl;
         table-is = job .table-is;
@@ -464,8 +475,8 @@ module _ {surfaces : Surfaces} {axes : ℕ} {table low side : List ℕ} {left : 
       }
 
   -- the low half is laid
-  module _ (m : Bool) (out : List ℕ) {packed₁ : ℕ} {out₁ looked₁ low₁ side₁ : List ℕ} {work₁ : List ℤ}
-      (laid₁ : BlockLaid lower-job m out packed₁ out₁ looked₁ low₁ side₁ work₁) where
+  module _ (m : Bool) (out : List ℕ) {times : ℕ} (told : times ≡ trailingZeros 64 half) {packed₁ : ℕ} {out₁ looked₁ low₁ side₁ : List ℕ} {work₁ : List ℤ}
+      (laid₁ : BlockLaid (lower-job told) m out packed₁ out₁ looked₁ low₁ side₁ work₁) where
     abbrev lowest : Shape
     lowest = examineAll surfaces (job .trees) (left - 1) (blockLeft u (left - 1) low)
 
@@ -507,13 +518,14 @@ module _ {surfaces : Surfaces} {axes : ℕ} {table low side : List ℕ} {left : 
     low-is = ap (λ (l : List ℕ). set l axis (getD low axis 0 + half)) (laid₁ .lows)
 
     abbrev UpperJob : List ℕ → List ℕ → Type 0
-    UpperJob lows sides = BlockJob surfaces axes table lows sides axis half true (left - 1) work₁ from count (from + count) looked₁ (packed₁ / 256)
+    UpperJob lows sides =
+        BlockJob surfaces axes table lows sides axis (doubled times) true (left - 1) work₁ from count (from + count) looked₁ (packed₁ / 256)
 
     upper-exact : UpperJob (highLows low side axis) (halvedSides side axis)
     unfolding step₂ step-high stepping
     upper-exact =
         record {
-          step = step₂;
+          step = step₂ told;
           scene = job .scene;
           left-is = refl;
           table-is = job .table-is;

@@ -246,6 +246,19 @@ module _ {surfaces : Surfaces} {axes : ℕ} {low side : List ℕ} {axis half : �
               extreme-near (moved-small .1) .same ∙ w-is ∙ ap (greatestOf surfaces b) (sym (found .4)),
             )
 
+        -- the same by one call that judges, and leaves the values as they are
+        pub side-told : {judged : ℕ} {v′ w′ : ℤ} {turned : Bool} → turned ≡ eqb (code % 2) 1 → judged ≡ turnedCode turned (valueCode centre (held v) (held w)) →
+            (v′ ≡ held v) × (w′ ≡ held w) → Told judged v′ w′
+        side-told q r s = let t = row-told refl q r in (t .0, s .0 ∙ t .1, s .1 ∙ t .2)
+
+      -- the values where none moves
+      pub stays : ((a : ℤ) (z : ℤ) → (z ≡ movedLeast high a half z) × (z ≡ movedGreatest high a half z)) →
+          (x ≡ movedLeast high (held coefficient) half (held x)) × (y ≡ movedGreatest high (held coefficient) half (held y))
+      stays f = (
+        sym (extreme-near (values-small .0) .same) ∙ f (held coefficient) (held x) .0,
+        sym (extreme-near (values-small .1) .same) ∙ f (held coefficient) (held y) .1,
+      )
+
     -- a ball
     module _ (from : firstBallSide ≤ code) where
       ball-found : (turned : Bool) × (i : ℕ) × (i < ballCount (surfaces .balls)) × (t ≡ Plain.side turned (ball i)) × (n ≡ ofSide turned (ball i))

@@ -2,6 +2,7 @@
 pub mod BallCodes
 pub mod Left
 pub mod Looked
+pub mod Doublings
 pub mod Moving
 pub mod Leaves
 pub mod Memory
@@ -19,3 +20,4 @@ pub mod Turning
 pub mod Loads
 pub mod Writing
 pub mod Conversions
+pub mod Answers

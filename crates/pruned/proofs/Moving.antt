@@ -1,6 +1,6 @@
--- What the machine computes of a halfspace's least and greatest value over a half. The amount, a coefficient times half a length, is small; where it is not
--- negative it is what rises and nothing falls, else the other way round.
-use Prim.Native.Nat.{ℕ, _+_, _*_, _≤_, _<_}
+-- What the machine computes of a halfspace's least and greatest value over a half. The amount, a coefficient times half a length, is small, as a product or
+-- shifted; where it is not negative it is what rises and nothing falls, else the other way round.
+use Prim.Native.Nat.{ℕ, _+_, _*_, _^_, _≤_, _<_}
 use mathlib.Core.Path.{_≡_, refl, sym, ap, _∙_}
 use mathlib.Core.Bool.{Bool, true, false}
 use native.Mathlib.Omega.{arith}
@@ -16,7 +16,8 @@ use Rattle.csg.proofs.Extremes.{above-is, below-is}
 use Rattle.convert.specs.Codes.{testedCode}
 use Rattle.convert.specs.Small.{SmallCoefficient, SmallPlace}
 use Rattle.pruned.specs.Nodes.{rises, falls, movedLeast, movedGreatest, extremeLimit, SmallExtreme, amountLimit, SmallAmount, MovedBy}
-use Rattle.pruned.specs.Nodes.{valueCode}
+use Rattle.pruned.specs.Nodes.{doubled, valueCode}
+use Rattle.pruned.proofs.Doublings.{doubled-none, doubled-few}
 
 -- what the machine reads of a number that it holds
 abbrev pub held : ℤ → ℤ
@@ -60,6 +61,21 @@ plus-nothing x = is-eq (is-add (is-self x) (is-nat 0)) (is-self x) (omega arith)
 pub less-nothing : (x : ℤ) → x -ℤ pos 0 ≡ x
 less-nothing x = is-eq (is-sub (is-self x) (is-nat 0)) (is-self x) (omega arith)
 
+-- a length of 0 moves nothing
+pub rises-none : (a : ℤ) → rises a 0 ≡ pos 0
+rises-none a = is-eq (rise-is a 0) (is-nat 0) (omega arith)
+
+pub falls-none : (a : ℤ) → falls a 0 ≡ pos 0
+falls-none a = is-eq (fall-is a 0) (is-nat 0) (omega arith)
+
+least-none : (high : Bool) (a x : ℤ) → x ≡ movedLeast high a 0 x
+least-none true a x = sym (plus-nothing x) ∙ ap (λ (z : ℤ). x +ℤ z) (sym (rises-none a))
+least-none false a x = sym (less-nothing x) ∙ ap (λ (z : ℤ). x -ℤ z) (sym (falls-none a))
+
+greatest-none : (high : Bool) (a x : ℤ) → x ≡ movedGreatest high a 0 x
+greatest-none true a x = sym (plus-nothing x) ∙ ap (λ (z : ℤ). x +ℤ z) (sym (falls-none a))
+greatest-none false a x = sym (less-nothing x) ∙ ap (λ (z : ℤ). x -ℤ z) (sym (rises-none a))
+
 -- ---- as the machine computes it: the amount, and the values moved by it
 module _ {a : ℤ} {half : ℕ} (sa : SmallCoefficient a) (sh : SmallPlace half) where
   amount-near : Near (held a *ℤ toZ w64 half) (a *ℤ pos half) amountLimit
@@ -74,15 +90,51 @@ module _ {a : ℤ} {half : ℕ} (sa : SmallCoefficient a) (sh : SmallPlace half)
   pub amount-small : SmallAmount (a *ℤ pos half)
   amount-small = record { most = amount-near .size }
 
+  module _ {m : ℤ} (m-is : m ≡ a *ℤ pos half) {x y : ℤ} (sx : SmallExtreme x) (sy : SmallExtreme y) where
+    pub by-asks : SmallAmount m × (SmallExtreme (held x) × SmallExtreme (held y))
+    by-asks = rw (m-is, extreme-near sx .same, extreme-near sy .same) (amount-small, (sx, sy))
+
+    pub by-is : {high : Bool} {v w : ℤ} → MovedBy m high (held x) (held y) v w → (v ≡ movedLeast high a half x) × (w ≡ movedGreatest high a half y)
+    by-is {high = high} e =
+        let o = e .over a half m-is in
+        (o .0 ∙ ap (movedLeast high a half) (extreme-near sx .same), o .1 ∙ ap (movedGreatest high a half) (extreme-near sy .same))
+
+  -- as a product
   module _ {x y : ℤ} (sx : SmallExtreme x) (sy : SmallExtreme y) where
     pub amount-asks : SmallAmount (held (held a *ℤ toZ w64 half)) × (SmallExtreme (held x) × SmallExtreme (held y))
-    amount-asks = rw (amount-held, extreme-near sx .same, extreme-near sy .same) (amount-small, (sx, sy))
+    amount-asks = by-asks amount-held sx sy
 
     pub moved-is : {high : Bool} {v w : ℤ} → MovedBy (held (held a *ℤ toZ w64 half)) high (held x) (held y) v w →
         (v ≡ movedLeast high a half x) × (w ≡ movedGreatest high a half y)
-    moved-is {high = high} e =
-        let o = e .over a half amount-held in
-        (o .0 ∙ ap (movedLeast high a half) (extreme-near sx .same), o .1 ∙ ap (movedGreatest high a half) (extreme-near sy .same))
+    moved-is e = by-is amount-held sx sy e
+
+-- shifted
+module _ {a : ℤ} {times : ℕ} (sa : SmallCoefficient a) (sh : SmallPlace (doubled times)) (few : times < 64) where
+  length-is : doubled times ≡ 2 ^ times
+  length-is = doubled-few few
+
+  pub shift-asks : SmallCoefficient (held a) × ((times < 64) × SmallPlace (2 ^ times))
+  shift-asks = (rw (near (record { most = sa .most }) tt .same) sa, (few, rw length-is at sh))
+
+  module _ {m : ℤ} (told : m ≡ held a *ℤ pos (2 ^ times)) where
+    m-is : m ≡ a *ℤ pos (doubled times)
+    m-is = rw length-is (told ∙ ap (λ (z : ℤ). z *ℤ pos (2 ^ times)) (near {x = a} (record { most = sa .most }) tt .same))
+
+    m-held : held m ≡ a *ℤ pos (doubled times)
+    m-held = ap held m-is ∙ near (record { most = amount-small sa sh .most }) tt .same
+
+    module _ {x y : ℤ} (sx : SmallExtreme x) (sy : SmallExtreme y) where
+      pub shift-moves : SmallAmount (held m) × (SmallExtreme (held x) × SmallExtreme (held y))
+      shift-moves = by-asks sa sh m-held sx sy
+
+      pub shift-moved : {high : Bool} {v w : ℤ} → MovedBy (held m) high (held x) (held y) v w →
+          (v ≡ movedLeast high a (doubled times) x) × (w ≡ movedGreatest high a (doubled times) y)
+      shift-moved e = by-is sa sh m-held sx sy e
+
+-- where there is no half
+pub unmoved : (a : ℤ) {times : ℕ} (high : Bool) (x y : ℤ) → 64 ≤ times →
+    (x ≡ movedLeast high a (doubled times) x) × (y ≡ movedGreatest high a (doubled times) y)
+unmoved a {times} high x y h = rw (doubled-none h) (least-none high a x, greatest-none high a y)
 
 module _ {m x y : ℤ} (sm : SmallAmount m) (sx : SmallExtreme x) (sy : SmallExtreme y) where
   by-near : Near (held m) m amountLimit

@@ -34,7 +34,7 @@ use Rattle.convert.proofs.Judging.{small-rows, small-balls}
 use Rattle.convert.proofs.Blocks.{axis-is, axis-few, lower-standing, upper-standing, lower-is, upper-is}
 use Rattle.pruned.specs.Nodes.{extremeLimit, rises, falls, SmallExtreme, movedLeast, movedGreatest, Stepping}
 use Rattle.pruned.specs.Laying.{SoundScene}
-use Rattle.pruned.proofs.Moving.{less-nothing}
+use Rattle.pruned.proofs.Moving.{less-nothing, rises-none, falls-none}
 
 -- ---- values over a block are small
 pub weighted-few : (h : Halfspace) (n : ℕ) (x y : ℕ → ℕ) → n ≤ mostAxes → SmallHalfspace h →
@@ -109,13 +109,6 @@ module _ (u : Universe) (balls : List ℤ) (e : ballsRefusal u balls ≡ 0) wher
       let c : Bool = every (ballCount balls) (λ i. ballWithin u (ballAt balls i)) in
       leb-true _ _ (and-right a b (and-left (a && b) c (unless-holds (a && b && c) badRows (omega arith) e)))
 
--- ---- a length of 0 moves nothing
-pub rises-none : (a : ℤ) → rises a 0 ≡ pos 0
-rises-none a = is-eq (is-mul (above-is a) 0) (is-nat 0) (omega arith)
-
-pub falls-none : (a : ℤ) → falls a 0 ≡ pos 0
-falls-none a = is-eq (is-mul (below-is a) 0) (is-nat 0) (omega arith)
-
 -- ---- the steps
 module _ {u : Universe} {surfaces : Surfaces} (scene : SoundScene u surfaces) where
   pub ok : Accepted u
@@ -152,7 +145,7 @@ module _ {u : Universe} {surfaces : Surfaces} (scene : SoundScene u surfaces) wh
         last = last;
       }
 
-  -- to the halves of a block
+  -- to the halves of a block, whose length along the axis is half the side
   module _ {axes : ℕ} {lows side : List ℕ} {n axis : ℕ} (e : axes ≡ u .axes) (s : Standing u (suc n) lows side)
       (at-level : axis ≡ axisAt u (levels u - suc n)) {centre : Bool} (last : centre ≡ true → n ≡ 0) where
     abbrev P : Block
@@ -172,23 +165,24 @@ module _ {u : Universe} {surfaces : Surfaces} (scene : SoundScene u surfaces) wh
     pub half-short : halfSide side axis ≤ longestSide
     half-short = omega (arith, s .inside axis .most)
 
-    unfoldable pub step-low : Stepping surfaces axes lows (halvedSides side axis) axis (halfSide side axis) false centre
-    step-low =
+    unfoldable pub step-low : {half : ℕ} → half ≡ halfSide side axis → Stepping surfaces axes lows (halvedSides side axis) axis half false centre
+    step-low told =
         stepping e (lower-standing u (scene .accepted-universe) n lows side s axis at-level) s (axis-few u
         (scene .accepted-universe) n lows side s axis at-level)
-        half-short
-        (λ h. rw (← lower-is u (scene .accepted-universe) n lows side s axis at-level, half-is, at-level) (least-low h P inner, greatest-low h P inner))
+        (omega (arith, told, half-short))
+        (λ h. rw (← lower-is u (scene .accepted-universe) n lows side s axis at-level, told, half-is, at-level) (least-low h P inner, greatest-low h P inner))
         last
 
     pub wide : axisOf P < length lows
     wide = rw (← at-level) (omega (arith, s .low-places, axis-few u (scene .accepted-universe) n lows side s axis at-level))
 
-    unfoldable pub step-high : Stepping surfaces axes (highLows lows side axis) (halvedSides side axis) axis (halfSide side axis) true centre
-    step-high =
+    unfoldable pub step-high : {half : ℕ} → half ≡ halfSide side axis →
+        Stepping surfaces axes (highLows lows side axis) (halvedSides side axis) axis half true centre
+    step-high told =
         stepping e (upper-standing u (scene .accepted-universe) n lows side s axis at-level) s (axis-few u
         (scene .accepted-universe) n lows side s axis at-level)
-        half-short
-        (λ h. rw (← upper-is u (scene .accepted-universe) n lows side s axis at-level, half-is, at-level)
+        (omega (arith, told, half-short))
+        (λ h. rw (← upper-is u (scene .accepted-universe) n lows side s axis at-level, told, half-is, at-level)
         (least-high h P inner wide, greatest-high h P inner wide))
         last
 

@@ -42,15 +42,9 @@ module _ {a : ℤ} {side : ℕ} {x y : ℤ} (sa : SmallCoefficient a) (ss : Smal
   risen : natAbs (y +ℤ rises a side) ≤ extremeLimit + coefficientLimit * longestSide
   risen = omega (arith, size-add y (rises a side), is-size (rise-is a side), share .0, sy .most)
 
-  pub widened-is : {v w : ℤ} → v ≡ movedLeast true (held a) side (held y) → w ≡ movedGreatest true (held a) side (held x) →
+  pub widened-is : {v w : ℤ} → v ≡ movedLeast true a side y → w ≡ movedGreatest true a side x →
       _≡_ {A = Extremes} (record { least = held w; greatest = held v }) (widened (record { least = x; greatest = y }) a side)
-  widened-is {v} {w} p q =
-      let ha : held a ≡ a = near (record { most = sa .most }) tt .same in
-      let f : w ≡ x +ℤ falls a side = q ∙ rw (ha, extreme-near sx .same) in
-      let g : v ≡ y +ℤ rises a side = p ∙ rw (ha, extreme-near sy .same) in
-      extremes-eq
-      (ap held f ∙ near (record { most = fallen }) tt .same)
-      (ap held g ∙ near (record { most = risen }) tt .same)
+  widened-is p q = extremes-eq (ap held q ∙ near (record { most = fallen }) tt .same) (ap held p ∙ near (record { most = risen }) tt .same)
 
 -- ---- all axes
 module _ {axes : ℕ} {rows : List ℤ} {i : ℕ} {side : List ℕ} (ready : WholeReady axes rows i side) where

@@ -1,5 +1,5 @@
 -- The whole universe written: the full trees are pruned over it in place, and what that leaves is one symbol, or both halves, which are written once or, where
--- the room lent may not suffice, measured first. The nodes of what is left stand while the halves are written, so that they can be written again.
+-- the room lent may not suffice, into scratch room that is as long, or measured first: the nodes of what is left stand while the halves are measured.
 use Prim.Native.Nat.{ℕ, zero, suc, _+_, _*_, _-_, _/_, _%_, _^_, _≤_, _<_}
 use native.Mathlib.Omega.{arith}
 use native.Mathlib.Nat.{le-trans, mul-le-mul}
@@ -10,10 +10,10 @@ use mathlib.Core.List.{List, [], _∷_}
 use borrow.Author.Tests.{eqb-true}
 use lib.Dec.{eqb}
 use lib.IntN.{ℤ}
-use lib.ListN.{length, getD, set, replicate}
-use lib.Seq.{sets}
+use lib.ListN.{length, getD, set, replicate, take}
+use lib.Seq.{sets, length-sets}
 use lib.Pow.{pow-mono}
-use Rattle.lemmas.proofs.Stores.{sets-first}
+use Rattle.lemmas.proofs.Stores.{sets-first, sets-front}
 use Rattle.universe.specs.declared.Universe.{Universe}
 use Rattle.universe.specs.declared.Block.{Block}
 use Rattle.universe.specs.Universe.{mostAxes, mostLevels, levels}
@@ -108,17 +108,25 @@ module _ {surfaces : Surfaces} {axes : ℕ} {table low side : List ℕ} {left : 
   open-once h w a =
       ended-done (w .long-is) (omega (arith, job .suffices m, w .long-is)) (w .room) (ap (λ (l : List ℕ). getD l 0 0) (w .counted)) a
 
-  -- measured first
-  module _ {none none′ looked′ low′ side′ : List ℕ} {k : ℕ} {work′ : List ℤ} (w : HalvesWritten (job .halves) m none k none′ looked′ low′ side′ work′) where
-    pub open-short : length out < k → {r : Conversion} → r ≡ shortOfSymbols k → Ended out written′ total r out
-    open-short h a = ended-short (w .long-is) h a
+-- written into scratch room first, or measured with none
+module _ {surfaces : Surfaces} {axes : ℕ} {table low side : List ℕ} {left : ℕ} {work : List ℤ} {count before : ℕ}
+    (job : HalvesJob surfaces axes table low side left work 0 count (before ∷ []) 0) (m : Bool) (out : List ℕ) where
+  abbrev laidOut : List ℕ
+  laidOut = symbols (halvesOf m job)
+
+  abbrev inAll : ℕ
+  inAll = before + lookedIn job
+
+  module _ {scratch scratch′ looked′ low′ side′ : List ℕ} {k : ℕ} {work′ : List ℤ} (w : HalvesWritten job m scratch k scratch′ looked′ low′ side′ work′) where
+    pub through-short : length out < k → {r : Conversion} → r ≡ shortOfSymbols k → Ended out laidOut inAll r out
+    through-short h a = ended-short (w .long-is) h a
 
     abbrev Again : List ℕ → List ℕ → Type 0
     Again lows sides = HalvesJob surfaces axes table lows sides left work′ 0 count (before ∷ []) 0
 
     again-exact : Again low side
     again-exact =
-        let h = job .halves in
+        let h = job in
         record {
           universe = h .universe;
           scene = h .scene;
@@ -137,16 +145,29 @@ module _ {surfaces : Surfaces} {axes : ℕ} {table low side : List ℕ} {left : 
           counts = h .counts;
         }
 
-    pub open-again : Again low′ side′
-    open-again = rw (w .lows, w .sides) again-exact
+    pub through-again : Again low′ side′
+    through-again = rw (w .lows, w .sides) again-exact
 
-    pub open-twice : k ≤ length out → {k₂ : ℕ} {out′ looked₂ low₂ side₂ : List ℕ} {work₂ : List ℤ} →
+    pub through-twice : k ≤ length out → {k₂ : ℕ} {out′ looked₂ low₂ side₂ : List ℕ} {work₂ : List ℤ} →
         ((j : Again low′ side′) → HalvesWritten j m out k₂ out′ looked₂ low₂ side₂ work₂) → {r : Conversion} → r ≡ doneConversion k (getD looked′ 0 0) →
-        Ended out written′ total r out′
+        Ended out laidOut inAll r out′
     unfolding again-exact
-    open-twice h {k₂} {out′} {looked₂} {low₂} {side₂} {work₂} f a =
+    through-twice h {k₂} {out′} {looked₂} {low₂} {side₂} {work₂} f a =
         let g : (j : Again low side) → HalvesWritten j m out k₂ out′ looked₂ low₂ side₂ work₂ = rw (w .lows, w .sides) at f in
         ended-done (w .long-is) h (g again-exact .room) (ap (λ (l : List ℕ). getD l 0 0) (w .counted)) a
+
+    -- the scratch room is no shorter than the room lent, so it holds whatever fits there
+    module _ (f : k ≤ length out) (g : length out ≤ length scratch) where
+      pub through-within : k ≤ length scratch′
+      through-within = omega (arith, f, g, ap length (w .room), length-sets scratch 0 laidOut)
+
+      pub through-copied : {out′ : List ℕ} → out′ ≡ sets out 0 (take k scratch′) → {r : Conversion} → r ≡ doneConversion k (getD looked′ 0 0) →
+          Ended out laidOut inAll r out′
+      through-copied p a =
+          let same : take k scratch′ ≡ laidOut =
+          ap (λ (j : ℕ). take j scratch′) (w .long-is) ∙ ap (take (length laidOut)) (w .room)
+          ∙ sets-front laidOut scratch (omega (arith, f, g, w .long-is)) in
+          ended-done (w .long-is) f (p ∙ ap (sets out 0) same) (ap (λ (l : List ℕ). getD l 0 0) (w .counted)) a
 
 -- ---- the whole universe
 module _ {u : Universe} {surfaces : Surfaces} {side : List ℕ} {work : List ℤ} {count : ℕ} {starts : List ℕ} {room : ℕ}

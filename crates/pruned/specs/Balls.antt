@@ -1,5 +1,5 @@
--- Numbers so small that no difference of a ball's centre and a place, and no square of one, overflows: the limits of rules
--- 1.1 and 2.6.
+-- Numbers so small that no difference of a ball's centre and a place, and no square of one, overflows: the limits of
+-- rules 1.1 and 2.6.
 use Prim.Native.Nat.{ℕ, _+_, _*_, _≤_}
 use lib.IntN.{ℤ, natAbs}
 use Rattle.universe.specs.Universe.{longestSide, centreLimit}

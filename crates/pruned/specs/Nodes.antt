@@ -1,6 +1,6 @@
 -- How the trees of a run stand in the work room: nodes in postfix order, three numbers each, a code and the least and
 -- the greatest value over a block.
-use Prim.Native.Nat.{ℕ, suc, _+_, _*_, _/_, _%_, _≤_, _<_}
+use Prim.Native.Nat.{ℕ, suc, _+_, _*_, _/_, _%_, _^_, _≤_, _<_}
 use mathlib.Core.Path.{_≡_}
 use mathlib.Core.Bool.{Bool, true, false, cond, _&&_}
 use mathlib.Core.Logic.{_⊎_}
@@ -172,6 +172,14 @@ pub record SmallAmount (x : ℤ) : Type 0 where
 pub record MovedBy (amount : ℤ) (high : Bool) (least greatest x y : ℤ) : Type 0 where
   pub over : (a : ℤ) (half : ℕ) → amount ≡ a *ℤ pos half →
       (x ≡ movedLeast high a half least) × (y ≡ movedGreatest high a half greatest)
+
+-- 1 doubled so often, as a word of 64 digits holds it: from 64 times on it is 0
+abbrev pub doubled : ℕ → ℕ
+doubled times = 2 ^ times % 2 ^ 64
+
+-- the code below which sides of halfspaces move by such a length: all of them, or none
+abbrev pub movingBelow : ℕ → ℕ
+movingBelow times = cond (ltb times 64) firstBallSide (2 * firstHalfspace)
 
 -- a step from the block whose values are held to a block that is judged: one of its halves along an axis, half a length
 -- `half` further where `high`; with a half length of 0 the block itself

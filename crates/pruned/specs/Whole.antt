@@ -1,5 +1,5 @@
 -- How the whole universe is written from the nodes of the full trees: pruned over it in place, it is one symbol, or its
--- halves are laid, once where the room lent suffices by the formula, else first for their length.
+-- halves are laid, once where the room lent suffices by the formula, else into scratch room or first for their length.
 use Prim.Native.Nat.{ℕ, suc, _+_, _*_, _-_, _^_, _≤_, _<_}
 use mathlib.Core.Path.{_≡_}
 use mathlib.Core.Bool.{Bool}
@@ -54,6 +54,13 @@ pub record OpenJob (surfaces : Surfaces) (axes : ℕ) (table low side : List ℕ
     (work : List ℤ) (count before room : ℕ) : Type 0 where
   pub halves : HalvesJob surfaces axes table low side left work 0 count (before ∷ []) 0
   pub suffices : (merging : Bool) → length (symbols (halvesOf merging halves)) ≤ room
+
+-- the symbols that scratch room holds
+abbrev pub shortScratch : ℕ
+shortScratch = 512
+
+abbrev pub mostScratch : ℕ
+mostScratch = 4096
 
 pub record Ended (out written : List ℕ) (looked : ℕ) (r : Conversion) (out′ : List ℕ) : Type 0 where
   pub answer : r ≡ writtenConversion out written looked

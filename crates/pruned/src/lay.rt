@@ -1,4 +1,5 @@
 // The recursion over blocks, which lays the raw or the merged expression of what is carried.
+use crate::leaf::doublings;
 use crate::lone::is_lone;
 use crate::lone::lay_lone;
 use crate::marks::BLACK_BIT;
@@ -9,7 +10,7 @@ ghost use mathlib.Core.Path.{_≡_};
 ghost use Prim.Native.Nat.{_+_, _<_, _≤_};
 ghost use Rattle.csg.specs.Surfaces.{surfacesOf};
 ghost use Rattle.convert.specs.Shapes.{symbolOfBits, isOne, endLimit};
-ghost use Rattle.pruned.specs.Nodes.{Shelves};
+ghost use Rattle.pruned.specs.Nodes.{doubled, Shelves};
 ghost use Rattle.pruned.specs.Laying.{joinedPacked, joinedOut, BlockJob, BlockLaid, HalvesJob, HalvesLaid};
 
 // What the place past a shape is multiplied by where it is packed.
@@ -65,7 +66,7 @@ fn lay_block(
     side: &mut [u64; Universe::MOST_AXES as usize],
     axis: usize,
     high: bool,
-    half: u64,
+    times: u64,
     left: u64,
     merging: bool,
     work: &mut [i64],
@@ -78,7 +79,7 @@ fn lay_block(
     at: usize,
 ) -> usize
     requires { let surfaces = surfacesOf (now rows) (now balls) in
-        ⌜ BlockJob surfaces axes (now table) (now low) (now side) axis half high left (now work) from count
+        ⌜ BlockJob surfaces axes (now table) (now low) (now side) axis (doubled times) high left (now work) from count
         (from + count) (now looked) at ⌝ }
     requires { ⌜ Shelves (now starts) (now codes) ⌝ }
     ensures { λ r. let surfaces = surfacesOf (now (rows .entry)) (now (balls .entry)) in
@@ -86,8 +87,8 @@ fn lay_block(
         let side₀ = now (side .entry) in
         let work₀ = now (work .entry) in
         let looked₀ = now (looked .entry) in
-        ⌜ ((job : BlockJob surfaces axes (now (table .entry)) low₀ side₀ axis half high left work₀ from count
-        (from + count) looked₀ at)
+        ⌜ ((job : BlockJob surfaces axes (now (table .entry)) low₀ side₀ axis (doubled times) high left work₀ from
+        count (from + count) looked₀ at)
         → BlockLaid job merging (now (out .entry)) r (now (out .exit)) (now (looked .exit)) (now (low .exit))
         (now (side .exit)) (now (work .exit))) ⌝ }
     ensures { λ _. ⌜ Shelves (now (starts .exit)) (now (codes .exit)) ⌝ }
@@ -101,7 +102,7 @@ fn lay_block(
         side,
         axis,
         high,
-        half,
+        times,
         left == 0,
         work,
         from,
@@ -187,6 +188,7 @@ pub(crate) fn lay_halves(
     let near = low[axis];
     let whole = side[axis];
     let half = whole / 2;
+    let times = doublings(half);
     side[axis] = half;
     let below = lay_block(
         axes,
@@ -197,7 +199,7 @@ pub(crate) fn lay_halves(
         side,
         axis,
         false,
-        half,
+        times,
         left - 1,
         merging,
         work,
@@ -220,7 +222,7 @@ pub(crate) fn lay_halves(
         side,
         axis,
         true,
-        half,
+        times,
         left - 1,
         merging,
         work,

@@ -7,8 +7,10 @@ use crate::marks::tested_code;
 use crate::marks::turned_code;
 use universe::Universe;
 ghost use mathlib.Core.Path.{_≡_};
-ghost use Prim.Native.Nat.{_%_};
+ghost use Prim.Native.Nat.{_%_, _^_, _<_};
+ghost use lib.Count.{trailingZeros};
 ghost use lib.Dec.{eqb};
+ghost use lib.IntN.{pos, _*ℤ_};
 ghost use Rattle.csg.specs.Halfspace.{rowAt};
 ghost use Rattle.pruned.specs.Loading.{widened, wholeExtremes, WholeReady};
 ghost use Rattle.csg.specs.Surfaces.{surfacesOf};
@@ -17,9 +19,12 @@ ghost use Rattle.pruned.specs.Nodes.{
   SmallExtreme,
   SmallAmount,
   MovedBy,
+  doubled,
+  movingBelow,
   movedLeast,
   movedGreatest,
   valueCode,
+  turnedCode,
   LeafJob,
   LeafJudged,
 };
@@ -62,16 +67,37 @@ pub(crate) fn moved_by(amount: i64, high: bool, least: i64, greatest: i64) -> Ex
     }
 }
 
-// The same by the coefficient and half the length.
-fn moved(coefficient: i64, half: u64, high: bool, least: i64, greatest: i64) -> Extremes
+// From so many doublings on nothing is left of 1: the length of no half, as the whole universe's is.
+pub(crate) const NO_HALF: u64 = 64;
+
+// How often 1 is doubled to a length that is a power of two.
+pub(crate) fn doublings(length: u64) -> u64
+    ensures { λ r. ⌜ r ≡ trailingZeros 64 length ⌝ }
+{
+    u64::trailing_zeros(length) as u64
+}
+
+// The amount of a coefficient and a length to which 1 is doubled so often: the coefficient, doubled so often.
+pub(crate) fn amount(coefficient: i64, times: u64) -> i64
     requires { ⌜ SmallCoefficient coefficient ⌝ }
-    requires { ⌜ SmallPlace half ⌝ }
+    requires { ⌜ times < 64 ⌝ }
+    requires { ⌜ SmallPlace (2 ^ times) ⌝ }
+    ensures { λ r. ⌜ r ≡ coefficient *ℤ pos (2 ^ times) ⌝ }
+{
+    coefficient << times
+}
+
+// The same by the coefficient and half the length, to which 1 is doubled so often.
+fn moved(coefficient: i64, times: u64, high: bool, least: i64, greatest: i64) -> Extremes
+    requires { ⌜ SmallCoefficient coefficient ⌝ }
+    requires { ⌜ times < 64 ⌝ }
+    requires { ⌜ SmallPlace (doubled times) ⌝ }
     requires { ⌜ SmallExtreme least ⌝ }
     requires { ⌜ SmallExtreme greatest ⌝ }
-    ensures { λ r. ⌜ r .least ≡ movedLeast high coefficient half least ⌝ }
-    ensures { λ r. ⌜ r .greatest ≡ movedGreatest high coefficient half greatest ⌝ }
+    ensures { λ r. ⌜ r .least ≡ movedLeast high coefficient (doubled times) least ⌝ }
+    ensures { λ r. ⌜ r .greatest ≡ movedGreatest high coefficient (doubled times) greatest ⌝ }
 {
-    moved_by(coefficient * (half as i64), high, least, greatest)
+    moved_by(amount(coefficient, times), high, least, greatest)
 }
 
 // The code of a halfspace with these values, over a block or at the centre of the voxel that it is.
@@ -105,6 +131,32 @@ pub(crate) fn is_turned(code: u64) -> bool
     code % 2 == 1
 }
 
+// The code below which sides of halfspaces move to a half with this length; to no half none does.
+fn moving_below(times: u64) -> u64
+    ensures { λ r. ⌜ r ≡ movingBelow times ⌝ }
+{
+    if times < NO_HALF {
+        return FIRST_BALL_SIDE;
+    }
+    FIRST_SIDE
+}
+
+// A halfspace's side with these values over the block, judged.
+fn judge_side(turned: bool, centre: bool, least: i64, greatest: i64) -> Judged
+    requires { ⌜ SmallExtreme least ⌝ }
+    requires { ⌜ SmallExtreme greatest ⌝ }
+    ensures { λ r. ⌜ r .code ≡ turnedCode turned (valueCode centre least greatest) ⌝ }
+    ensures { λ r. ⌜ (r .least ≡ least) × (r .greatest ≡ greatest) ⌝ }
+{
+    let bits = extremes_code(centre, least, greatest);
+    let judged = turned_code(turned, bits);
+    Judged {
+        code: judged,
+        least: least,
+        greatest: greatest,
+    }
+}
+
 // Judges the node of a leaf over a half of the block whose values it holds.
 pub(crate) fn judge_leaf(
     axes: usize,
@@ -113,7 +165,7 @@ pub(crate) fn judge_leaf(
     low: &[u64; Universe::MOST_AXES as usize],
     side: &[u64; Universe::MOST_AXES as usize],
     axis: usize,
-    half: u64,
+    times: u64,
     high: bool,
     centre: bool,
     code: u64,
@@ -121,10 +173,10 @@ pub(crate) fn judge_leaf(
     greatest: i64,
 ) -> Judged
     requires { let surfaces = surfacesOf (now rows) (now balls) in
-        ⌜ LeafJob surfaces axes (now low) (now side) axis half high centre code least greatest ⌝ }
+        ⌜ LeafJob surfaces axes (now low) (now side) axis (doubled times) high centre code least greatest ⌝ }
     ensures { λ r. let surfaces = surfacesOf (now (rows .entry)) (now (balls .entry)) in
         ⌜ ((job : LeafJob surfaces axes (now (low .entry)) (now
-        (side .entry)) axis half high centre code least greatest)
+        (side .entry)) axis (doubled times) high centre code least greatest)
         → LeafJudged job (r .code) (r .least) (r .greatest)) ⌝ }
 {
     if code < FIRST_SIDE {
@@ -136,17 +188,14 @@ pub(crate) fn judge_leaf(
         };
     }
     let turned = is_turned(code);
-    if code < FIRST_BALL_SIDE {
+    if code < moving_below(times) {
         let row = ((code - FIRST_SIDE) / 2) as usize;
         let coefficient = rows[csg::ROW_LENGTH * row + 1 + axis];
-        let values = moved(coefficient, half, high, least, greatest);
-        let bits = extremes_code(centre, values.least, values.greatest);
-        let judged = turned_code(turned, bits);
-        return Judged {
-            code: judged,
-            least: values.least,
-            greatest: values.greatest,
-        };
+        let values = moved(coefficient, times, high, least, greatest);
+        return judge_side(turned, centre, values.least, values.greatest);
+    }
+    if code < FIRST_BALL_SIDE {
+        return judge_side(turned, centre, least, greatest);
     }
     let ball = ((code - FIRST_BALL_SIDE) / 2) as usize;
     let bits = code_of_ball(axes, balls, ball, low, side, centre);
@@ -166,7 +215,12 @@ fn widened(values: Extremes, coefficient: i64, side: u64) -> Extremes
     requires { ⌜ SmallExtreme (values .greatest) ⌝ }
     ensures { λ r. ⌜ r ≡ widened values coefficient side ⌝ }
 {
-    let wider = moved(coefficient, side, true, values.greatest, values.least);
+    let wider = moved_by(
+        coefficient * (side as i64),
+        true,
+        values.greatest,
+        values.least,
+    );
     Extremes {
         least: wider.greatest,
         greatest: wider.least,

@@ -9,6 +9,7 @@ mod load;
 mod lone;
 mod marks;
 mod prune;
+mod scratch;
 mod whole;
 
 pub use answer::Conversion;
@@ -16,3 +17,4 @@ pub use conversion::merged_of_one;
 pub use conversion::merged_of_two;
 pub use conversion::raw_of_one;
 pub use conversion::raw_of_two;
+pub use scratch::MOST_SCRATCH;

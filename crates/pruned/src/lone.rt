@@ -5,6 +5,8 @@ use crate::lay::join;
 use crate::lay::symbol_of;
 use crate::leaf::FIRST_BALL_SIDE;
 use crate::leaf::FIRST_SIDE;
+use crate::leaf::amount;
+use crate::leaf::doublings;
 use crate::leaf::extremes_code;
 use crate::leaf::is_turned;
 use crate::leaf::moved_by;
@@ -75,7 +77,7 @@ fn set_steps(
         let axis = table[n as usize];
         let half = sides[axis] / 2;
         sides[axis] = half;
-        steps[n as usize] = rows[first + axis] * (half as i64);
+        steps[n as usize] = amount(rows[first + axis], doublings(half));
     }
 }
 

@@ -19,6 +19,7 @@ ghost use Rattle.pruned.specs.Nodes.{
   joinedCode,
   CodeAt,
   Storable,
+  doubled,
   wholeMark,
   Shelves,
   Pruning,
@@ -83,8 +84,9 @@ pub(crate) struct Kept {
 }
 
 // Reads the nodes work[from..from + count], which hold their values over a block, and writes what is left of their
-// trees over one of its halves from `to` on, with the values over that half; at level L the colour at its centre is
-// judged, and nothing is left. Every node is stored at the end, and the end moves only where the node is kept.
+// trees over one of its halves from `to` on, with the values over that half: 1 is doubled to its length along the axis
+// so often. At level L the colour at its centre is judged, and nothing is left. Every node is stored at the end, and
+// the end moves only where the node is kept.
 pub(crate) fn prune(
     axes: usize,
     rows: &[i64],
@@ -93,7 +95,7 @@ pub(crate) fn prune(
     side: &[u64; Universe::MOST_AXES as usize],
     axis: usize,
     high: bool,
-    half: u64,
+    times: u64,
     centre: bool,
     work: &mut [i64],
     from: usize,
@@ -103,12 +105,12 @@ pub(crate) fn prune(
     codes: &mut [u8; MOST_SHAPES],
 ) -> Kept
     requires { let surfaces = surfacesOf (now rows) (now balls) in
-        ⌜ Pruning surfaces axes (now low) (now side) axis half high centre (now work) from count to ⌝ }
+        ⌜ Pruning surfaces axes (now low) (now side) axis (doubled times) high centre (now work) from count to ⌝ }
     requires { ⌜ Shelves (now starts) (now codes) ⌝ }
     ensures { λ r. let surfaces = surfacesOf (now (rows .entry)) (now (balls .entry)) in
         let low = now (low .entry) in
         let side = now (side .entry) in
-        ⌜ ((job : Pruning surfaces axes low side axis half high centre (now (work .entry)) from count to)
+        ⌜ ((job : Pruning surfaces axes low side axis (doubled times) high centre (now (work .entry)) from count to)
         → Pruned job (now (work .exit)) (r .mark) (r .nodes)) ⌝ }
     ensures { λ _. ⌜ Shelves (now (starts .exit)) (now (codes .exit)) ⌝ }
 {
@@ -137,7 +139,7 @@ pub(crate) fn prune(
                 low,
                 side,
                 axis,
-                half,
+                times,
                 high,
                 centre,
                 code,

@@ -6,8 +6,10 @@ use crate::answer::short_of_symbols;
 use crate::lay::HELD_UNIT;
 use crate::lay::lay_halves;
 use crate::lay::symbol_of;
+use crate::leaf::NO_HALF;
 use crate::prune::MOST_SHAPES;
 use crate::prune::prune;
+use crate::scratch;
 use universe::Universe;
 ghost use mathlib.Core.Path.{_≡_};
 ghost use mathlib.Core.List.{[], _∷_};
@@ -28,7 +30,7 @@ ghost use Rattle.pruned.specs.Whole.{
 };
 
 // Writes both halves of an undecided block from the room's front on, as far as there is room: their length.
-fn write_halves(
+pub(crate) fn write_halves(
     axes: usize,
     rows: &[i64],
     balls: &[i64],
@@ -79,8 +81,8 @@ fn write_halves(
     packed / HELD_UNIT
 }
 
-// Writes both halves of the undecided universe: at once where as much room is lent as suffices, else once they are
-// known to fit. So many nodes were looked at before.
+// Writes both halves of the undecided universe: at once where as much room is lent as suffices, else by way of scratch
+// room where no more is lent than that holds, else once they are measured. So many nodes were looked at before.
 fn write_open(
     axes: usize,
     rows: &[i64],
@@ -109,8 +111,8 @@ fn write_open(
         → Ended (now (out .entry)) (symbols (halvesOf merging (job .halves))) (before + lookedIn (job .halves)) r
         (now (out .exit))) ⌝ }
 {
-    let mut looked = [before];
     if room <= out.len() as u64 {
+        let mut looked = [before];
         let length = write_halves(
             axes,
             rows,
@@ -129,28 +131,43 @@ fn write_open(
         );
         return done(length as u64, looked[0]);
     }
-    let mut none = [0u8; 0];
-    let length = write_halves(
-        axes,
-        rows,
-        balls,
-        table,
-        low,
-        side,
-        left,
-        merging,
-        work,
-        count,
-        starts,
-        codes,
-        &mut looked,
-        &mut none,
-    );
-    if out.len() < length {
-        return short_of_symbols(length as u64);
+    if out.len() <= scratch::SHORT_SCRATCH {
+        return scratch::short(
+            axes,
+            rows,
+            balls,
+            table,
+            low,
+            side,
+            left,
+            merging,
+            work,
+            count,
+            starts,
+            codes,
+            before,
+            out,
+        );
     }
-    let mut again = [before];
-    write_halves(
+    if out.len() <= scratch::MOST_SCRATCH {
+        return scratch::long(
+            axes,
+            rows,
+            balls,
+            table,
+            low,
+            side,
+            left,
+            merging,
+            work,
+            count,
+            starts,
+            codes,
+            before,
+            out,
+        );
+    }
+    scratch::measured(
         axes,
         rows,
         balls,
@@ -163,10 +180,9 @@ fn write_open(
         count,
         starts,
         codes,
-        &mut again,
+        before,
         out,
-    );
-    done(length as u64, looked[0])
+    )
 }
 
 // Writes the one symbol of a universe over which the trees are decided.
@@ -213,7 +229,7 @@ pub(crate) fn write_whole(
         side,
         0,
         false,
-        0,
+        NO_HALF,
         levels == 0,
         work,
         0,

@@ -7,6 +7,7 @@ pub mod OfReader
 pub mod OfReport
 pub mod OfConvert
 pub mod OfPruned
+pub mod OfLocal
 pub mod OfAtOnce
 pub mod OfSweep
 pub mod OfOctree

@@ -22,6 +22,3 @@ convert-merged-of-two w _ _ = ((tt, refl), λ _ _ _ _ _. two w (λ p q. (same (p
 
 pub convert-verdict-of-two : (w : World) → TellsApart w convert.verdict_of_two.ended convert.verdict_of_two.clauses
 convert-verdict-of-two w _ _ = ((tt, refl), λ _ _ _ _ _. two w (λ p q. (same (p .0) (q .0), λ i. behind 7 (same (p .1) (q .1) i, tt))))
-
-pub convert-contacts-of-two : (w : World) → TellsApart w convert.contacts_of_two.ended convert.contacts_of_two.clauses
-convert-contacts-of-two w _ _ = ((tt, refl), λ _ _ _ _ _. one w (λ p q. (same p q, refl)))

@@ -88,10 +88,12 @@ pub durbizhan-sweep : (w : World) → TellsApart w export.sweeps.durbizhan_sweep
 durbizhan-sweep w _ _ = ((tt, refl), λ _ _ _ _ _. three w (λ p q. (same (p .0) (q .0), λ i. behind 5 (same (p .2) (q .2) i, (same (p .1) (q .1) i, tt)))))
 
 pub durbizhan-octree-export : (w : World) → TellsApart w export.octrees.durbizhan_octree_export.ended export.octrees.durbizhan_octree_export.clauses
-durbizhan-octree-export w _ _ = ((tt, refl), λ _ _ _ _ _. three w (λ p q. (same (p .0) (q .0), λ i. behind 4 (same (p .2) (q .2) i, (same (p .1) (q .1) i, tt)))))
+durbizhan-octree-export w _ _ =
+    ((tt, refl), λ _ _ _ _ _. three w (λ p q. (same (p .0) (q .0), λ i. behind 4 (same (p .2) (q .2) i, (same (p .1) (q .1) i, tt)))))
 
 pub durbizhan-octree-import : (w : World) → TellsApart w export.octrees.durbizhan_octree_import.ended export.octrees.durbizhan_octree_import.clauses
-durbizhan-octree-import w _ _ = ((tt, refl), λ _ _ _ _ _. three w (λ p q. (same (p .0) (q .0), λ i. behind 4 (same (p .2) (q .2) i, (same (p .1) (q .1) i, tt)))))
+durbizhan-octree-import w _ _ =
+    ((tt, refl), λ _ _ _ _ _. three w (λ p q. (same (p .0) (q .0), λ i. behind 4 (same (p .2) (q .2) i, (same (p .1) (q .1) i, tt)))))
 
 pub durbizhan-box : (w : World) → TellsApart w export.proxies.durbizhan_box.ended export.proxies.durbizhan_box.clauses
 durbizhan-box w _ _ = ((tt, refl), λ _ _ _ _ _. two w (λ p q. (same (p .0) (q .0), λ i. behind 9 (same (p .1) (q .1) i, tt))))
@@ -101,7 +103,9 @@ durbizhan-cut w _ _ = ((tt, refl), λ _ _ _ _ _. two w (λ p q. (same (p .0) (q 
 
 pub durbizhan-pruned-raw-one : (w : World) →
     TellsApartBut w export.prunings.durbizhan_pruned_raw_one.ended
-    (λ lifetimes a x y. (x .1 .1 .1 .1 .1 .1 .1 ≡ y .1 .1 .1 .1 .1 .1 .1) × KeptBy (workOfOne (universeOf (a .0) (a .1 .0) (a .1 .1 .0)) (surfacesOf (now (a .1 .1 .1 .0)) (now (a .1 .1 .1 .1 .0))) (now (a .1 .1 .1 .1 .1 .0)) (now (a .1 .1 .1 .1 .1 .1 .0))) (x .1 .1 .1 .1 .1 .1 .0) (y .1 .1 .1 .1 .1 .1 .0))
+    (λ lifetimes a x y. (x .1 .1 .1 .1 .1 .1 .1 ≡ y .1 .1 .1 .1 .1 .1 .1)
+    × KeptBy (workOfOne (universeOf (a .0) (a .1 .0) (a .1 .1 .0)) (surfacesOf (now (a .1 .1 .1 .0)) (now (a .1 .1 .1 .1 .0)))
+    (now (a .1 .1 .1 .1 .1 .0)) (now (a .1 .1 .1 .1 .1 .1 .0))) (x .1 .1 .1 .1 .1 .1 .0) (y .1 .1 .1 .1 .1 .1 .0))
     export.prunings.durbizhan_pruned_raw_one.clauses
 durbizhan-pruned-raw-one w _ _ = (
   (tt, refl),
@@ -110,7 +114,9 @@ durbizhan-pruned-raw-one w _ _ = (
 
 pub durbizhan-pruned-raw-two : (w : World) →
     TellsApartBut w export.prunings.durbizhan_pruned_raw_two.ended
-    (λ lifetimes a x y. (x .1 .1 .1 .1 .1 .1 .1 .1 ≡ y .1 .1 .1 .1 .1 .1 .1 .1) × KeptBy (workOfTwo (universeOf (a .0) (a .1 .0) (a .1 .1 .0)) (surfacesOf (now (a .1 .1 .1 .0)) (now (a .1 .1 .1 .1 .0))) (now (a .1 .1 .1 .1 .1 .0)) (now (a .1 .1 .1 .1 .1 .1 .0)) (now (a .1 .1 .1 .1 .1 .1 .1 .0))) (x .1 .1 .1 .1 .1 .1 .1 .0) (y .1 .1 .1 .1 .1 .1 .1 .0))
+    (λ lifetimes a x y. (x .1 .1 .1 .1 .1 .1 .1 .1 ≡ y .1 .1 .1 .1 .1 .1 .1 .1)
+    × KeptBy (workOfTwo (universeOf (a .0) (a .1 .0) (a .1 .1 .0)) (surfacesOf (now (a .1 .1 .1 .0)) (now (a .1 .1 .1 .1 .0)))
+    (now (a .1 .1 .1 .1 .1 .0)) (now (a .1 .1 .1 .1 .1 .1 .0)) (now (a .1 .1 .1 .1 .1 .1 .1 .0))) (x .1 .1 .1 .1 .1 .1 .1 .0) (y .1 .1 .1 .1 .1 .1 .1 .0))
     export.prunings.durbizhan_pruned_raw_two.clauses
 durbizhan-pruned-raw-two w _ _ = (
   (tt, refl),
@@ -119,7 +125,9 @@ durbizhan-pruned-raw-two w _ _ = (
 
 pub durbizhan-pruned-merged-one : (w : World) →
     TellsApartBut w export.prunings.durbizhan_pruned_merged_one.ended
-    (λ lifetimes a x y. (x .1 .1 .1 .1 .1 .1 .1 ≡ y .1 .1 .1 .1 .1 .1 .1) × KeptBy (workOfOne (universeOf (a .0) (a .1 .0) (a .1 .1 .0)) (surfacesOf (now (a .1 .1 .1 .0)) (now (a .1 .1 .1 .1 .0))) (now (a .1 .1 .1 .1 .1 .0)) (now (a .1 .1 .1 .1 .1 .1 .0))) (x .1 .1 .1 .1 .1 .1 .0) (y .1 .1 .1 .1 .1 .1 .0))
+    (λ lifetimes a x y. (x .1 .1 .1 .1 .1 .1 .1 ≡ y .1 .1 .1 .1 .1 .1 .1)
+    × KeptBy (workOfOne (universeOf (a .0) (a .1 .0) (a .1 .1 .0)) (surfacesOf (now (a .1 .1 .1 .0)) (now (a .1 .1 .1 .1 .0)))
+    (now (a .1 .1 .1 .1 .1 .0)) (now (a .1 .1 .1 .1 .1 .1 .0))) (x .1 .1 .1 .1 .1 .1 .0) (y .1 .1 .1 .1 .1 .1 .0))
     export.prunings.durbizhan_pruned_merged_one.clauses
 durbizhan-pruned-merged-one w _ _ = (
   (tt, refl),
@@ -128,7 +136,9 @@ durbizhan-pruned-merged-one w _ _ = (
 
 pub durbizhan-pruned-merged-two : (w : World) →
     TellsApartBut w export.prunings.durbizhan_pruned_merged_two.ended
-    (λ lifetimes a x y. (x .1 .1 .1 .1 .1 .1 .1 .1 ≡ y .1 .1 .1 .1 .1 .1 .1 .1) × KeptBy (workOfTwo (universeOf (a .0) (a .1 .0) (a .1 .1 .0)) (surfacesOf (now (a .1 .1 .1 .0)) (now (a .1 .1 .1 .1 .0))) (now (a .1 .1 .1 .1 .1 .0)) (now (a .1 .1 .1 .1 .1 .1 .0)) (now (a .1 .1 .1 .1 .1 .1 .1 .0))) (x .1 .1 .1 .1 .1 .1 .1 .0) (y .1 .1 .1 .1 .1 .1 .1 .0))
+    (λ lifetimes a x y. (x .1 .1 .1 .1 .1 .1 .1 .1 ≡ y .1 .1 .1 .1 .1 .1 .1 .1)
+    × KeptBy (workOfTwo (universeOf (a .0) (a .1 .0) (a .1 .1 .0)) (surfacesOf (now (a .1 .1 .1 .0)) (now (a .1 .1 .1 .1 .0)))
+    (now (a .1 .1 .1 .1 .1 .0)) (now (a .1 .1 .1 .1 .1 .1 .0)) (now (a .1 .1 .1 .1 .1 .1 .1 .0))) (x .1 .1 .1 .1 .1 .1 .1 .0) (y .1 .1 .1 .1 .1 .1 .1 .0))
     export.prunings.durbizhan_pruned_merged_two.clauses
 durbizhan-pruned-merged-two w _ _ = (
   (tt, refl),

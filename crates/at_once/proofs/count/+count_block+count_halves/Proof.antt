@@ -7,7 +7,7 @@ use mathlib.Core.Path.{refl, _∙_}
 use Rattle.at_once.proofs.Jobs.{some-axis, last-axis, wide-some, frames-end, black-frames, prune-job, below-same, put-same, pruned-back, axis-within}
 use Rattle.at_once.proofs.Jobs.{place-in, near-fits}
 use Rattle.at_once.proofs.Counting.{count-missed, count-white, black-fits, count-black, count-left, count-opened, opened-back, count-lower, count-upper}
-use Rattle.at_once.proofs.Counting.{count-both, both-back, count-word-job, word-counted}
+use Rattle.at_once.proofs.Counting.{count-both, both-back}
 use Prim.Native.Nat.{ℕ, _<_}
 use borrow.Fn.Kinds.{In}
 use borrow.Fn.PlainCycle.{Measures, is, falls, and}
@@ -81,14 +81,14 @@ module _ (t : ℕ) where
 
   count-block-count-word-requires : count-block-lts.Need-count-word-requires count-block-claims count-block-at count-block.Post
   count-block-count-word-requires c κs =
-      let k = c .before .before .before .before .before .before .before .before .before in
+      let k = c .before .before .before .before .before .before .before .before .before .before in
       let j = k .pre .1 .0 in
-      count-word-job j (c .before .before .if2 .taken)
+      (j, c .before .before .before .if2 .taken)
 
   count-block-returns-2 : count-block-lts.Need-returns-2 count-block-claims count-block-at count-block.Post
   count-block-returns-2 c =
-      let k = c .before .before .before .before .before .before .before .before .before .before in
-      (λ job. word-counted job (c .before .before .before .if2 .taken) (c .count-word .ensures), (put-same, k .pre .1 .1))
+      let k = c .before .before .before .before .before .before .before .before .before .before .before in
+      (c .count-word .ensures, (put-same, k .pre .1 .1))
 
   count-block-prune-requires : count-block-lts.Need-prune-requires count-block-claims count-block-at count-block.Post
   count-block-prune-requires c κs =

@@ -6,7 +6,7 @@ use native.Mathlib.Omega.{arith}
 use mathlib.Core.Path.{refl, _∙_}
 use Rattle.at_once.proofs.Jobs.{some-axis, last-axis, wide-some, frames-end, prune-job, below-same, put-same, pruned-back, left-job, axis-within}
 use Rattle.at_once.proofs.Jobs.{place-in, near-fits}
-use Rattle.at_once.proofs.Counting.{opened-back, word-job, word-ended}
+use Rattle.at_once.proofs.Counting.{opened-back}
 use Rattle.at_once.proofs.Betters.{end-missed, end-known, end-black, end-white, end-opened, sooner-job, later-job, ends-both, ends-back}
 use Prim.Native.Nat.{ℕ, _<_}
 use borrow.Fn.Kinds.{In}
@@ -92,17 +92,14 @@ module _ (t : ℕ) where
 
   end-block-end-word-requires : end-block-lts.Need-end-word-requires end-block-claims end-block-at end-block.Post
   end-block-end-word-requires c κs =
-      let k = c .before .before .before .before .before .before .before .before .before .before .before .before in
+      let k = c .before .before .before .before .before .before .before .before .before .before .before .before .before in
       let j = k .pre .1 .0 in
-      word-job j (c .before .before .if3 .taken)
+      (j, c .before .before .before .if3 .taken)
 
   end-block-returns-3 : end-block-lts.Need-returns-3 end-block-claims end-block-at end-block.Post
   end-block-returns-3 c =
-      let k = c .before .before .before .before .before .before .before .before .before .before .before .before .before in (
-        λ job. word-ended job (c .before .before .before .if3 .taken) (k .args .first) (k .args .last) (k .args .backward) (k .args .known) (c .end-word
-            .ensures),
-        (put-same, k .pre .1 .1),
-      )
+      let k = c .before .before .before .before .before .before .before .before .before .before .before .before .before .before in
+      (c .end-word .ensures, (put-same, k .pre .1 .1))
 
   end-block-prune-requires : end-block-lts.Need-prune-requires end-block-claims end-block-at end-block.Post
   end-block-prune-requires c κs =

@@ -6,13 +6,14 @@ use mathlib.Core.Logic.{⊎-elim}
 use native.Mathlib.Omega.{arith}
 use Rattle.csg.specs.Surfaces.{surfacesOf}
 use Rattle.at_once.specs.Words.{TreesWord}
-use Rattle.at_once.proofs.TreeWords.{Going, going-start, code-inside, leaf-room, leaf-job, going-leaf, join-two, going-join, going-end}
+use Rattle.at_once.proofs.TreeWords.{treeWord, word-joins, all-word, Going, going-start, code-inside, leaf-room, leaf-job, leaf-is, going-leaf}
+use Rattle.at_once.proofs.TreeWords.{join-two, going-join, going-end}
 use Rattle.at_once.proofs.word.trees_word.Statement.{statement}
 use Rattle.at_once.proofs.word.trees_word.Tie as tie
 
 abbrev Inv-loop : tie.InvT-loop
 Inv-loop axes rows balls table lengths low left codes from count stop words₀ pending₀ i₀ words pending i =
-    (job : TreesWord (surfacesOf rows balls) axes table lengths low left codes from count) → Going job words pending i
+    (job : TreesWord (surfacesOf rows balls) axes table lengths low left codes from count) → Going (treeWord (job .block)) job words pending i
 
 abbrev μ-loop : tie.MeasureT-loop
 μ-loop axes rows balls table lengths low left codes from count stop words₀ pending₀ i₀ words pending i = from + count - i
@@ -21,7 +22,7 @@ add-stop : tie.Need-add-stop Inv-loop μ-loop
 add-stop c = omega (arith, c .before .pre .carried .inside)
 
 loop-holds : tie.Need-loop-holds Inv-loop μ-loop
-loop-holds c = λ job. going-start job refl
+loop-holds c = λ job. going-start job (treeWord (job .block)) refl
 
 mul-code : tie.Need-mul-code Inv-loop μ-loop
 mul-code c = let j = c .before .before .before .pre in omega (arith, code-inside j (c .before .loop .inv j) (c .loop-test .taken))
@@ -139,15 +140,17 @@ loop-again c = let h = c .before .before .before .loop-test .taken in
     let e = c .before .is-join .ensures in
     λ j. let g = c .before .before .before .before .loop .inv j in
     ⊎-elim
-    (λ w. rw (w .2, w .3) (going-join j g h (sym e ∙ w .0 .taken) (w .1 .ensures)))
-    (λ w. let o = sym e ∙ w .0 .left in rw (w .2, w .3) (going-leaf j g h o (w .1 .ensures (leaf-job j g h o))))
+    (λ w. rw (w .2, w .3) (going-join j g h (sym e ∙ w .0 .taken) (word-joins (j .block)) (w .1 .ensures)))
+    (λ w. let o = sym e ∙ w .0 .left in rw (w .2, w .3) (going-leaf j g h o (leaf-is j g h o (w .1 .ensures (leaf-job j g h o)))))
     (c .if1 .came)
 
 whole-word-requires : tie.Need-whole-word-requires Inv-loop μ-loop
 whole-word-requires c κs = tt
 
 returns : tie.Need-returns Inv-loop μ-loop
-returns c = λ job. going-end job (c .before .before .before .loop .inv job) (c .before .before .loop-test .left) (c .whole-word .ensures)
+returns c =
+    λ job. going-end job (c .before .before .before .loop .inv job) (c .before .before .loop-test .left) (c .whole-word .ensures)
+    ∙ all-word (job .block) (job .carried .few)
 
 pub trees-word-spec : {M : Type 1} → statement M
 trees-word-spec =

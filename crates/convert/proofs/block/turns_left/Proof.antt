@@ -32,7 +32,10 @@ array-read-counts : tie.Need-array-read-counts Inv-loop μ-loop
 array-read-counts c = let k = c .before in let q = k .before .before .before .pre in axis-place (q .0) (q .1) (here k) (k .loop-test .taken)
 
 add-counts : tie.Need-add-counts Inv-loop μ-loop
-add-counts c = let k = c .before in let q = k .before .before .before .pre in record { fits = omega (arith, count-fits (q .0) (q .1) (here k) (k .loop-test .taken)) }
+add-counts c =
+    let k = c .before in
+    let q = k .before .before .before .pre in
+    record { fits = omega (arith, count-fits (q .0) (q .1) (here k) (k .loop-test .taken)) }
 
 array-write-turns : tie.Need-array-write-turns Inv-loop μ-loop
 array-write-turns c = element-copy-out-axis (c .before)

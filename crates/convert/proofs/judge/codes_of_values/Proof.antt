@@ -1,4 +1,5 @@
--- `codes_of_values` pairs the marks by the values moved by one amount and by another, and of voxels the colours; moved values are small, so that nothing overflows.
+-- `codes_of_values` pairs the marks by the values moved by one amount and by another, and of voxels the colours; moved values are small, so that nothing
+-- overflows.
 use mathlib.Core.Path.{_∙_}
 use native.Mathlib.Omega.{arith}
 use borrow.Author.Needs.{needs}

@@ -1,7 +1,7 @@
 -- `durbizhan_contacts` hands over what `contacts_of_two` answers.
 use borrow.Author.Needs.{needs}
 use mathlib.Core.Path.{ap}
-use Rattle.convert.specs.declared.counting.Contacts.{Contacts}
+use Rattle.at_once.specs.declared.answer.Contacts.{Contacts}
 use Rattle.export.specs.Arrays.{contactsArray}
 use Rattle.export.proofs.verdicts.durbizhan_contacts.Statement.{statement}
 use Rattle.export.proofs.verdicts.durbizhan_contacts.Tie as tie

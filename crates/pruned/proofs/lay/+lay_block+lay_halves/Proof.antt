@@ -18,6 +18,7 @@ use Rattle.pruned.proofs.lay.lay_halves.Reads as lay-halves
 use Rattle.pruned.proofs.lay.lay_halves.Kinds as lay-halves-kinds
 use Rattle.pruned.proofs.lay.+lay_block+lay_halves.Lts-lay_halves as lay-halves-lts
 use Rattle.pruned.proofs.lay.join.Reads as join-reads
+use Rattle.pruned.proofs.leaf.doublings.Reads as doublings-reads
 use Rattle.pruned.proofs.lay.symbol_of.Reads as symbol-of-reads
 use Rattle.pruned.proofs.lone.is_lone.Reads as is-lone-reads
 use Rattle.pruned.proofs.lone.lay_lone.Reads as lay-lone-reads
@@ -300,7 +301,8 @@ lay-block-returns-2 t c = let w = c .before .before .before .before .before .bef
     .before .before .before .if2 .taken) in let l = c .before .before .lay-lone .ensures in (
       λ job. block-done job (c .before .before .before .before .before .before .before .before .before .before .before .before .before .prune .ensures .0
           (block-pruning job)) (c .before .before .before .before .before .before .before .before .before .before .if1 .left) _ _
-          (lone-back (block-halves job (c .before .before .before .before .before .before .before .before .before .before .before .before .before .prune .ensures
+          (lone-back (block-halves job (c .before .before .before .before .before .before .before .before .before .before .before .before .before .prune
+          .ensures
           .0 (block-pruning job)) (c .before .before .before .before .before .before .before .before .before .before .if1 .left)) (w .0) (w .1) _ _
           (l (lone-job (block-halves job (c .before .before .before .before .before .before .before .before .before .before .before .before .before .prune
           .ensures .0 (block-pruning job)) (c .before .before .before .before .before .before .before .before .before .before .if1 .left)) (w .0) (w .1)))),
@@ -381,6 +383,8 @@ lay-block-returns-3 t c = let l = c .before .before .before .lay-halves .ensures
 )
 
 lay-halves-sub-axis : (t : ℕ) → lay-halves-lts.Need-sub-axis (
+  doublings-reads.Asked,
+  doublings-reads.Learnt,
   lay-block-below t,
   lay-block.Post,
   join-reads.Asked,
@@ -389,6 +393,8 @@ lay-halves-sub-axis : (t : ℕ) → lay-halves-lts.Need-sub-axis (
 lay-halves-sub-axis t c = let k = c .before in let j = k .pre .1 .0 in j .some
 
 lay-halves-mul-axis : (t : ℕ) → lay-halves-lts.Need-mul-axis (
+  doublings-reads.Asked,
+  doublings-reads.Learnt,
   lay-block-below t,
   lay-block.Post,
   join-reads.Asked,
@@ -397,6 +403,8 @@ lay-halves-mul-axis : (t : ℕ) → lay-halves-lts.Need-mul-axis (
 lay-halves-mul-axis t c = let k = c .before in let j = k .pre .1 .0 in omega (arith, place-in j)
 
 lay-halves-element-copy-out-axis : (t : ℕ) → lay-halves-lts.Need-element-copy-out-axis (
+  doublings-reads.Asked,
+  doublings-reads.Learnt,
   lay-block-below t,
   lay-block.Post,
   join-reads.Asked,
@@ -405,6 +413,8 @@ lay-halves-element-copy-out-axis : (t : ℕ) → lay-halves-lts.Need-element-cop
 lay-halves-element-copy-out-axis t c = let k = c .before in let j = k .pre .1 .0 in omega (arith, place-in j)
 
 lay-halves-mul-near : (t : ℕ) → lay-halves-lts.Need-mul-near (
+  doublings-reads.Asked,
+  doublings-reads.Learnt,
   lay-block-below t,
   lay-block.Post,
   join-reads.Asked,
@@ -413,6 +423,8 @@ lay-halves-mul-near : (t : ℕ) → lay-halves-lts.Need-mul-near (
 lay-halves-mul-near t c = let k = c .before .before in let j = k .pre .1 .0 in omega (arith, axis-within j)
 
 lay-halves-element-copy-out-near : (t : ℕ) → lay-halves-lts.Need-element-copy-out-near (
+  doublings-reads.Asked,
+  doublings-reads.Learnt,
   lay-block-below t,
   lay-block.Post,
   join-reads.Asked,
@@ -421,6 +433,8 @@ lay-halves-element-copy-out-near : (t : ℕ) → lay-halves-lts.Need-element-cop
 lay-halves-element-copy-out-near t c = let k = c .before .before in let j = k .pre .1 .0 in omega (arith, axis-within j)
 
 lay-halves-mul-whole : (t : ℕ) → lay-halves-lts.Need-mul-whole (
+  doublings-reads.Asked,
+  doublings-reads.Learnt,
   lay-block-below t,
   lay-block.Post,
   join-reads.Asked,
@@ -429,6 +443,8 @@ lay-halves-mul-whole : (t : ℕ) → lay-halves-lts.Need-mul-whole (
 lay-halves-mul-whole t c = let k = c .before .before .before in let j = k .pre .1 .0 in omega (arith, axis-within j)
 
 lay-halves-element-copy-out-whole : (t : ℕ) → lay-halves-lts.Need-element-copy-out-whole (
+  doublings-reads.Asked,
+  doublings-reads.Learnt,
   lay-block-below t,
   lay-block.Post,
   join-reads.Asked,
@@ -436,134 +452,191 @@ lay-halves-element-copy-out-whole : (t : ℕ) → lay-halves-lts.Need-element-co
 ) (lay-halves-at t) lay-halves.Post
 lay-halves-element-copy-out-whole t c = let k = c .before .before .before in let j = k .pre .1 .0 in omega (arith, axis-within j)
 
-lay-halves-mul-side : (t : ℕ) → lay-halves-lts.Need-mul-side (
+lay-halves-doublings-requires : (t : ℕ) → lay-halves-lts.Need-doublings-requires (
+  doublings-reads.Asked,
+  doublings-reads.Learnt,
   lay-block-below t,
   lay-block.Post,
   join-reads.Asked,
   join-reads.Learnt,
 ) (lay-halves-at t) lay-halves.Post
-lay-halves-mul-side t c = let k = c .before .before .before .before in let j = k .pre .1 .0 in omega (arith, axis-within j)
+lay-halves-doublings-requires t c κs = tt
+
+lay-halves-mul-side : (t : ℕ) → lay-halves-lts.Need-mul-side (
+  doublings-reads.Asked,
+  doublings-reads.Learnt,
+  lay-block-below t,
+  lay-block.Post,
+  join-reads.Asked,
+  join-reads.Learnt,
+) (lay-halves-at t) lay-halves.Post
+lay-halves-mul-side t c = let k = c .before .before .before .before .before in let j = k .pre .1 .0 in omega (arith, axis-within j)
 
 lay-halves-element-write-side : (t : ℕ) → lay-halves-lts.Need-element-write-side (
+  doublings-reads.Asked,
+  doublings-reads.Learnt,
   lay-block-below t,
   lay-block.Post,
   join-reads.Asked,
   join-reads.Learnt,
 ) (lay-halves-at t) lay-halves.Post
-lay-halves-element-write-side t c = let k = c .before .before .before .before in let j = k .pre .1 .0 in omega (arith, axis-within j)
+lay-halves-element-write-side t c = let k = c .before .before .before .before .before in let j = k .pre .1 .0 in omega (arith, axis-within j)
 
 lay-halves-sub-lay-block : (t : ℕ) → lay-halves-lts.Need-sub-lay-block (
+  doublings-reads.Asked,
+  doublings-reads.Learnt,
   lay-block-below t,
   lay-block.Post,
   join-reads.Asked,
   join-reads.Learnt,
 ) (lay-halves-at t) lay-halves.Post
-lay-halves-sub-lay-block t c = let k = c .before .before .before .before .before .before in let j = k .pre .1 .0 in j .some
+lay-halves-sub-lay-block t c = let k = c .before .before .before .before .before .before .before in let j = k .pre .1 .0 in j .some
 
 lay-halves-add-lay-block : (t : ℕ) → lay-halves-lts.Need-add-lay-block (
+  doublings-reads.Asked,
+  doublings-reads.Learnt,
   lay-block-below t,
   lay-block.Post,
   join-reads.Asked,
   join-reads.Learnt,
 ) (lay-halves-at t) lay-halves.Post
-lay-halves-add-lay-block t c = let k = c .before .before .before .before .before .before .before .before .before .before .before in
+lay-halves-add-lay-block t c = let k = c .before .before .before .before .before .before .before .before .before .before .before .before in
     let j = k .pre .1 .0 in omega (arith, j .fits)
 
 lay-halves-lay-block-requires : (t : ℕ) → lay-halves-lts.Need-lay-block-requires (
+  doublings-reads.Asked,
+  doublings-reads.Learnt,
   lay-block-below t,
   lay-block.Post,
   join-reads.Asked,
   join-reads.Learnt,
 ) (lay-halves-at t) lay-halves.Post
-lay-halves-lay-block-requires t c κs = let k = c .before .before .before .before .before .before .before .before .before .before .before in
-    let j = k .pre .1 .0 in (omega (arith, k .pre .0, j .some), (lower-job j, k .pre .1 .1))
+lay-halves-lay-block-requires t c κs = let k = c .before .before .before .before .before .before .before .before .before .before .before .before in
+    let j = k .pre .1 .0 in (
+      omega (arith, k .pre .0, j .some),
+      (
+        lower-job j (c .before .before .before .before .before .before .before .doublings .ensures),
+        k .pre .1 .1,
+      ),
+    )
 
 lay-halves-add-low : (t : ℕ) → lay-halves-lts.Need-add-low (
+  doublings-reads.Asked,
+  doublings-reads.Learnt,
   lay-block-below t,
   lay-block.Post,
   join-reads.Asked,
   join-reads.Learnt,
 ) (lay-halves-at t) lay-halves.Post
-lay-halves-add-low t c = let k = c .before .before .before .before .before .before .before .before .before .before .before .before .before .before .before in
+lay-halves-add-low t c = let k = c .before .before .before .before .before .before .before .before .before .before .before .before .before .before .before
+    .before in
     let j = k .pre .1 .0 in omega (arith, near-fits j)
 
 lay-halves-mul-low : (t : ℕ) → lay-halves-lts.Need-mul-low (
+  doublings-reads.Asked,
+  doublings-reads.Learnt,
   lay-block-below t,
   lay-block.Post,
   join-reads.Asked,
   join-reads.Learnt,
 ) (lay-halves-at t) lay-halves.Post
-lay-halves-mul-low t c = let k = c .before .before .before .before .before .before .before .before .before .before .before .before .before .before .before in
+lay-halves-mul-low t c = let k = c .before .before .before .before .before .before .before .before .before .before .before .before .before .before .before
+    .before in
     let j = k .pre .1 .0 in omega (arith, axis-within j)
 
 lay-halves-element-write-low : (t : ℕ) → lay-halves-lts.Need-element-write-low (
+  doublings-reads.Asked,
+  doublings-reads.Learnt,
   lay-block-below t,
   lay-block.Post,
   join-reads.Asked,
   join-reads.Learnt,
 ) (lay-halves-at t) lay-halves.Post
 lay-halves-element-write-low t c = let k = c .before .before .before .before .before .before .before .before .before .before .before .before .before .before
+    .before
     .before in let j = k .pre .1 .0 in omega (arith, axis-within j)
 
 lay-halves-sub-lay-block-2 : (t : ℕ) → lay-halves-lts.Need-sub-lay-block-2 (
+  doublings-reads.Asked,
+  doublings-reads.Learnt,
   lay-block-below t,
   lay-block.Post,
   join-reads.Asked,
   join-reads.Learnt,
 ) (lay-halves-at t) lay-halves.Post
 lay-halves-sub-lay-block-2 t c = let k = c .before .before .before .before .before .before .before .before .before .before .before .before .before .before
+    .before
     .before .before .before in let j = k .pre .1 .0 in j .some
 
 lay-halves-lay-block-requires-2 : (t : ℕ) → lay-halves-lts.Need-lay-block-requires-2 (
+  doublings-reads.Asked,
+  doublings-reads.Learnt,
   lay-block-below t,
   lay-block.Post,
   join-reads.Asked,
   join-reads.Learnt,
 ) (lay-halves-at t) lay-halves.Post
 lay-halves-lay-block-requires-2 t c κs = let k = c .before .before .before .before .before .before .before .before .before .before .before .before .before
+    .before
     .before .before .before .before .before .before .before .before .before in let j = k .pre .1 .0 in
+    let d = c .before .before .before .before .before .before .before .before .before .before .before .before .before .before .before .before .before .before
+    .doublings .ensures in
     let e = c .before .before .before .before .before .before .before .before .before .before .lay-block .ensures in (
       omega (arith, k .pre .0, j .some),
-      (upper-job j _ _ (e .0 (lower-job j)), e .1),
+      (upper-job j _ _ d (e .0 (lower-job j d)), e .1),
     )
 
 lay-halves-mul-low-2 : (t : ℕ) → lay-halves-lts.Need-mul-low-2 (
+  doublings-reads.Asked,
+  doublings-reads.Learnt,
   lay-block-below t,
   lay-block.Post,
   join-reads.Asked,
   join-reads.Learnt,
 ) (lay-halves-at t) lay-halves.Post
 lay-halves-mul-low-2 t c = let k = c .before .before .before .before .before .before .before .before .before .before .before .before .before .before .before
+    .before
     .before .before .before .before .before .before .before .before .before .before .before in let j = k .pre .1 .0 in omega (arith, axis-within j)
 
 lay-halves-element-write-low-2 : (t : ℕ) → lay-halves-lts.Need-element-write-low-2 (
+  doublings-reads.Asked,
+  doublings-reads.Learnt,
   lay-block-below t,
   lay-block.Post,
   join-reads.Asked,
   join-reads.Learnt,
 ) (lay-halves-at t) lay-halves.Post
-lay-halves-element-write-low-2 t c = let k = c .before .before .before .before .before .before .before .before .before .before .before .before .before .before
+lay-halves-element-write-low-2 t c = let k = c .before .before .before .before .before .before .before .before .before .before .before .before .before
+    .before .before
     .before .before .before .before .before .before .before .before .before .before .before .before in let j = k .pre .1 .0 in omega (arith, axis-within j)
 
 lay-halves-mul-side-2 : (t : ℕ) → lay-halves-lts.Need-mul-side-2 (
+  doublings-reads.Asked,
+  doublings-reads.Learnt,
   lay-block-below t,
   lay-block.Post,
   join-reads.Asked,
   join-reads.Learnt,
 ) (lay-halves-at t) lay-halves.Post
 lay-halves-mul-side-2 t c = let k = c .before .before .before .before .before .before .before .before .before .before .before .before .before .before .before
+    .before
     .before .before .before .before .before .before .before .before .before .before .before in let j = k .pre .1 .0 in omega (arith, axis-within j)
 
 lay-halves-element-write-side-2 : (t : ℕ) → lay-halves-lts.Need-element-write-side-2 (
+  doublings-reads.Asked,
+  doublings-reads.Learnt,
   lay-block-below t,
   lay-block.Post,
   join-reads.Asked,
   join-reads.Learnt,
 ) (lay-halves-at t) lay-halves.Post
-lay-halves-element-write-side-2 t c = let k = c .before .before .before .before .before .before .before .before .before .before .before .before .before .before
+lay-halves-element-write-side-2 t c = let k = c .before .before .before .before .before .before .before .before .before .before .before .before .before
+    .before .before
     .before .before .before .before .before .before .before .before .before .before .before .before in let j = k .pre .1 .0 in omega (arith, axis-within j)
 
 lay-halves-cast-join : (t : ℕ) → lay-halves-lts.Need-cast-join (
+  doublings-reads.Asked,
+  doublings-reads.Learnt,
   lay-block-below t,
   lay-block.Post,
   join-reads.Asked,
@@ -572,6 +645,8 @@ lay-halves-cast-join : (t : ℕ) → lay-halves-lts.Need-cast-join (
 lay-halves-cast-join t c = omega arith
 
 lay-halves-cast-join-2 : (t : ℕ) → lay-halves-lts.Need-cast-join-2 (
+  doublings-reads.Asked,
+  doublings-reads.Learnt,
   lay-block-below t,
   lay-block.Post,
   join-reads.Asked,
@@ -580,17 +655,24 @@ lay-halves-cast-join-2 : (t : ℕ) → lay-halves-lts.Need-cast-join-2 (
 lay-halves-cast-join-2 t c = omega arith
 
 lay-halves-join-requires : (t : ℕ) → lay-halves-lts.Need-join-requires (
+  doublings-reads.Asked,
+  doublings-reads.Learnt,
   lay-block-below t,
   lay-block.Post,
   join-reads.Asked,
   join-reads.Learnt,
 ) (lay-halves-at t) lay-halves.Post
 lay-halves-join-requires t c κs = let k = c .before .before .before .before .before .before .before .before .before .before .before .before .before .before
+    .before
     .before .before .before .before .before .before .before .before .before .before .before .before .before in let j = k .pre .1 .0 in
     let e = c .before .before .before .before .before .before .before .before .before .before .before .before .before .before .before .lay-block .ensures
-    in join-asks j _ _ (e .0 (lower-job j)) (c .before .before .before .before .lay-block2 .ensures .0)
+    in let d = c .before .before .before .before .before .before .before .before .before .before .before .before .before .before .before .before .before
+    .before .before .before .before .before .before .doublings .ensures in join-asks j _ _ d (e .0 (lower-job j d)) (c .before .before .before .before
+    .lay-block2 .ensures .0)
 
 lay-halves-same-length : (t : ℕ) → lay-halves-lts.Need-same-length (
+  doublings-reads.Asked,
+  doublings-reads.Learnt,
   lay-block-below t,
   lay-block.Post,
   join-reads.Asked,
@@ -601,6 +683,8 @@ lay-halves-same-length t c = c .before .before .before .before .before .before .
     .lay-block .kept .1 .1 .1 .1 .1 .1 .1 .1 .1 .1 .1 .0
 
 lay-halves-same-length-2 : (t : ℕ) → lay-halves-lts.Need-same-length-2 (
+  doublings-reads.Asked,
+  doublings-reads.Learnt,
   lay-block-below t,
   lay-block.Post,
   join-reads.Asked,
@@ -612,6 +696,8 @@ lay-halves-same-length-2 t c = c .before .before .join .kept .1 .0
     .lay-block .kept .1 .1 .1 .1 .1 .1 .1 .1 .1 .1 .1 .1 .1 .1 .1 .1 .1 .0
 
 lay-halves-returns : (t : ℕ) → lay-halves-lts.Need-returns (
+  doublings-reads.Asked,
+  doublings-reads.Learnt,
   lay-block-below t,
   lay-block.Post,
   join-reads.Asked,
@@ -619,7 +705,9 @@ lay-halves-returns : (t : ℕ) → lay-halves-lts.Need-returns (
 ) (lay-halves-at t) lay-halves.Post
 lay-halves-returns t c = let e = c .before .before .before .before .before .before .before .before .before .before .before .before .before .before .before
     .before .before .before .lay-block .ensures in let f = c .before .before .before .before .before .before .before .lay-block2 .ensures in
-    let o = c .before .before .join .ensures in (λ job. halves-done job _ _ (e .0 (lower-job job)) (f .0) (o .0) (o .1), f .1)
+    let o = c .before .before .join .ensures in let d = c .before .before .before .before .before .before .before .before .before .before .before .before
+    .before .before .before .before .before .before .before .before .before .before .before .before .before .before .doublings .ensures in
+    (λ job. halves-done job _ _ d (e .0 (lower-job job d)) (f .0) (o .0) (o .1), f .1)
 
 pub +lay-block+lay-halves-spec : {M : Type 1} → statement M
 +lay-block+lay-halves-spec = close μ-lay-block μ-lay-halves (λ t. lay-block-lts.spec (
@@ -658,7 +746,7 @@ pub +lay-block+lay-halves-spec : {M : Type 1} → statement M
     (lay-block-same-length-5 t)
     (lay-block-returns-3 t))
     λ t. lay-halves-lts.spec
-    (lay-block-below t, lay-block.Post, join-reads.Asked, join-reads.Learnt)
+    (doublings-reads.Asked, doublings-reads.Learnt, lay-block-below t, lay-block.Post, join-reads.Asked, join-reads.Learnt)
     (lay-halves-at t)
     lay-halves.Post
     (lay-halves-sub-axis t)
@@ -668,6 +756,7 @@ pub +lay-block+lay-halves-spec : {M : Type 1} → statement M
     (lay-halves-element-copy-out-near t)
     (lay-halves-mul-whole t)
     (lay-halves-element-copy-out-whole t)
+    (lay-halves-doublings-requires t)
     (lay-halves-mul-side t)
     (lay-halves-element-write-side t)
     (lay-halves-sub-lay-block t)

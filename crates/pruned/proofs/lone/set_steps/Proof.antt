@@ -4,10 +4,11 @@ use native.Mathlib.Omega.{arith}
 use borrow.Author.Needs.{needs}
 use Rattle.csg.specs.Halfspace.{rowAt}
 use Rattle.pruned.specs.Alone.{StepsJob}
-use Rattle.pruned.proofs.Amounts.{Filled, filled-none, filled-all, first-fits, place-in, axis-in, row-in, place-fits, half-fits, product-fits}
-use Rattle.pruned.proofs.Amounts.{filled-next}
+use Rattle.pruned.proofs.Amounts.{Filled, filled-none, filled-all, first-fits, place-in, axis-in, row-in, place-fits, amount-asks, filled-next}
 use Rattle.pruned.proofs.lone.set_steps.Statement.{statement}
 use Rattle.pruned.proofs.lone.set_steps.Tie as tie
+use Rattle.pruned.proofs.leaf.amount.Reads as amount-reads
+use Rattle.pruned.proofs.leaf.doublings.Reads as doublings-reads
 
 abbrev Inv-loop : tie.InvT-loop
 Inv-loop rows row table side left steps₀ first sides₀ n₀ steps sides n =
@@ -49,39 +50,39 @@ array-read-half c =
     let k = c .before in
     let j = k .before .before .before .before .before .before .pre .0 in axis-in j (k .before .loop .inv j) (k .loop-test .taken)
 
-add-steps : tie.Need-add-steps Inv-loop μ-loop
-add-steps c =
+add-amount : tie.Need-add-amount Inv-loop μ-loop
+add-amount c =
     let k = c .before in
     let j = k .before .before .before .before .before .before .pre .0 in omega (arith, place-fits j (k .before .loop .inv j) (k .loop-test .taken))
 
-mul-steps : tie.Need-mul-steps Inv-loop μ-loop
-mul-steps c =
+mul-amount : tie.Need-mul-amount Inv-loop μ-loop
+mul-amount c =
     let k = c .before in
     let j = k .before .before .before .before .before .before .pre .0 in omega (arith, place-fits j (k .before .loop .inv j) (k .loop-test .taken))
 
-shared-slice-copy-out-steps : tie.Need-shared-slice-copy-out-steps Inv-loop μ-loop
-shared-slice-copy-out-steps c =
+shared-slice-copy-out-amount : tie.Need-shared-slice-copy-out-amount Inv-loop μ-loop
+shared-slice-copy-out-amount c =
     let k = c .before in
     let j = k .before .before .before .before .before .before .pre .0 in row-in j (k .before .loop .inv j) (k .loop-test .taken)
 
-cast-steps : tie.Need-cast-steps Inv-loop μ-loop
-cast-steps c =
-    let k = c .before .before in
-    let j = k .before .before .before .before .before .before .pre .0 in half-fits j (k .before .loop .inv j) (k .loop-test .taken)
+doublings-requires : tie.Need-doublings-requires Inv-loop μ-loop
+doublings-requires c κs = tt
 
-mul-steps-2 : tie.Need-mul-steps-2 Inv-loop μ-loop
-mul-steps-2 c =
-    let k = c .before .before in
-    let j = k .before .before .before .before .before .before .pre .0 in product-fits j (k .before .loop .inv j) (k .loop-test .taken)
+amount-requires : tie.Need-amount-requires Inv-loop μ-loop
+amount-requires c κs =
+    let k = c .before .before .before in
+    let j = k .before .before .before .before .before .before .pre .0 in amount-asks j (k .before .loop .inv j) (k .loop-test .taken) (c .doublings .ensures)
 
 element-set-from-steps : tie.Need-element-set-from-steps Inv-loop μ-loop
-element-set-from-steps c = element-copy-out-axis (c .before .before)
+element-set-from-steps c = element-copy-out-axis (c .before .before .before .before)
 
 loop-less : tie.Need-loop-less Inv-loop μ-loop
-loop-less c = let k = c .before .before in omega (arith, k .loop-test .taken)
+loop-less c = let k = c .before .before .before .before in omega (arith, k .loop-test .taken)
 
 loop-again : tie.Need-loop-again Inv-loop μ-loop
-loop-again c = let k = c .before .before in λ job. filled-next job (k .before .loop .inv job) (k .loop-test .taken) refl
+loop-again c =
+    let k = c .before .before .before .before in
+    λ job. filled-next job (k .before .loop .inv job) (k .loop-test .taken) (c .before .doublings .ensures) (c .amount .ensures)
 
 returns : tie.Need-returns Inv-loop μ-loop
 returns c = λ job. filled-all job (c .before .loop .inv job) (c .loop-test .left)
@@ -106,11 +107,11 @@ set-steps-spec =
     array-read-half
     (λ c. omega (arith, array-read-half c))
     array-read-half
-    add-steps
-    mul-steps
-    shared-slice-copy-out-steps
-    cast-steps
-    mul-steps-2
+    add-amount
+    mul-amount
+    shared-slice-copy-out-amount
+    doublings-requires
+    amount-requires
     (λ c. omega (arith, element-set-from-steps c))
     element-set-from-steps
     loop-less

@@ -5,7 +5,7 @@ use mathlib.Core.Logic.{⊎-elim}
 use native.Mathlib.Omega.{arith}
 use borrow.Author.Needs.{needs}
 use Rattle.csg.specs.Surfaces.{surfacesOf}
-use Rattle.pruned.specs.Nodes.{Pruning}
+use Rattle.pruned.specs.Nodes.{doubled, Pruning}
 use Rattle.pruned.proofs.Pruning.{Going, going-start, shelves-kept, store-in, read-in, code-ready, leaf-room, leaf-job, leaf-storable, going-leaf}
 use Rattle.pruned.proofs.Pruning.{join-two, join-storable, start-most, going-join, end-past, going-end}
 use Rattle.pruned.proofs.prune.prune.Statement.{statement}
@@ -19,11 +19,11 @@ use Rattle.pruned.proofs.prune.store_node.Reads as store-node-reads
 use Rattle.pruned.proofs.prune.whole_mark.Reads as whole-mark-reads
 
 abbrev Inv-loop : tie.InvT-loop
-Inv-loop axes rows balls low side axis high half centre work₀ from count to starts₀ codes₀ stop pending₀ end₀ i₀ work starts codes pending end i =
-    (job : Pruning (surfacesOf rows balls) axes low side axis half high centre work₀ from count to) → Going job work starts codes pending end i
+Inv-loop axes rows balls low side axis high times centre work₀ from count to starts₀ codes₀ stop pending₀ end₀ i₀ work starts codes pending end i =
+    (job : Pruning (surfacesOf rows balls) axes low side axis (doubled times) high centre work₀ from count to) → Going job work starts codes pending end i
 
 abbrev μ-loop : tie.MeasureT-loop
-μ-loop axes rows balls low side axis high half centre work₀ from count to starts₀ codes₀ stop pending₀ end₀ i₀ work starts codes pending end i =
+μ-loop axes rows balls low side axis high times centre work₀ from count to starts₀ codes₀ stop pending₀ end₀ i₀ work starts codes pending end i =
     from + count - i
 
 add-stop : tie.Need-add-stop Inv-loop μ-loop

@@ -1,0 +1,200 @@
+-- The merged conversions: where no check refuses, the codes of both trees are loaded, and the shape that is laid of the whole universe is the merged one of
+-- their raw expression. It is written at once where so much room is lent as the formula says, and else measured first, which leaves the codes' room as long.
+use Prim.Native.Nat.{ℕ, suc, _+_, _*_, _/_, _%_, _^_, _≤_, _<_}
+use mathlib.Core.Path.{_≡_, refl, sym, ap, ap₂, _∙_, subst}
+use mathlib.Core.Bool.{true}
+use mathlib.Core.List.{List}
+use native.Mathlib.Omega.{arith}
+use native.Mathlib.Nat.{mul-le-mul, mul-le-mul-right}
+use lib.ListN.{length, replicate, length-replicate}
+use lib.Pow.{pow-mono}
+use lib.Seq.{sets}
+use Rattle.universe.specs.declared.Universe.{Universe}
+use Rattle.universe.specs.declared.Block.{Block}
+use Rattle.universe.specs.Universe.{mostAxes, mostLevels, universeRefusal, levels}
+use Rattle.universe.specs.Questions.{levelsAnswer}
+use Rattle.universe.specs.Block.{Given, first, wholeBlock}
+use Rattle.universe.proofs.Universes.{accepted, levels-few}
+use Rattle.universe.proofs.Questions.{levels-told}
+use Rattle.bintree.specs.Shape.{Shape, symbols}
+use Rattle.bintree.specs.Walks.{noted}
+use Rattle.bintree.proofs.Shape.{length-symbols}
+use Rattle.bintree.proofs.Lays.{laid-noted}
+use Rattle.csg.specs.Surfaces.{Surfaces, named}
+use Rattle.csg.specs.Tree.{Tree, plain}
+use Rattle.csg.specs.Words.{mostWords, treeOf}
+use Rattle.csg.specs.Marks.{treeColour}
+use Rattle.csg.specs.Raw.{raw, both}
+use Rattle.csg.proofs.Words.{accepted-length}
+use Rattle.convert.specs.Blocks.{Ready, treesOf, blockLeft, wholeSides}
+use Rattle.convert.specs.Shapes.{shaped}
+use Rattle.convert.specs.Answers.{twoTreesRefusal, writtenOfTwo}
+use Rattle.convert.proofs.Blocks.{whole-standing, whole-is}
+use Rattle.masks.specs.Block.{voxelAt}
+use Rattle.masks.specs.Shapes.{voxelShape}
+use Rattle.masks.proofs.Block.{left-whole}
+use Rattle.masks.proofs.Shapes.{examined-voxels}
+use Rattle.pruned.specs.Left.{allColour}
+use Rattle.pruned.specs.Nodes.{two, mostShapes}
+use Rattle.pruned.specs.Laying.{SoundScene}
+use Rattle.pruned.proofs.Laying.{unpacked}
+use Rattle.pruned.proofs.Looked.{two-stand}
+use Rattle.pruned.proofs.Loads.{words-carried}
+use Rattle.pruned.proofs.Steps.{rows-few, balls-few}
+use Rattle.pruned.proofs.Conversions.{all-accepted}
+use Rattle.at_once.specs.Words.{Tabled}
+use Rattle.at_once.specs.Counting.{BlockJob}
+use Rattle.at_once.specs.Whole.{mostCodes, bothTrees, BothJob, BothLoaded}
+use Rattle.at_once.specs.Merged.{shapeOver, LaidShape, AtPlace, MergedReady, fewCodes, FewReady}
+use Rattle.at_once.proofs.Layings.{shape-agree}
+
+-- ---- the checks, and local room for codes
+module _ {u : Universe} {surfaces : Surfaces} {words₁ words₂ : List ℕ} where
+  pub all-ready : {n : ℕ} → n ≡ twoTreesRefusal u surfaces words₁ words₂ → n ≡ 0 → Ready u surfaces words₁ words₂
+  all-ready e z =
+      let a = all-accepted u surfaces words₁ words₂ (sym e ∙ z) in
+      record {
+        accepted-universe = a .0 .accepted-universe;
+        accepted-rows = a .0 .accepted-rows;
+        accepted-balls = a .0 .accepted-balls;
+        accepted-first = a .1 .0;
+        accepted-second = a .1 .1;
+      }
+
+  module _ (r : Ready u surfaces words₁ words₂) where
+    abbrev count : ℕ
+    count = length words₁ + length words₂
+
+    pub words-few : count ≤ 2 * mostWords
+    words-few = omega (arith, accepted-length (named surfaces) words₁ (r .accepted-first), accepted-length (named surfaces) words₂ (r .accepted-second))
+
+    levels-most : levels u ≤ mostLevels
+    levels-most = levels-few u (accepted u (r .accepted-universe))
+
+    codes-most : (levels u + 1) * count ≤ mostCodes
+    codes-most = let few : levels u + 1 ≤ suc mostLevels = omega (arith, levels-most) in mul-le-mul few words-few
+
+    pub most-ready : MergedReady u surfaces words₁ words₂ (replicate {A = ℕ} mostCodes 0)
+    most-ready =
+        let long = length-replicate {A = ℕ} mostCodes 0 in
+        record { ready = r; enough = omega (arith, codes-most, long); bounded = omega (arith, long) }
+
+    module _ {left : ℕ} (l : left ≡ levelsAnswer u) where
+      left-is : left ≡ levels u
+      left-is = levels-told u refl (r .accepted-universe) l
+
+      pub levels-fit : left + 1 < 2 ^ 64
+      levels-fit = omega (arith, left-is, levels-most)
+
+      pub codes-fit : (left + 1) * count < 2 ^ 64
+      codes-fit = rw left-is (omega (arith, codes-most))
+
+      pub few-ready : (left + 1) * count ≤ fewCodes → FewReady u surfaces words₁ words₂
+      few-ready h = record { ready = r; few = rw left-is at h }
+
+  pub ready-again : {codes codes′ : List ℕ} → MergedReady u surfaces words₁ words₂ codes → length codes′ ≡ length codes →
+      MergedReady u surfaces words₁ words₂ codes′
+  ready-again m e = record { ready = m .ready; enough = omega (arith, m .enough); bounded = omega (arith, m .bounded) }
+
+-- ---- the whole universe
+module _ {u : Universe} {surfaces : Surfaces} {words₁ words₂ codes : List ℕ} (m : MergedReady u surfaces words₁ words₂ codes) where
+  abbrev e : universeRefusal u ≡ 0
+  e = m .ready .accepted-universe
+
+  abbrev s : Tree
+  s = treeOf (named surfaces) words₁
+
+  abbrev t : Tree
+  t = treeOf (named surfaces) words₂
+
+  abbrev total : ℕ
+  total = length words₁ + length words₂
+
+  once : total ≤ (levels u + 1) * total
+  once = let h : 1 * total ≤ (levels u + 1) * total = mul-le-mul-right total (omega arith) in omega arith
+
+  pub both-job : {starts : List ℕ} → length starts ≡ mostShapes → BothJob words₁ words₂ codes starts
+  both-job shelf =
+      record {
+        names = named surfaces;
+        few-rows = rows-few u (surfaces .rows) (m .ready .accepted-rows);
+        few-balls = balls-few u (surfaces .balls) (m .ready .accepted-balls);
+        accepted-first = m .ready .accepted-first;
+        accepted-second = m .ready .accepted-second;
+        inside = omega (arith, once, m .enough);
+        starts-long = shelf;
+      }
+
+  module _ {left : ℕ} (l : left ≡ levelsAnswer u) where
+    all-left : left ≡ levels u
+    all-left = levels-told u refl e l
+
+    block-is : blockLeft u left (replicate mostAxes 0) ≡ wholeBlock u
+    block-is = ap (λ (n : ℕ). blockLeft u n (replicate mostAxes 0)) all-left ∙ whole-is u
+
+    pub whole-place : AtPlace left 0
+    whole-place =
+        record {
+          fits = omega (arith, pow-mono {i = suc left} {j = suc mostLevels} (omega (arith, all-left, levels-few u (accepted u e))));
+        }
+
+    module _ {table lengths side codes₁ starts starts₁ : List ℕ} (shelf : length starts ≡ mostShapes) (tabled : Tabled u table lengths)
+        (sides : side ≡ wholeSides u) (loaded : BothLoaded {codes = codes} {starts = starts} (both-job {starts = starts} shelf) codes₁ starts₁) where
+      pub whole-job : BlockJob surfaces (u .axes) table lengths (replicate mostAxes 0) side left codes₁ 0 total (left + 1)
+      unfolding both-job
+      whole-job =
+          record {
+            at = record {
+              universe = u;
+              scene = record {
+                accepted-universe = e;
+                accepted-rows = m .ready .accepted-rows;
+                accepted-balls = m .ready .accepted-balls;
+              };
+              axes-are = refl;
+              standing = rw (all-left, sides) (whole-standing u e);
+              given = subst Given (sym block-is) (first u e);
+            };
+            tabled = tabled;
+            carrying = record {
+              trees = bothTrees (named surfaces) words₁ words₂;
+              few = two (words-carried (named surfaces) words₁ (m .ready .accepted-first))
+                  (words-carried (named surfaces) words₂ (m .ready .accepted-second));
+              counted = loaded .counted;
+              holds = loaded .holds;
+              inside = omega (arith, loaded .long, once, m .enough);
+            };
+            room = rw all-left (omega (arith, loaded .long, m .enough));
+            bounded = omega (arith, loaded .long, m .bounded);
+          }
+
+      abbrev written : List ℕ
+      written = writtenOfTwo true u surfaces words₁ words₂
+
+      same-colours : (i : ℕ) → allColour surfaces u (bothTrees (named surfaces) words₁ words₂) (voxelAt (levels u) (wholeBlock u) i)
+          ≡ treeColour surfaces u (both s t) (voxelAt (levels u) (wholeBlock u) i)
+      same-colours i = two-stand surfaces s t .colours u (voxelAt (levels u) (wholeBlock u) i)
+
+      whole-voxels : shaped true (voxelShape (treeColour surfaces u (both s t)) (levels u) (wholeBlock u)) ≡ shaped true (raw u surfaces (both s t))
+      unfolding shaped
+      whole-voxels = sym (examined-voxels surfaces (both s t) (levels u) (wholeBlock u) (left-whole u e))
+
+      whole-shape : shapeOver whole-job ≡ shaped true (raw u surfaces (both s t))
+      unfolding whole-job
+      whole-shape =
+          ap₂ (λ (n : ℕ) (b : Block). shaped true (voxelShape (allColour surfaces u (bothTrees (named surfaces) words₁ words₂)) n b)) all-left block-is
+          ∙ shape-agree _ (treeColour surfaces u (both s t)) (levels u) (wholeBlock u) same-colours
+          ∙ whole-voxels
+
+      whole-symbols : symbols (shapeOver whole-job) ≡ written
+      unfolding writtenOfTwo
+      whole-symbols = ap symbols whole-shape
+
+      module _ {out out₁ : List ℕ} {packed : ℕ} (laid : LaidShape (shapeOver whole-job) out 0 packed out₁) where
+        pub whole-length : packed / 256 ≡ length written
+        whole-length =
+            omega (arith, unpacked 0 (shapeOver whole-job) (laid .piece) .0, length-symbols (shapeOver whole-job), ap length whole-symbols)
+
+        pub whole-noted : {out₂ : List ℕ} → out₂ ≡ noted out₁ 0 (packed % 256) → out₂ ≡ sets out 0 written
+        whole-noted f =
+            f ∙ rw (laid .room, unpacked 0 (shapeOver whole-job) (laid .piece) .1) (laid-noted out 0 (shapeOver whole-job)) ∙ ap (sets out 0) whole-symbols
