@@ -13,7 +13,7 @@ use second_opinion::boxed::{boxed_verdict, Solid};
 use second_opinion::fast::{plain_merged_fast, plain_raw_fast, plain_verdict_fast, Run};
 use second_opinion::plain::{contacts_by_blocks, joined, run_checked, Block, Hit};
 use second_opinion::scenes::{icosahedron, icosahedron_boxes, twenty, Bits, Scene, BLACK, MINUS, WHITE};
-use second_opinion::words::{words_contacts, words_ends, words_merged, words_verdict, Words};
+use second_opinion::words::{words_contacts, words_ends, words_merged, words_merged_measured, words_verdict, Words};
 use std::alloc::{alloc_zeroed, Layout};
 use std::time::Instant;
 
@@ -184,7 +184,9 @@ impl Compared {
                     && out.starts_with(symbols)
                     && out[symbols.len()..].iter().all(|byte| *byte == FILLED)
             };
-            let same = agrees(&|out| library_merged(scene, out)) && agrees(&|out| words_merged(words, out));
+            let same = agrees(&|out| library_merged(scene, out))
+                && agrees(&|out| words_merged(words, out))
+                && agrees(&|out| words_merged_measured(words, out));
             noted(&mut self.merged, same, scene, &format!("{lent} symbols lent, the merged expressions"));
         }
     }
@@ -202,7 +204,7 @@ fn agreement() -> i32 {
     let Compared { verdicts, contacts, merged } = compared;
     println!("answers: {} questions, each asked of three, {} differ", verdicts[0], verdicts[1]);
     println!("contacts: {} questions, each asked of three, {} differ", contacts[0], contacts[1]);
-    println!("merged: {} rooms, each lent to three, {} differ", merged[0], merged[1]);
+    println!("merged: {} rooms, each lent to four, {} differ", merged[0], merged[1]);
     (verdicts[1] + contacts[1] + merged[1] != 0) as i32
 }
 
@@ -273,7 +275,8 @@ fn row(bits: u64) {
     print_times(&[&others[..], &verdicts, &ends].concat(), &[verdicts[1] / verdicts[0], ends[1] / ends[0]]);
 }
 
-/// One row of the merged expression: symbols, and the times in room of the formula's size and for exactly the symbols.
+/// One row of the merged expression: symbols, and the times in room of the formula's size and for exactly the symbols,
+/// in the latter by hand in both ways.
 fn merged_row(bits: u64) {
     let scene = icosahedra(bits);
     let words = words_of(&scene);
@@ -281,18 +284,26 @@ fn merged_row(bits: u64) {
     let symbols = words_merged(&words, &mut room).expect("it fits");
     let meant = room[..symbols].to_vec();
     let mut other = lent(words.room());
-    let [formula, exact] = [room.len(), symbols].map(|lent| {
+    let formulas = room.len();
+    let mut times = |by_hand: fn(&Words, &mut [u8]) -> Result<usize, usize>, lent: usize| {
         let (out, other) = (&mut room[..lent], &mut other[..lent]);
+        out[..symbols].fill(FILLED);
+        other[..symbols].fill(FILLED);
         let times = both(
-            || assert_eq!(words_merged(&words, out), Ok(symbols)),
+            || assert_eq!(by_hand(&words, out), Ok(symbols)),
             || assert_eq!(library_merged(&scene, other), Ok(symbols)),
         );
         assert!(out[..symbols] == meant && other[..symbols] == meant, "the expressions differ");
-        other[..symbols].fill(FILLED);
         times
-    });
+    };
+    let formula = times(words_merged, formulas);
+    let [gathered, measured] = [words_merged, words_merged_measured].map(|by_hand| times(by_hand, symbols));
+    let exact = gathered[1].min(measured[1]);
     print!("| {bits} | {symbols} ");
-    print_times(&[formula, exact].concat(), &[formula[1] / formula[0], exact[1] / exact[0]]);
+    print_times(
+        &[formula[0], formula[1], gathered[0], measured[0], exact],
+        &[formula[1] / formula[0], exact / gathered[0], exact / measured[0]],
+    );
 }
 
 /// One row of sure and possible contact: the three counts, and the times.
@@ -328,8 +339,9 @@ fn main() {
     ];
     table("# Answers at once", "the whole window", &columns, row);
     let columns = [
-        "k", "symbols", "by hand, formula's room", "library, formula's room", "by hand, exact room",
-        "library, exact room", "formula's room: library / by hand", "exact room: library / by hand",
+        "k", "symbols", "by hand, formula's room", "library, formula's room", "by hand, exact room, gathered",
+        "by hand, exact room, measured first", "library, exact room", "formula's room: library / by hand",
+        "exact room: library / gathered", "exact room: library / measured first",
     ];
     table("## The merged expression by words", "both intersected", &columns, merged_row);
     let columns = ["k", "sure", "centre", "possible", "by hand", "library", "library / by hand"];
