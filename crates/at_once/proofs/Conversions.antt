@@ -1,8 +1,8 @@
--- The merged conversions: where no check refuses, the codes of both trees are loaded, and the shape that is laid of the whole universe is the merged one of
--- their raw expression. It is written at once where so much room is lent as the formula says, and else measured first, which leaves the codes' room as long.
+-- The conversions over codes: where no check refuses, the codes of both trees are loaded, and the shape that is written of the whole universe is that of
+-- their raw expression, or the merged one of it. Where it is written twice, the first time leaves the codes' room as long.
 use Prim.Native.Nat.{ℕ, suc, _+_, _*_, _/_, _%_, _^_, _≤_, _<_}
 use mathlib.Core.Path.{_≡_, refl, sym, ap, ap₂, _∙_, subst}
-use mathlib.Core.Bool.{true}
+use mathlib.Core.Bool.{Bool, true, false}
 use mathlib.Core.List.{List}
 use native.Mathlib.Omega.{arith}
 use native.Mathlib.Nat.{mul-le-mul, mul-le-mul-right}
@@ -21,7 +21,7 @@ use Rattle.bintree.specs.Walks.{noted}
 use Rattle.bintree.proofs.Shape.{length-symbols}
 use Rattle.bintree.proofs.Lays.{laid-noted}
 use Rattle.csg.specs.Surfaces.{Surfaces, named}
-use Rattle.csg.specs.Tree.{Tree, plain}
+use Rattle.csg.specs.Tree.{Tree, Plain}
 use Rattle.csg.specs.Words.{mostWords, treeOf}
 use Rattle.csg.specs.Marks.{treeColour}
 use Rattle.csg.specs.Raw.{raw, both}
@@ -38,14 +38,17 @@ use Rattle.pruned.specs.Left.{allColour}
 use Rattle.pruned.specs.Nodes.{two, mostShapes}
 use Rattle.pruned.specs.Laying.{SoundScene}
 use Rattle.pruned.proofs.Laying.{unpacked}
-use Rattle.pruned.proofs.Looked.{two-stand}
+use Rattle.pruned.specs.Looked.{examineAll}
+use Rattle.pruned.proofs.Looked.{two-stand, examine-all}
 use Rattle.pruned.proofs.Loads.{words-carried}
 use Rattle.pruned.proofs.Steps.{rows-few, balls-few}
 use Rattle.pruned.proofs.Conversions.{all-accepted}
 use Rattle.at_once.specs.Words.{Tabled}
 use Rattle.at_once.specs.Counting.{BlockJob}
 use Rattle.at_once.specs.Whole.{mostCodes, bothTrees, BothJob, BothLoaded}
-use Rattle.at_once.specs.Merged.{shapeOver, LaidShape, AtPlace, MergedReady, fewCodes, FewReady}
+use Rattle.at_once.specs.Merged.{shapeOver, LaidShape, AtPlace}
+use Rattle.at_once.specs.Raw.{rawOver, WrittenShape}
+use Rattle.at_once.specs.Conversions.{writtenOver, CodesReady, FewReady}
 use Rattle.at_once.proofs.Layings.{shape-agree}
 
 -- ---- the checks, and local room for codes
@@ -74,7 +77,7 @@ module _ {u : Universe} {surfaces : Surfaces} {words₁ words₂ : List ℕ} whe
     codes-most : (levels u + 1) * count ≤ mostCodes
     codes-most = let few : levels u + 1 ≤ suc mostLevels = omega (arith, levels-most) in mul-le-mul few words-few
 
-    pub most-ready : MergedReady u surfaces words₁ words₂ (replicate {A = ℕ} mostCodes 0)
+    pub most-ready : CodesReady u surfaces words₁ words₂ (replicate {A = ℕ} mostCodes 0)
     most-ready =
         let long = length-replicate {A = ℕ} mostCodes 0 in
         record { ready = r; enough = omega (arith, codes-most, long); bounded = omega (arith, long) }
@@ -89,15 +92,15 @@ module _ {u : Universe} {surfaces : Surfaces} {words₁ words₂ : List ℕ} whe
       pub codes-fit : (left + 1) * count < 2 ^ 64
       codes-fit = rw left-is (omega (arith, codes-most))
 
-      pub few-ready : (left + 1) * count ≤ fewCodes → FewReady u surfaces words₁ words₂
+      pub few-ready : {most : ℕ} → (left + 1) * count ≤ most → FewReady most u surfaces words₁ words₂
       few-ready h = record { ready = r; few = rw left-is at h }
 
-  pub ready-again : {codes codes′ : List ℕ} → MergedReady u surfaces words₁ words₂ codes → length codes′ ≡ length codes →
-      MergedReady u surfaces words₁ words₂ codes′
+  pub ready-again : {codes codes′ : List ℕ} → CodesReady u surfaces words₁ words₂ codes → length codes′ ≡ length codes →
+      CodesReady u surfaces words₁ words₂ codes′
   ready-again m e = record { ready = m .ready; enough = omega (arith, m .enough); bounded = omega (arith, m .bounded) }
 
 -- ---- the whole universe
-module _ {u : Universe} {surfaces : Surfaces} {words₁ words₂ codes : List ℕ} (m : MergedReady u surfaces words₁ words₂ codes) where
+module _ {u : Universe} {surfaces : Surfaces} {words₁ words₂ codes : List ℕ} (m : CodesReady u surfaces words₁ words₂ codes) where
   abbrev e : universeRefusal u ≡ 0
   e = m .ready .accepted-universe
 
@@ -168,10 +171,10 @@ module _ {u : Universe} {surfaces : Surfaces} {words₁ words₂ codes : List �
             bounded = omega (arith, loaded .long, m .bounded);
           }
 
-      abbrev written : List ℕ
-      written = writtenOfTwo true u surfaces words₁ words₂
+      abbrev trees : List Plain
+      trees = bothTrees (named surfaces) words₁ words₂
 
-      same-colours : (i : ℕ) → allColour surfaces u (bothTrees (named surfaces) words₁ words₂) (voxelAt (levels u) (wholeBlock u) i)
+      same-colours : (i : ℕ) → allColour surfaces u trees (voxelAt (levels u) (wholeBlock u) i)
           ≡ treeColour surfaces u (both s t) (voxelAt (levels u) (wholeBlock u) i)
       same-colours i = two-stand surfaces s t .colours u (voxelAt (levels u) (wholeBlock u) i)
 
@@ -179,22 +182,47 @@ module _ {u : Universe} {surfaces : Surfaces} {words₁ words₂ codes : List �
       unfolding shaped
       whole-voxels = sym (examined-voxels surfaces (both s t) (levels u) (wholeBlock u) (left-whole u e))
 
-      whole-shape : shapeOver whole-job ≡ shaped true (raw u surfaces (both s t))
+      whole-merged : shapeOver whole-job ≡ shaped true (raw u surfaces (both s t))
       unfolding whole-job
-      whole-shape =
-          ap₂ (λ (n : ℕ) (b : Block). shaped true (voxelShape (allColour surfaces u (bothTrees (named surfaces) words₁ words₂)) n b)) all-left block-is
+      whole-merged =
+          ap₂ (λ (n : ℕ) (b : Block). shaped true (voxelShape (allColour surfaces u trees) n b)) all-left block-is
           ∙ shape-agree _ (treeColour surfaces u (both s t)) (levels u) (wholeBlock u) same-colours
           ∙ whole-voxels
 
-      whole-symbols : symbols (shapeOver whole-job) ≡ written
-      unfolding writtenOfTwo
-      whole-symbols = ap symbols whole-shape
+      whole-raw : rawOver whole-job ≡ shaped false (raw u surfaces (both s t))
+      unfolding whole-job shaped
+      whole-raw =
+          ap₂ (λ (n : ℕ) (b : Block). examineAll surfaces trees n b) all-left block-is ∙ examine-all (two-stand surfaces s t) (levels u) (wholeBlock u)
 
-      module _ {out out₁ : List ℕ} {packed : ℕ} (laid : LaidShape (shapeOver whole-job) out 0 packed out₁) where
-        pub whole-length : packed / 256 ≡ length written
-        whole-length =
-            omega (arith, unpacked 0 (shapeOver whole-job) (laid .piece) .0, length-symbols (shapeOver whole-job), ap length whole-symbols)
+      whole-shape : (merging : Bool) → writtenOver merging whole-job ≡ shaped merging (raw u surfaces (both s t))
+      whole-shape true = whole-merged
+      whole-shape false = whole-raw
 
-        pub whole-noted : {out₂ : List ℕ} → out₂ ≡ noted out₁ 0 (packed % 256) → out₂ ≡ sets out 0 written
-        whole-noted f =
-            f ∙ rw (laid .room, unpacked 0 (shapeOver whole-job) (laid .piece) .1) (laid-noted out 0 (shapeOver whole-job)) ∙ ap (sets out 0) whole-symbols
+      module _ (merging : Bool) where
+        whole-symbols : symbols (writtenOver merging whole-job) ≡ writtenOfTwo merging u surfaces words₁ words₂
+        unfolding writtenOfTwo
+        whole-symbols = ap symbols (whole-shape merging)
+
+        pub whole-written : {out out′ : List ℕ} {end : ℕ} → WrittenShape (writtenOver merging whole-job) out 0 end out′ →
+            (end ≡ length (writtenOfTwo merging u surfaces words₁ words₂)) × (out′ ≡ sets out 0 (writtenOfTwo merging u surfaces words₁ words₂))
+        whole-written {out} w = (
+          omega (arith, w .ends, length-symbols (writtenOver merging whole-job), ap length whole-symbols),
+          w .room ∙ ap (sets out 0) whole-symbols,
+        )
+
+-- ---- a block from the front of the room on
+module _ {surfaces : Surfaces} {axes : ℕ} {table lengths low side : List ℕ} {left : ℕ} {codes : List ℕ} {from count times : ℕ}
+    (job : BlockJob surfaces axes table lengths low side left codes from count times) {merging : Bool} {out out₁ : List ℕ} where
+  -- merged, and the leaf that may have been held back is written
+  pub merged-written : merging ≡ true → {packed : ℕ} {out₂ : List ℕ} → LaidShape (shapeOver job) out 0 packed out₁ → out₂ ≡ noted out₁ 0 (packed % 256) →
+      WrittenShape (writtenOver merging job) out 0 (packed / 256) out₂
+  merged-written m {packed} {out₂} laid f =
+      let w : WrittenShape (shapeOver job) out 0 (packed / 256) out₂ =
+      record {
+        ends = unpacked 0 (shapeOver job) (laid .piece) .0;
+        room = f ∙ rw (laid .room, unpacked 0 (shapeOver job) (laid .piece) .1) (laid-noted out 0 (shapeOver job));
+      } in
+      subst (λ (b : Bool). WrittenShape (writtenOver b job) out 0 (packed / 256) out₂) (sym m) w
+
+  pub raw-written : merging ≡ false → {end : ℕ} → WrittenShape (rawOver job) out 0 end out₁ → WrittenShape (writtenOver merging job) out 0 end out₁
+  raw-written m {end} w = subst (λ (b : Bool). WrittenShape (writtenOver b job) out 0 end out₁) (sym m) w

@@ -41,7 +41,7 @@ use Rattle.masks.proofs.Contacts.{contact-eq, contact-halves, contact-none, con
 use Rattle.masks.proofs.OneColour.{white-contact, black-contact}
 use Rattle.at_once.specs.Words.{wordLevels}
 use Rattle.at_once.specs.Pruning.{PrunedCodes}
-use Rattle.at_once.specs.Counting.{BlockJob, coloursOf, contactOver, endOver, CountJob, WordJob, PutBack, joinedContact}
+use Rattle.at_once.specs.Counting.{BlockJob, coloursOf, contactOver, endOver, CountJob, PutBack, joinedContact}
 use Rattle.at_once.specs.Counting.{BlackFrames, blackVoxels}
 use Rattle.at_once.proofs.Jobs.{frame-is, wide-is, frames-end, leftover, each-is, begin-is, end-is, prune-job, decided-white, decided-black, left-job}
 use Rattle.at_once.proofs.Jobs.{left-colours, left-suc, lower-block, upper-block, lower-job, lower-at}
@@ -241,12 +241,6 @@ module _ {surfaces : Surfaces} {axes : ℕ} {table lengths low side : List ℕ} 
           PutBack (from + count) low side codes low′ side′ codes″
       opened-back p =
           record { lows = p .lows; sides = p .sides; below = same-then (below-same job h pruned) (same-below (omega arith) (p .below)) }
-
--- ---- a block that a word has room for
-module _ {surfaces : Surfaces} {axes : ℕ} {table lengths low side : List ℕ} {left : ℕ} {codes : List ℕ} {from count : ℕ} where
-  pub word-job : BlockJob surfaces axes table lengths low side left codes from count (left + 1) → left ≤ wordLevels →
-      WordJob surfaces axes table lengths low left codes from count
-  word-job job h = record { side = side; block = job; few = h }
 
 -- ---- both halves
 module _ {surfaces : Surfaces} {axes : ℕ} {table lengths low side : List ℕ} {left : ℕ} {codes : List ℕ} {from count : ℕ} {first last : ℕ} {k : Contact}

@@ -15,7 +15,7 @@ use mir.ValLaws.{toZ-ofZ}
 use Rattle.lemmas.specs.Sums.{sum, total}
 use Rattle.lemmas.proofs.Sums.{sum-cong, sum-mono, sum-add, sum-zero, sum-same}
 use Rattle.lemmas.proofs.Totals.{total-is}
-use Rattle.lemmas.proofs.Whole.{up, dn, Is, one-part, is-nat, is-self, is-add, is-sub, is-scale, is-le, is-lt, le-is, lt-is, le-out, lt-out}
+use Rattle.lemmas.proofs.Whole.{up, dn, Is, one-part, is-nat, is-self, is-add, is-sub, is-scale, is-le, is-lt, is-eq, le-is, lt-is, le-out, lt-out}
 use Rattle.lemmas.proofs.Whole.{leZ-true, leZ-false, ltZ-true, ltZ-false, le-leZ, lt-leZ, ι, ν, _⊕_, eq-by}
 use Rattle.lemmas.proofs.Machine.{natAbs-parts, Near, near, near-add, near-sub, near-back, near-call, near-fits}
 use Rattle.pruned.proofs.Moving.{held}
@@ -127,12 +127,6 @@ module _ {s : ℤ} (fits : SFits w64 s) where
   pub falls-whole : leZ (pos 0) (held s) ≡ false → held s ≡ fallOf s
   falls-whole e = toZ-ofZ w64 s fits ∙ sym (ap (λ (t : Bool). cond t (pos 0) s) (test-is e))
 
-  pub rises-whole : leZ (pos 0) (held s) ≡ true → held s ≡ riseOf s
-  rises-whole e = toZ-ofZ w64 s fits ∙ sym (ap (λ (t : Bool). cond t s (pos 0)) (test-is e))
-
-  pub rises-nothing : leZ (pos 0) (held s) ≡ false → pos 0 ≡ riseOf s
-  rises-nothing e = sym (ap (λ (t : Bool). cond t s (pos 0)) (test-is e))
-
 -- a part of each of six steps, added up
 pub record PartOf (g : ℤ → ℤ) : Type 0 where
   pub less : (s : ℤ) → natAbs (g s) ≤ natAbs s
@@ -144,12 +138,8 @@ fall-part = record {
       (λ z. omega (arith, fall-is s .is, natAbs-parts (fallOf s), natAbs-parts s));
 }
 
-pub rise-part : PartOf riseOf
-rise-part = record {
-  less = λ s. one-part (riseOf s) (natAbs (riseOf s) ≤ natAbs s)
-      (λ z. omega (arith, rise-is s .is, natAbs-parts (riseOf s), natAbs-parts s))
-      (λ z. omega (arith, rise-is s .is, natAbs-parts (riseOf s), natAbs-parts s));
-}
+pub step-part : PartOf (λ s. s)
+step-part = record { less = λ s. omega arith }
 
 module _ {steps : List ℤ} (small : SmallSteps steps) {g : ℤ → ℤ} (part : PartOf g) where
   abbrev at : ℕ → ℤ
@@ -214,6 +204,54 @@ module _ {steps : List ℤ} (small : SmallSteps steps) {g : ℤ → ℤ} (part :
         from : (a b c d e f : ℤ) → a +ℤ b +ℤ c +ℤ d +ℤ e +ℤ f ≡ pos 0 +ℤ a +ℤ b +ℤ c +ℤ d +ℤ e +ℤ f
         from a b c d e f = eq-by (ι a ⊕ ι b ⊕ ι c ⊕ ι d ⊕ ι e ⊕ ι f) (ν 0 ⊕ ι a ⊕ ι b ⊕ ι c ⊕ ι d ⊕ ι e ⊕ ι f) (omega arith)
 
+-- what rises is all steps less what falls
+module _ {steps : List ℤ} (small : SmallSteps steps) where
+  pub step-same : (j : ℕ) → stepAt steps j ≡ held (stepAt steps j)
+  step-same j = sym (near {x = stepAt steps j} (record { most = small .step j }) tt .same)
+
+  abbrev allSteps : ℤ
+  allSteps = total wordLevels (stepAt steps)
+
+  abbrev allFalls : ℤ
+  allFalls = total wordLevels (fallAt steps)
+
+  steps-are : Is allSteps (sum wordLevels (λ j. up (stepAt steps j))) (sum wordLevels (λ j. dn (stepAt steps j)))
+  steps-are = total-is wordLevels (stepAt steps) (λ j. up (stepAt steps j)) (λ j. dn (stepAt steps j)) (λ j l. is-self (stepAt steps j))
+
+  sizes-few : sizesOf wordLevels (stepAt steps) ≤ 6 * stepLimit
+  sizes-few =
+      let e = sum-mono wordLevels (λ j. natAbs (stepAt steps j)) (λ j. stepLimit) (λ j l. small .step j) in
+      omega (arith, e, sum-same wordLevels stepLimit)
+
+  all-near-steps : {x : ℤ} → x ≡ allSteps → Near x allSteps (6 * stepLimit)
+  all-near-steps e = record {
+    same = e;
+    size = one-part allSteps (natAbs allSteps ≤ 6 * stepLimit)
+        (λ z. omega (arith, steps-are .is, natAbs-parts allSteps, sizes-few, sizes-are wordLevels (stepAt steps)))
+        (λ z. omega (arith, steps-are .is, natAbs-parts allSteps, sizes-few, sizes-are wordLevels (stepAt steps)));
+  }
+
+  pub all-near-falls : {t : ℤ} → t ≡ allFalls → Near (held t) allFalls (6 * stepLimit)
+  all-near-falls e =
+      near-call {x = allFalls} e (record {
+        same = refl;
+        size = one-part allFalls (natAbs allFalls ≤ 6 * stepLimit)
+            (λ z. omega (arith, falls-are wordLevels (stepAt steps) .is, natAbs-parts allFalls, sizes-few, sizes-are wordLevels (stepAt steps)))
+            (λ z. omega (arith, falls-are wordLevels (stepAt steps) .is, natAbs-parts allFalls, sizes-few, sizes-are wordLevels (stepAt steps)));
+      }) tt
+
+  module _ {x t : ℤ} (e : x ≡ allSteps) (f : t ≡ allFalls) where
+    rest-near : Near (x -ℤ held t) (allSteps -ℤ allFalls) (12 * stepLimit)
+    rest-near = near-sub {x = allSteps} {y = allFalls} (all-near-steps e) (all-near-falls f)
+
+    pub rest-fits : SFits w64 (x -ℤ held t)
+    rest-fits = near-fits {x = allSteps -ℤ allFalls} rest-near tt
+
+    pub rest-is : held (x -ℤ held t) ≡ total wordLevels (riseAt steps)
+    rest-is =
+        near-back {x = allSteps -ℤ allFalls} rest-near tt .same
+        ∙ is-eq (is-sub steps-are (falls-are wordLevels (stepAt steps))) (rises-are wordLevels (stepAt steps)) (omega arith)
+
 -- ---- a value and its steps
 module _ {v : ℤ} {steps : List ℤ} (ready : RowReady 6 v steps) where
   abbrev down₆ : ℤ
@@ -225,30 +263,19 @@ module _ {v : ℤ} {steps : List ℤ} (ready : RowReady 6 v steps) where
   pub small-steps : SmallSteps steps
   small-steps = record { step = ready .step }
 
-  all-few : sizesOf wordLevels (stepAt steps) ≤ 6 * stepLimit
-  all-few =
-      let e = sum-mono wordLevels (λ j. natAbs (stepAt steps j)) (λ j. stepLimit) (λ j l. ready .step j) in
-      omega (arith, e, sum-same wordLevels stepLimit)
-
   value-near : Near (held v) v valueLimit
   value-near = near {x = v} (record { most = omega (arith, ready .value) }) tt
 
   down-near : {t : ℤ} → t ≡ down₆ → Near (held t) down₆ (6 * stepLimit)
-  down-near e =
-      near-call {x = down₆} e (record {
-        same = refl;
-        size = one-part down₆ (natAbs down₆ ≤ 6 * stepLimit)
-            (λ z. omega (arith, falls-are wordLevels (stepAt steps) .is, natAbs-parts down₆, all-few, sizes-are wordLevels (stepAt steps)))
-            (λ z. omega (arith, falls-are wordLevels (stepAt steps) .is, natAbs-parts down₆, all-few, sizes-are wordLevels (stepAt steps)));
-      }) tt
+  down-near = all-near-falls small-steps
 
   up-near : {t : ℤ} → t ≡ up₆ → Near (held t) up₆ (6 * stepLimit)
   up-near e =
       near-call {x = up₆} e (record {
         same = refl;
         size = one-part up₆ (natAbs up₆ ≤ 6 * stepLimit)
-            (λ z. omega (arith, rises-are wordLevels (stepAt steps) .is, natAbs-parts up₆, all-few, sizes-are wordLevels (stepAt steps)))
-            (λ z. omega (arith, rises-are wordLevels (stepAt steps) .is, natAbs-parts up₆, all-few, sizes-are wordLevels (stepAt steps)));
+            (λ z. omega (arith, rises-are wordLevels (stepAt steps) .is, natAbs-parts up₆, sizes-few small-steps, sizes-are wordLevels (stepAt steps)))
+            (λ z. omega (arith, rises-are wordLevels (stepAt steps) .is, natAbs-parts up₆, sizes-few small-steps, sizes-are wordLevels (stepAt steps)));
       }) tt
 
   pub same-ready : RowReady 6 (held v) steps
@@ -258,7 +285,7 @@ module _ {v : ℤ} {steps : List ℤ} (ready : RowReady 6 v steps) where
   as-held e = e ∙ ap (λ (z : ℤ). rowMask z (stepAt steps) 6) (value-near .same)
 
   module _ {t : ℤ} (e : t ≡ down₆) where
-    least-near : Near (held v +ℤ held t) (v +ℤ down₆) (valueLimit + 6 * stepLimit)
+    pub least-near : Near (held v +ℤ held t) (v +ℤ down₆) (valueLimit + 6 * stepLimit)
     least-near = near-add {x = v} {y = down₆} value-near (down-near e)
 
     pub least-fits : SFits w64 (held v +ℤ held t)
@@ -271,7 +298,7 @@ module _ {v : ℤ} {steps : List ℤ} (ready : RowReady 6 v steps) where
     ones-are k = sym (all-black 6 (stepAt steps) v (leZ-true (pos 0) _ (ap (leZ (pos 0)) (sym least-is) ∙ k)))
 
     module _ {r : ℤ} (f : r ≡ up₆) where
-      greatest-near : Near (held v +ℤ held r) (v +ℤ up₆) (valueLimit + 6 * stepLimit)
+      pub greatest-near : Near (held v +ℤ held r) (v +ℤ up₆) (valueLimit + 6 * stepLimit)
       greatest-near = near-add {x = v} {y = up₆} value-near (up-near f)
 
       pub greatest-fits : SFits w64 (held v +ℤ held r)

@@ -207,12 +207,6 @@ module _ {surfaces : Surfaces} {axes : ℕ} {table lengths low side : List ℕ} 
   unfolding trees-job trees-block
   trees-are h f = f (trees-job h)
 
-  pub window-are : (h : left ≤ wordLevels) (first last : ℕ) {r : ℕ} →
-      ((j : Halvings (axes - 1) table lengths left) → r ≡ windowMask first last (j .universe) left (getD low (axes - 1) 0)) →
-      r ≡ windowMask first last u left (getD low (axes - 1) 0)
-  unfolding halvings
-  window-are h first last f = f (halvings h)
-
   pub frames-are : (h : left ≤ wordLevels) (first last : ℕ) {r : ℕ} →
       ((j : Framed (axes - 1) table lengths left (getD low (axes - 1) 0) (getD side (axes - 1) 0)) →
       r ≡ windowMask first last (j .halvings .universe) left (getD low (axes - 1) 0)) →
@@ -224,11 +218,6 @@ module _ {surfaces : Surfaces} {axes : ℕ} {table lengths low side : List ℕ} 
       ((j : Halvings (axes - 1) table lengths left) → r ≡ maskEnd backward (j .universe) left word) → r ≡ maskEnd backward u left word
   unfolding halvings
   end-are h backward word f = f (halvings h)
-
-  pub frames-fit : left ≤ wordLevels → getD low (axes - 1) 0 + left * longestSide < 2 ^ 64
-  frames-fit h =
-      let k : left * longestSide ≤ wordLevels * longestSide = mul-le-mul-right longestSide h in
-      omega (arith, frames-end)
 
   -- ---- what is left of the trees, over the block and behind them
   unfoldable pub prune-job : 2 ≤ times → PruneJob surfaces axes low side codes from count

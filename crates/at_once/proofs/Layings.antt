@@ -1,5 +1,5 @@
--- What laying meets at a block: the shape of its voxels, merged, is that of its word, one leaf where the trees are decided over it, and else its halves' joined.
--- It depends on the voxels' colours alone, and what is left of the trees over the block has them.
+-- What laying meets at a block: the shape of its voxels, merged, is that of its word, one leaf where the trees are decided over it, and else that of its halves
+-- joined. It depends on the voxels' colours alone, and what is left of the trees over the block has them.
 use Prim.Native.Nat.{ℕ, zero, suc, _+_, _*_, _-_, _/_, _%_, _^_, _≤_, _<_}
 use mathlib.Core.Path.{_≡_, refl, sym, ap, ap₂, _∙_, subst}
 use mathlib.Core.Bool.{Bool, true, false}
@@ -58,7 +58,7 @@ pub shape-agree : (c d : Colouring) (n : ℕ) (b : Block) → ((i : ℕ) → c (
 shape-agree c d n b h = mask-shape c n b ∙ ap (maskShape n) (mask-agree c d n b (λ i l. h i)) ∙ sym (mask-shape d n b)
 
 -- ---- a mark's bits that are not 0
-closed-bits : (m : Mark) {mark : ℕ} → mark ≡ bitsOf m → (mark ≡ 0 → ⊥) → (c : Colour) × (m ≡ decided c) × (symbolOfBits mark ≡ symbolOf c)
+pub closed-bits : (m : Mark) {mark : ℕ} → mark ≡ bitsOf m → (mark ≡ 0 → ⊥) → (c : Colour) × (m ≡ decided c) × (symbolOfBits mark ≡ symbolOf c)
 closed-bits (decided White) e k = (White, refl, rw e)
 closed-bits (decided Black) e k = (Black, refl, rw e)
 closed-bits undecided e k = absurd (k e)

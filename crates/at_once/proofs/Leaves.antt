@@ -5,13 +5,13 @@ use mathlib.Core.Path.{_≡_, refl, sym, ap, ap₂, _∙_}
 use mathlib.Core.Bool.{Bool, true, false, cond, false≢true, _&&_}
 use mathlib.Core.List.{List}
 use native.Mathlib.Omega.{arith}
-use borrow.Author.Tests.{leb-true, le-ltb}
+use borrow.Author.Tests.{leb-true, ltb-true, ltb-false, le-leb, le-ltb}
 use lib.Dec.{eqb, leb, ltb}
 use lib.IntN.{ℤ, pos, natAbs}
 use lib.Signed.{leZ}
 use lib.ListN.{length}
 use Rattle.lemmas.specs.Sums.{every}
-use Rattle.lemmas.proofs.Sums.{and-right, every-all}
+use Rattle.lemmas.proofs.Sums.{and-left, and-right, every-all}
 use Rattle.lemmas.proofs.Whole.{is-self, is-nat, is-eq}
 use Rattle.lemmas.proofs.Machine.{natAbs-parts}
 use Rattle.universe.specs.declared.Universe.{Universe}
@@ -31,7 +31,7 @@ use Rattle.pruned.proofs.Moving.{held, block-code}
 use Rattle.pruned.proofs.Steps.{ok, rows-few, rows-small, standing-small, stepping, step-same}
 use Rattle.pruned.proofs.Leaves.{row-leaf, white-told, black-told, row-told, ball-asks, ball-told}
 use Rattle.at_once.specs.Codes.{blockAt}
-use Rattle.at_once.specs.Values.{RowOver, RowFound}
+use Rattle.at_once.specs.Values.{isRowSide, RowOver, RowFound}
 use Rattle.at_once.specs.Pruning.{marksOver, LeafJob, LeafJudged}
 
 -- ---- a row that is not refused has coefficient 0 along an axis that the universe lacks
@@ -66,6 +66,16 @@ module _ {surfaces : Surfaces} {axes : ℕ} {low side : List ℕ} {code : ℕ} (
   few : rowCount (surfaces .rows) ≤ mostRows
   few = rows-few (job .at .universe) (surfaces .rows) (job .at .scene .accepted-rows)
 
+  -- which leaf it is, by the tests
+  pub from-row : isRowSide code ≡ true → 512 ≤ code
+  from-row e = leb-true 512 code (and-left (leb 512 code) (ltb code firstBallSide) e)
+
+  pub upto-ball : isRowSide code ≡ true → code < firstBallSide
+  upto-ball e = ltb-true code firstBallSide (and-right (leb 512 code) (ltb code firstBallSide) e)
+
+  pub from-ball : isRowSide code ≡ false → 512 ≤ code → firstBallSide ≤ code
+  from-ball e l = ltb-false code firstBallSide (sym (ap (λ (t : Bool). t && ltb code firstBallSide) (le-leb 512 code l)) ∙ e)
+
   pub white-judged : code ≡ 0 → LeafJudged job 2
   unfolding step-same stepping
   white-judged e = record { judged = white-told step (job .tree) (job .leaf) (job .stands) (job .code-is) refl refl e .0 }
@@ -80,20 +90,20 @@ module _ {surfaces : Surfaces} {axes : ℕ} {low side : List ℕ} {code : ℕ} (
         × (job .leaf ≡ ofSide turned (halfspace i)) × ((nodeCode (job .leaf) - 512) / 2 ≡ i) × (eqb (nodeCode (job .leaf) % 2) 1 ≡ turned)
     found = row-leaf few (job .stands) (rw (job .code-is) at from) (rw (job .code-is) at upto)
 
-    index-is : (code - 512) / 2 ≡ found .1
-    index-is = ap (λ (k : ℕ). (k - 512) / 2) (job .code-is) ∙ found .5
+    index-is : code / 2 - 256 ≡ found .1
+    index-is = let e : code / 2 - 256 ≡ (code - 512) / 2 = omega arith in e ∙ ap (λ (k : ℕ). (k - 512) / 2) (job .code-is) ∙ found .5
 
-    there : (code - 512) / 2 < rowCount (surfaces .rows)
+    there : code / 2 - 256 < rowCount (surfaces .rows)
     there = rw index-is (found .2)
 
-    pub row-over : RowOver (surfaces .rows) ((code - 512) / 2) low side
+    pub row-over : RowOver (surfaces .rows) (code / 2 - 256) low side
     row-over =
         record {
           block = b;
           named = there;
-          small = rows-small (job .at .scene) ((code - 512) / 2) there;
+          small = rows-small (job .at .scene) (code / 2 - 256) there;
           few-axes = ok (job .at .scene) .few-axes;
-          beyond = beyond-axes (job .at .universe) (surfaces .rows) (job .at .scene .accepted-rows) ((code - 512) / 2) there;
+          beyond = beyond-axes (job .at .universe) (surfaces .rows) (job .at .scene .accepted-rows) (code / 2 - 256) there;
           begins = λ j m. refl;
           along = job .at .standing .along;
           places = job .at .standing .inside;
@@ -111,8 +121,8 @@ module _ {surfaces : Surfaces} {axes : ℕ} {low side : List ℕ} {code : ℕ} (
       unfolding row-over
       small =
           rw (v .least-is, v .greatest-is)
-          (standing-small (ok (job .at .scene) .few-axes) (job .at .standing) (rowAt (surfaces .rows) ((code - 512) / 2))
-          (rows-small (job .at .scene) ((code - 512) / 2) there))
+          (standing-small (ok (job .at .scene) .few-axes) (job .at .standing) (rowAt (surfaces .rows) (code / 2 - 256))
+          (rows-small (job .at .scene) (code / 2 - 256) there))
 
       values : (x ≡ leastOf surfaces b (job .leaf)) × (y ≡ greatestOf surfaces b (job .leaf))
       unfolding row-over
@@ -121,11 +131,10 @@ module _ {surfaces : Surfaces} {axes : ℕ} {low side : List ℕ} {code : ℕ} (
         v .greatest-is ∙ ap (λ (k : ℕ). greatest (rowAt (surfaces .rows) k) b) index-is ∙ ap (greatestOf surfaces b) (sym (found .4)),
       )
 
-      pub row-judged : {bits judged : ℕ} {turned : Bool} → bits ≡ testedCode (leZ (pos 0) (held x)) (leZ (held y) (pos 0)) → turned ≡ eqb (code % 2) 1 →
-          judged ≡ turnedCode turned bits → LeafJudged job judged
-      row-judged p q r =
-          let k = p ∙ block-code (small .0) (small .1) refl refl refl ∙ ap₂ (valueCode false) (values .0) (values .1) in
-          record { judged = r ∙ ap₂ turnedCode q k ∙ own }
+      pub row-judged : {judged : ℕ} → judged ≡ turnedCode (eqb (code % 2) 1) (testedCode (leZ (pos 0) (held x)) (leZ (held y) (pos 0))) → LeafJudged job judged
+      row-judged r =
+          let k = block-code (small .0) (small .1) refl refl refl ∙ ap₂ (valueCode false) (values .0) (values .1) in
+          record { judged = r ∙ ap (turnedCode (eqb (code % 2) 1)) k ∙ own }
 
   -- a ball
   module _ (from : firstBallSide ≤ code) where

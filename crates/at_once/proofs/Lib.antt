@@ -23,6 +23,7 @@ pub mod OwnValues
 pub mod OwnBalls
 pub mod OwnRows
 pub mod OwnLeaves
+pub mod Threes
 pub mod Jobs
 pub mod Counting
 pub mod Betters
@@ -33,4 +34,6 @@ pub mod WholeTallies
 pub mod Checks
 pub mod Texts
 pub mod Layings
+pub mod Voxels
+pub mod Raws
 pub mod Conversions

@@ -94,7 +94,8 @@ module _ {places : ℕ} {table lengths : List ℕ} {left : ℕ} {offs : List ℤ
           boolByte (leZ (toZ w64 n) (held most)) ≡ blockMask colours left b
       own-voxel e {n} p =
           byte-count (leZ (toZ w64 n) (held most))
-          ∙ ap₂ (λ (x y : ℤ). count (leZ x y)) (toZ-pos w64 n (omega (arith, squares-few offs-ready possible)) ∙ ap pos (p ∙ squares-first)) (toZ-ofZ w64 most f ∙ over .most-is)
+          ∙ ap₂ (λ (x y : ℤ). count (leZ x y)) (toZ-pos w64 n (omega (arith, squares-few offs-ready possible)) ∙ ap pos (p ∙ squares-first))
+          (toZ-ofZ w64 most f ∙ over .most-is)
           ∙ sym (own-ball-voxel possible (over .ball) b)
           ∙ ap (λ (n : ℕ). blockMask colours n b) (sym e)
 
@@ -143,7 +144,8 @@ module _ {places : ℕ} {table lengths : List ℕ} {left : ℕ} {offs : List ℤ
             high-is : v ≡ blockMask colours (left - 1) (high b)
             unfolding own-high
             high-is =
-                q ∙ ap₂ (λ (x : Block) (y : Ball). blockMask (ownBall possible (x .universe) y) (left - 1) x) (high-is-of over f k l .0) (high-is-of over f k l .1)
+                q ∙ ap₂ (λ (x : Block) (y : Ball). blockMask (ownBall possible (x .universe) y) (left - 1) x)
+                (high-is-of over f k l .0) (high-is-of over f k l .1)
 
             pub own-high-fits : v < 2 ^ 2 ^ (left - 1)
             own-high-fits = rw high-is (mask-fits colours (left - 1) (high b))

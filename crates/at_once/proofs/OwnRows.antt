@@ -10,6 +10,7 @@ use mir.Syntax.{w64}
 use mir.Val.{SFits}
 use Rattle.lemmas.specs.Sums.{sum}
 use Rattle.lemmas.proofs.Sums.{below}
+use Rattle.lemmas.proofs.Whole.{ι, ν, _⊕_, ⊝, le-by}
 use Rattle.lemmas.proofs.Machine.{Near, near-add, near-back, near-call, near-fits, size-neg}
 use Rattle.universe.specs.declared.Universe.{Universe}
 use Rattle.universe.specs.Universe.{mostAxes, coefficientLimit}
@@ -21,9 +22,11 @@ use Rattle.masks.specs.Leaves.{valueLimit, rowStep, rowMask}
 use Rattle.masks.specs.Own.{ownSurface, reach, reached}
 use Rattle.masks.proofs.Limits.{reached-few}
 use Rattle.masks.proofs.Own.{own-halfspace}
+use Rattle.at_once.specs.declared.three.Three.{Three}
+use Rattle.at_once.specs.Own.{ThreeReady, ThreeMasks, SurfaceThree}
 use Rattle.at_once.specs.Words.{wordLevels, WordBlock, wordBlock, stepAt, RowReady, firstValue, StepsOf}
 use Rattle.at_once.proofs.RowValues.{no-coefficient}
-use Rattle.at_once.proofs.WordBlocks.{taken, levels-left, first-voxel, row-named, within, value-near, row-ready, steps-same}
+use Rattle.at_once.proofs.WordBlocks.{taken, levels-left, first-voxel, row-named, within, value-near, row-ready, steps-same, row-gives}
 use Rattle.at_once.proofs.OwnValues.{reach-small}
 
 -- the axes that a universe lacks are reached by nothing
@@ -90,3 +93,32 @@ module _ {surfaces : Surfaces} {axes : ℕ} {table lengths low : List ℕ} {left
         ∙ ap (λ (z : ℤ). rowMask z (stepAt steps) left) moved-is
         ∙ steps-same w i l e s moved
         ∙ sym (own-halfspace possible surfaces i left (wordBlock w) (levels-left w))
+
+  -- all three
+  module _ {v : ℤ} (e : v ≡ firstValue h low) {steps : List ℤ} (s : StepsOf h table lengths steps) {n : ℕ} (q : n ≡ reach mostAxes h)
+      {less : ℤ} (p : less ≡ reached false n) {more : ℤ} (k : more ≡ reached true n) where
+    abbrev lowest : ℤ
+    lowest = held (held v +ℤ held less)
+
+    abbrev highest : ℤ
+    highest = held (held v +ℤ held more)
+
+    pub three-ready : ThreeReady lowest (held v) highest steps
+    three-ready =
+        let c = centreValue u h low in
+        let m = reach (u .axes) h in
+        record {
+          sure = moved-ready false e s q p;
+          centre = row-ready w i l e s;
+          possible = moved-ready true e s q k;
+          under = rw (moved-is false e s q p, value-near w i l e s .same) (le-by (ι c ⊕ ⊝ (ν m)) (ι c) (omega arith));
+          over = rw (moved-is true e s q k, value-near w i l e s .same) (le-by (ι c) (ι c ⊕ ν (m - 1)) (omega arith));
+        }
+
+    pub three-row-gives : {words : Three} → ThreeMasks lowest (held v) highest steps left words → SurfaceThree surfaces u (halfspace i) left (wordBlock w) words
+    three-row-gives t =
+        record {
+          sure = own-row-gives false e s q p (t .sure);
+          centre = row-gives w i l e s (t .centre);
+          possible = own-row-gives true e s q k (t .possible);
+        }

@@ -311,20 +311,51 @@ module _ {v : ℤ} {steps : List ℤ} (small : FewValues v steps) where
   pub few-steps : FewSteps steps
   few-steps = record { few = λ j l. omega (arith, sum-part wordLevels (λ i. natAbs (stepAt steps i)) j l, small .few) }
 
-  module _ {both : List ℤ} (twice : TwiceSteps steps both) where
-    unfoldable pub whole-pair : PairReady 5 (held whole) both
+  pub whole-is : held whole ≡ paired v (v +ℤ s₅)
+  whole-is = near-back {x = paired v (v +ℤ s₅)} whole-near tt .same
+
+  pub few-held : FewValues (held v) steps
+  few-held = rw (v-near .same) small
+
+  pub pair-held : {r : ℤ} → r ≡ paired v (v +ℤ s₅) → held r ≡ paired v (v +ℤ s₅)
+  pair-held e =
+      ap (λ (z : ℤ). held z) e
+      ∙ near {x = paired v (v +ℤ s₅)} (record {
+        most = pair-size v (v +ℤ s₅) (omega (arith, six-apart)) (omega (arith, size-add v s₅, six-apart));
+      }) tt .same
+
+  module _ {both : List ℤ} (twice : TwiceSteps steps both) {pair : ℤ} (e : pair ≡ paired v (v +ℤ s₅)) where
+    unfoldable pub whole-pair : PairReady 5 pair both
     unfolding sum
     whole-pair = record {
       first = v;
       second = v +ℤ s₅;
       step = stepAt steps;
-      pair-is = near-back {x = paired v (v +ℤ s₅)} whole-near tt .same;
+      pair-is = e;
       steps-are = twice .twice;
       few-first = omega (arith, six-apart);
       few-second = omega (arith, size-add v s₅, six-apart);
     }
 
-    pub pairs-are : {r : ℕ} → ((j : PairReady 5 (held whole) both) → r ≡ rowMask (j .second) (j .step) 5 * 2 ^ 32 + rowMask (j .first) (j .step) 5) →
+    pub pairs-are : {r : ℕ} → ((j : PairReady 5 pair both) → r ≡ rowMask (j .second) (j .step) 5 * 2 ^ 32 + rowMask (j .first) (j .step) 5) →
         r ≡ rowMask v (stepAt steps) 6
     unfolding whole-pair
     pairs-are f = f whole-pair ∙ sym (row-mask-halves v (stepAt steps) 5)
+
+    -- the same by both halves of the pairs
+    pub end-fits : SFits w64 (held pair +ℤ held (stepAt both 4))
+    end-fits = pair-fits 4 (lit< tt) whole-pair
+
+    pub low-half : PairReady 4 (held pair) both
+    low-half = low-pair 4 (lit< tt) whole-pair
+
+    pub high-half : PairReady 4 (held (held pair +ℤ held (stepAt both 4))) both
+    high-half = high-pair 4 (lit< tt) whole-pair
+
+    pub halves-are : {lo hi : ℕ} →
+        ((j : PairReady 4 (held pair) both) → lo ≡ rowMask (j .second) (j .step) 4 * 2 ^ 32 + rowMask (j .first) (j .step) 4) →
+        ((j : PairReady 4 (held (held pair +ℤ held (stepAt both 4))) both) →
+        hi ≡ rowMask (j .second) (j .step) 4 * 2 ^ 32 + rowMask (j .first) (j .step) 4) →
+        bitOr lo ((hi * 2 ^ 2 ^ 4) % 2 ^ 64) ≡ rowMask v (stepAt steps) 6
+    unfolding whole-pair
+    halves-are f g = both-pairs 4 (lit< tt) whole-pair f g ∙ sym (row-mask-halves v (stepAt steps) 5)

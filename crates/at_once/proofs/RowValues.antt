@@ -1,19 +1,18 @@
 -- A row's value at the centre of a block's first voxel and its steps, as the machine computes them: four terms and six products, none of which overflows.
-use mathlib.Core.Path.{_≡_, refl, sym, ap, _∙_}
+use mathlib.Core.Path.{_≡_, refl, ap, _∙_}
 use mathlib.Core.Bool.{Bool, true, cond}
 use mathlib.Core.List.{List, [], _∷_}
 use Prim.Native.Nat.{ℕ, zero, suc, _+_, _-_, _*_, _≤_, _<_}
 use native.Mathlib.Omega.{arith}
-use native.Mathlib.Nat.{mul-le-mul}
 use lib.Dec.{leb, ltb, lit<}
-use lib.ListN.{length, getD, List·getD-eq-default}
+use lib.ListN.{getD, List·getD-eq-default}
 use lib.IntN.{ℤ, pos, negsuc, natAbs, _+ℤ_, _*ℤ_, +ℤ-idr}
 use borrow.Author.Tests.{leb-true, le-ltb}
 use mir.Syntax.{w64}
 use mir.Val.{SFits, toZ}
 use Rattle.lemmas.specs.Sums.{total, every}
 use Rattle.lemmas.proofs.Sums.{and-right, every-all}
-use Rattle.lemmas.proofs.Machine.{size-mul, Near, near, near-lit, near-nat, near-cast, near-add, near-mul, near-back, near-call, near-fits, near-as}
+use Rattle.lemmas.proofs.Machine.{Near, near, near-lit, near-nat, near-cast, near-add, near-mul, near-back, near-call, near-fits, near-as}
 use Rattle.lemmas.proofs.Whole.{ι, ν, _⊕_, _⊗_, eq-by}
 use Rattle.universe.specs.declared.Universe.{Universe}
 use Rattle.universe.specs.Universe.{mostAxes, longestSide, offsetLimit, coefficientLimit}
@@ -23,8 +22,60 @@ use Rattle.pruned.proofs.Moving.{held}
 use Rattle.masks.specs.Leaves.{stepLimit}
 use Rattle.at_once.specs.Words.{wordLevels, stepAt, termOf, firstValue, stepOf, RowNamed, SmallTables, StepsOf}
 
-abbrev termLimit : ℕ
-termLimit = coefficientLimit * (2 * longestSide + 1)
+abbrev pub termLimit : ℕ
+termLimit = 2 * (coefficientLimit * longestSide) + coefficientLimit
+
+-- ---- four small numbers, one for each axis, added up
+pub record FourSmall (g : ℕ → ℤ) : Type 0 where
+  pub few : (j : ℕ) → j < mostAxes → natAbs (g j) ≤ termLimit
+
+module _ {g : ℕ → ℤ} (small : FourSmall g) {a b c d : ℤ} (p : a ≡ g 0) (q : b ≡ g 1) (r : c ≡ g 2) (s : d ≡ g 3) where
+  abbrev two : ℤ
+  two = g 0 +ℤ g 1
+
+  abbrev three : ℤ
+  three = two +ℤ g 2
+
+  abbrev four : ℤ
+  four = three +ℤ g 3
+
+  one-near : (j : ℕ) → j < mostAxes → {t : ℤ} → t ≡ g j → Near (held t) (g j) termLimit
+  one-near j l e = near-call {x = g j} e (record { same = refl; size = small .few j l }) tt
+
+  two-near : Near (held a +ℤ held b) two (2 * termLimit)
+  two-near = near-add {x = g 0} {y = g 1} (one-near 0 (lit< tt) p) (one-near 1 (lit< tt) q)
+
+  three-near : Near (held (held a +ℤ held b) +ℤ held c) three (3 * termLimit)
+  three-near = near-add {x = two} {y = g 2} (near-back {x = two} two-near tt) (one-near 2 (lit< tt) r)
+
+  all-near : Near (held (held (held a +ℤ held b) +ℤ held c) +ℤ held d) four (4 * termLimit)
+  all-near = near-add {x = three} {y = g 3} (near-back {x = three} three-near tt) (one-near 3 (lit< tt) s)
+
+  pub two-fits : SFits w64 (held a +ℤ held b)
+  two-fits = near-fits {x = two} two-near tt
+
+  pub three-fits : SFits w64 (held (held a +ℤ held b) +ℤ held c)
+  three-fits = near-fits {x = three} three-near tt
+
+  pub four-fits : SFits w64 (held (held (held a +ℤ held b) +ℤ held c) +ℤ held d)
+  four-fits = near-fits {x = four} all-near tt
+
+  pub four-near : Near (held (held (held a +ℤ held b) +ℤ held c) +ℤ held d) (total mostAxes g) (4 * termLimit)
+  unfolding total
+  four-near = near-as {x = four} all-near (from (g 0) (g 1) (g 2) (g 3)) (omega arith)
+    where
+      from : (a b c d : ℤ) → a +ℤ b +ℤ c +ℤ d ≡ pos 0 +ℤ a +ℤ b +ℤ c +ℤ d
+      from a b c d = eq-by (ι a ⊕ ι b ⊕ ι c ⊕ ι d) (ν 0 ⊕ ι a ⊕ ι b ⊕ ι c ⊕ ι d) (omega arith)
+
+  pub four-are : held (held (held (held a +ℤ held b) +ℤ held c) +ℤ held d) ≡ total mostAxes g
+  four-are = near-back {x = total mostAxes g} four-near tt .same
+
+-- a call's result that is their sum
+pub total-near : {g : ℕ → ℤ} → FourSmall g → {t : ℤ} → t ≡ total mostAxes g → Near (held t) (total mostAxes g) (4 * termLimit)
+total-near {g} small e = near-call {x = total mostAxes g} e (record { same = refl; size = four-near small refl refl refl refl .size }) tt
+
+twice-and-once : (a : ℤ) (k : ℕ) → pos 2 *ℤ (a *ℤ pos k) +ℤ a ≡ a *ℤ pos (2 * k + 1)
+twice-and-once a k = eq-by (ν 2 ⊗ (ι a ⊗ ν k) ⊕ ι a) (ι a ⊗ ν (2 * k + 1)) (omega arith)
 
 module _ {rows : List ℤ} {i : ℕ} (row : RowNamed rows i) where
   abbrev h : Halfspace
@@ -34,7 +85,7 @@ module _ {rows : List ℤ} {i : ℕ} (row : RowNamed rows i) where
   read : (axis : ℕ) → getD rows (5 * i + 1 + axis) (pos 0) ≡ h .coefficient axis
   read axis = let e : 5 * i + 1 + axis ≡ 5 * i + suc axis = omega arith in ap (λ (k : ℕ). getD rows k (pos 0)) e
 
-  coefficient-near : (axis : ℕ) → axis < mostAxes → Near (held (getD rows (5 * i + 1 + axis) (pos 0))) (h .coefficient axis) coefficientLimit
+  pub coefficient-near : (axis : ℕ) → axis < mostAxes → Near (held (getD rows (5 * i + 1 + axis) (pos 0))) (h .coefficient axis) coefficientLimit
   coefficient-near axis l = rw (read axis) (near (record { most = row .small .coefficient axis l .most }) tt)
 
   -- ---- steps
@@ -91,27 +142,46 @@ module _ {rows : List ℤ} {i : ℕ} (row : RowNamed rows i) where
   -- ---- the value
   module _ {low : List ℕ} (lows : SmallPlaces low) where
     module _ (axis : ℕ) (l : axis < mostAxes) where
-      place-few : 2 * getD low axis 0 + 1 ≤ 2 * longestSide + 1
-      place-few = omega (arith, lows .place axis .most)
+      abbrev read-here : ℤ
+      read-here = held (getD rows (5 * i + 1 + axis) (pos 0))
 
-      term-near : Near (held (getD rows (5 * i + 1 + axis) (pos 0)) *ℤ toZ w64 (2 * getD low axis 0 + 1)) (termOf h low axis) termLimit
-      term-near =
-          near-mul {x = h .coefficient axis} {y = pos (2 * getD low axis 0 + 1)}
+      begin-near : Near (read-here *ℤ toZ w64 (getD low axis 0)) (h .coefficient axis *ℤ pos (getD low axis 0)) (coefficientLimit * longestSide)
+      begin-near =
+          near-mul {x = h .coefficient axis} {y = pos (getD low axis 0)}
           (coefficient-near axis l)
-          (near-cast (2 * getD low axis 0 + 1) (2 * longestSide + 1) place-few tt)
+          (near-cast (getD low axis 0) longestSide (lows .place axis .most) tt)
 
-      pub place-fits : SFits w64 (pos (2 * getD low axis 0 + 1))
-      place-fits = near-fits (near-nat (2 * getD low axis 0 + 1) (2 * longestSide + 1) place-few) tt
+      twice-near : Near (pos 2 *ℤ held (read-here *ℤ toZ w64 (getD low axis 0))) (pos 2 *ℤ (h .coefficient axis *ℤ pos (getD low axis 0)))
+          (2 * (coefficientLimit * longestSide))
+      twice-near =
+          near-mul {x = pos 2} {y = h .coefficient axis *ℤ pos (getD low axis 0)} (near-lit (pos 2))
+          (near-back {x = h .coefficient axis *ℤ pos (getD low axis 0)} begin-near tt)
 
-      pub term-fits : SFits w64 (held (getD rows (5 * i + 1 + axis) (pos 0)) *ℤ toZ w64 (2 * getD low axis 0 + 1))
+      abbrev sum-here : ℤ
+      sum-here = held (pos 2 *ℤ held (read-here *ℤ toZ w64 (getD low axis 0))) +ℤ read-here
+
+      term-near : Near sum-here (termOf h low axis) termLimit
+      term-near =
+          near-as {x = pos 2 *ℤ (h .coefficient axis *ℤ pos (getD low axis 0)) +ℤ h .coefficient axis}
+          (near-add {x = pos 2 *ℤ (h .coefficient axis *ℤ pos (getD low axis 0))} {y = h .coefficient axis}
+          (near-back {x = pos 2 *ℤ (h .coefficient axis *ℤ pos (getD low axis 0))} twice-near tt)
+          (coefficient-near axis l))
+          (twice-and-once (h .coefficient axis) (getD low axis 0)) (omega arith)
+
+      pub place-fits : SFits w64 (pos (getD low axis 0))
+      place-fits = near-fits (near-nat (getD low axis 0) longestSide (lows .place axis .most)) tt
+
+      pub begin-fits : SFits w64 (read-here *ℤ toZ w64 (getD low axis 0))
+      begin-fits = near-fits {x = h .coefficient axis *ℤ pos (getD low axis 0)} begin-near tt
+
+      pub twice-fits : SFits w64 (pos 2 *ℤ held (read-here *ℤ toZ w64 (getD low axis 0)))
+      twice-fits = near-fits {x = pos 2 *ℤ (h .coefficient axis *ℤ pos (getD low axis 0))} twice-near tt
+
+      pub term-fits : SFits w64 sum-here
       term-fits = near-fits {x = termOf h low axis} term-near tt
 
-      pub term-is : held (held (getD rows (5 * i + 1 + axis) (pos 0)) *ℤ toZ w64 (2 * getD low axis 0 + 1)) ≡ termOf h low axis
+      pub term-is : held sum-here ≡ termOf h low axis
       term-is = near-back {x = termOf h low axis} term-near tt .same
-
-      -- a call's result
-      term-held : {t : ℤ} → t ≡ termOf h low axis → Near (held t) (termOf h low axis) termLimit
-      term-held e = near-call {x = termOf h low axis} e (record { same = refl; size = term-near .size }) tt
 
     offset-near : Near (pos 2 *ℤ held (h .offset)) (pos 2 *ℤ h .offset) (2 * offsetLimit)
     offset-near = near-mul {x = pos 2} {y = h .offset} (near-lit (pos 2)) (near (record { most = row .small .offset }) tt)
@@ -119,49 +189,23 @@ module _ {rows : List ℤ} {i : ℕ} (row : RowNamed rows i) where
     pub offset-fits : SFits w64 (pos 2 *ℤ held (h .offset))
     offset-fits = near-fits {x = pos 2 *ℤ h .offset} offset-near tt
 
+    pub terms-small : FourSmall (termOf h low)
+    terms-small = record { few = λ j l. term-near j l .size }
+
     module _ {a b c d : ℤ} (p : a ≡ termOf h low 0) (q : b ≡ termOf h low 1) (r : c ≡ termOf h low 2) (s : d ≡ termOf h low 3) where
-      abbrev two : ℤ
-      two = termOf h low 0 +ℤ termOf h low 1
-
-      abbrev three : ℤ
-      three = two +ℤ termOf h low 2
-
-      abbrev four : ℤ
-      four = three +ℤ termOf h low 3
-
-      two-near : Near (held a +ℤ held b) two (2 * termLimit)
-      two-near = near-add {x = termOf h low 0} {y = termOf h low 1} (term-held 0 (lit< tt) p) (term-held 1 (lit< tt) q)
-
-      three-near : Near (held (held a +ℤ held b) +ℤ held c) three (3 * termLimit)
-      three-near = near-add {x = two} {y = termOf h low 2} (near-back {x = two} two-near tt) (term-held 2 (lit< tt) r)
-
-      four-near : Near (held (held (held a +ℤ held b) +ℤ held c) +ℤ held d) four (4 * termLimit)
-      four-near = near-add {x = three} {y = termOf h low 3} (near-back {x = three} three-near tt) (term-held 3 (lit< tt) s)
-
-      value-near : Near (held (pos 2 *ℤ held (h .offset)) +ℤ held (held (held (held a +ℤ held b) +ℤ held c) +ℤ held d)) (pos 2 *ℤ h .offset +ℤ four)
-          (2 * offsetLimit + 4 * termLimit)
-      value-near = near-add {x = pos 2 *ℤ h .offset} {y = four} (near-back {x = pos 2 *ℤ h .offset} offset-near tt) (near-back {x = four} four-near tt)
-
-      pub two-fits : SFits w64 (held a +ℤ held b)
-      two-fits = near-fits {x = two} two-near tt
-
-      pub three-fits : SFits w64 (held (held a +ℤ held b) +ℤ held c)
-      three-fits = near-fits {x = three} three-near tt
-
-      pub four-fits : SFits w64 (held (held (held a +ℤ held b) +ℤ held c) +ℤ held d)
-      four-fits = near-fits {x = four} four-near tt
+      value-near : Near (held (pos 2 *ℤ held (h .offset)) +ℤ held (held (held (held a +ℤ held b) +ℤ held c) +ℤ held d))
+          (pos 2 *ℤ h .offset +ℤ total mostAxes (termOf h low)) (2 * offsetLimit + 4 * termLimit)
+      value-near =
+          near-add {x = pos 2 *ℤ h .offset} {y = total mostAxes (termOf h low)}
+          (near-back {x = pos 2 *ℤ h .offset} offset-near tt)
+          (near-back {x = total mostAxes (termOf h low)} (four-near terms-small p q r s) tt)
 
       pub value-fits : SFits w64 (held (pos 2 *ℤ held (h .offset)) +ℤ held (held (held (held a +ℤ held b) +ℤ held c) +ℤ held d))
-      value-fits = near-fits {x = pos 2 *ℤ h .offset +ℤ four} value-near tt
+      value-fits = near-fits {x = pos 2 *ℤ h .offset +ℤ total mostAxes (termOf h low)} value-near tt
 
       pub value-is : held (held (pos 2 *ℤ held (h .offset)) +ℤ held (held (held (held a +ℤ held b) +ℤ held c) +ℤ held d)) ≡ firstValue h low
-      unfolding firstValue total
-      value-is =
-          near-back {x = pos 2 *ℤ h .offset +ℤ four} value-near tt .same
-          ∙ from (h .offset) (termOf h low 0) (termOf h low 1) (termOf h low 2) (termOf h low 3)
-        where
-          from : (o a b c d : ℤ) → pos 2 *ℤ o +ℤ (a +ℤ b +ℤ c +ℤ d) ≡ pos 2 *ℤ o +ℤ (pos 0 +ℤ a +ℤ b +ℤ c +ℤ d)
-          from o a b c d = eq-by (ν 2 ⊗ ι o ⊕ (ι a ⊕ ι b ⊕ ι c ⊕ ι d)) (ν 2 ⊗ ι o ⊕ (ν 0 ⊕ ι a ⊕ ι b ⊕ ι c ⊕ ι d)) (omega arith)
+      unfolding firstValue
+      value-is = near-back {x = pos 2 *ℤ h .offset +ℤ total mostAxes (termOf h low)} value-near tt .same
 
 -- ---- the axes that a universe lacks add nothing
 total-less : (n k : ℕ) (f : ℕ → ℤ) → ((i : ℕ) → n ≤ i → i < n + k → f i ≡ pos 0) → total (n + k) f ≡ total n f

@@ -60,7 +60,12 @@ module _ (n : ℕ) (few : n < wordLevels) {v : ℤ} {steps : List ℤ} (ready : 
 pub as-row : (v : ℤ) (steps : List ℤ) {r : ℕ} → r ≡ count (leZ (pos 0) v) → r ≡ rowMask v (stepAt steps) 0
 as-row v steps e = e ∙ sym (row-mask-voxel v (stepAt steps))
 
--- of fewer levels than six
+-- of six levels
+pub all-digits : (v : ℤ) (steps : List ℤ) {left : ℕ} → left ≡ 6 → SFits w64 v → {word : ℕ} → word ≡ rowMask (held v) (stepAt steps) 6 →
+    word ≡ rowMask v (stepAt steps) left
+all-digits v steps e f p = p ∙ ap (λ (z : ℤ). rowMask z (stepAt steps) 6) (toZ-ofZ w64 v f) ∙ ap (rowMask v (stepAt steps)) (sym e)
+
+-- of fewer levels
 pub fewer-digits : (v : ℤ) (steps : List ℤ) (left : ℕ) → left ≤ wordLevels → SFits w64 v → {word ones : ℕ} → word ≡ rowMask (held v) (stepAt steps) 6 →
     ones ≡ allOnes (2 ^ left) → bitAnd word ones ≡ rowMask v (stepAt steps) left
 fewer-digits v steps left few f p q =

@@ -7,7 +7,7 @@ use mathlib.Core.Bool.{Bool, true, false, cond, false≢true}
 use mathlib.Core.List.{List, [], _∷_}
 use native.Mathlib.Omega.{arith}
 use native.Mathlib.Nat.{le-trans}
-use lib.Bits.{bitAnd}
+use lib.Bits.{bitAnd, and-zero-l}
 use lib.Count.{ones}
 use lib.ListN.{getD, set}
 use lib.Pow.{pow-mono}
@@ -47,9 +47,10 @@ use Rattle.masks.proofs.Seen.{seen-halves, seen-ones, seen-few, seen-white, see
 use Rattle.at_once.specs.declared.tally.Tally.{Tally}
 use Rattle.at_once.specs.Codes.{SameCodes}
 use Rattle.at_once.specs.Words.{wordLevels, WordBlock, wordBlock, TreesWord}
-use Rattle.at_once.specs.Own.{allOwn}
+use Rattle.at_once.specs.declared.three.Three.{Three}
+use Rattle.at_once.specs.Own.{allOwn, AllThree}
 use Rattle.at_once.specs.Pruning.{PrunedCodes}
-use Rattle.at_once.specs.Counting.{BlockJob, coloursOf, WordJob, PutBack, blackVoxels}
+use Rattle.at_once.specs.Counting.{BlockJob, coloursOf, PutBack, blackVoxels}
 use Rattle.at_once.specs.Tallies.{tallyFrom, tallyOver, tallyOf, tallied, SmallTally}
 use Rattle.at_once.proofs.Jobs.{bits-white, bits-black, all-sound, frame-is, few-levels, leftover, each-is, begin-is, end-is, trees-block, trees-job}
 use Rattle.at_once.proofs.Jobs.{trees-of}
@@ -72,10 +73,6 @@ none-between : {s c p : Colour} → Between s c p → isBlack p ≡ false → (s
 none-between (same {c = White}) e = (refl, refl)
 none-between (same {c = Black}) e = absurd (false≢true (sym e))
 none-between doubt e = absurd (false≢true (sym e))
-
-alike-between : {s c p : Colour} → Between s c p → isBlack s ≡ isBlack p → c ≡ p
-alike-between same e = refl
-alike-between doubt e = absurd (false≢true e)
 
 module _ (surfaces : Surfaces) (u : Universe) (ps : List Plain) where
   between-at : (v : List ℕ) → Between (allOwn false surfaces u ps v) (allColour surfaces u ps v) (allOwn true surfaces u ps v)
@@ -162,28 +159,23 @@ module _ {surfaces : Surfaces} {axes : ℕ} {table lengths low side : List ℕ} 
     between-seen i =
         seen-between (isBetween first last (frameOf u (voxelAt left b i))) (between-at surfaces u trees (voxelAt left b i))
 
-    -- as many of one colouring as of another whose mask within the window is the same
-    masks-alike : (c d : Colouring) → blockMask (windowed u first last c) left b ≡ blockMask (windowed u first last d) left b →
-        seenIn first last c b ≡ seenIn first last d b
-    masks-alike c d e =
-        seen-ones first last c left b (leftover job)
-        ∙ ap ones (window-mask first last c left b (leftover job) ∙ e ∙ sym (window-mask first last d left b (leftover job)))
-        ∙ sym (seen-ones first last d left b (leftover job))
-
-    module _ {doubted : ℕ} (p : doubted ≡ blockMask (allOwn true surfaces u trees) left b) where
+    module _ {words : Three} (three : AllThree surfaces u trees left b words) where
       -- no voxel is possible
-      pub tally-none : bitAnd doubted window ≡ 0 → {r : Tally} → r ≡ tallyOf 0 → r ≡ tallyOver first last job
+      pub tally-none : words .possible ≡ 0 → {r : Tally} → r ≡ tallyOf 0 → r ≡ tallyOver first last job
       unfolding ones
       tally-none z q =
           q
           ∙ tally-eq _ _ (sym (zero (allOwn false surfaces u trees) (λ i l. none i l .0))) (sym (zero (allColour surfaces u trees) (λ i l. none i l .1)))
-          (word-ones (allOwn true surfaces u trees) p (sym (ap ones z ∙ no-ones)))
+          (word-ones (allOwn true surfaces u trees) (three .possible) (sym (ap ones none-seen ∙ no-ones)))
         where
           no-ones : ones 0 ≡ 0
           no-ones = refl
 
+          none-seen : bitAnd (words .possible) window ≡ 0
+          none-seen = ap (λ (x : ℕ). bitAnd x window) z ∙ and-zero-l window
+
           empty : blockMask (windowed u first last (allOwn true surfaces u trees)) left b ≡ 0
-          empty = seen-word (allOwn true surfaces u trees) p ∙ z
+          empty = seen-word (allOwn true surfaces u trees) (three .possible) ∙ none-seen
 
           none : (i : ℕ) → i < 2 ^ left → (seen (allOwn false surfaces u trees) i ≡ White) × (seen (allColour surfaces u trees) i ≡ White)
           none i l =
@@ -199,39 +191,20 @@ module _ {surfaces : Surfaces} {axes : ℕ} {table lengths low side : List ℕ} 
               ∙ mask-agree (windowed u first last colours) (λ v. White) left b h ∙ white-mask left b)
               ∙ no-ones
 
-      module _ {certain : ℕ} (s : certain ≡ blockMask (allOwn false surfaces u trees) left b) where
-        -- all that are possible are sure
-        pub tally-alike : bitAnd certain window ≡ bitAnd doubted window → {n : ℕ} → n ≡ ones (bitAnd certain window) → {r : Tally} → r ≡ tallyOf n →
-            r ≡ tallyOver first last job
-        tally-alike e {n} q t =
-            let sure = word-ones (allOwn false surfaces u trees) s q in
-            let possible = word-ones (allOwn true surfaces u trees) p (q ∙ ap ones e) in
-            t ∙ tally-eq _ _ sure (possible ∙ masks-alike (allOwn true surfaces u trees) (allColour surfaces u trees) (sym centre)) possible
-          where
-            digits : (i : ℕ) → i < 2 ^ left → isBlack (seen (allOwn false surfaces u trees) i) ≡ isBlack (seen (allOwn true surfaces u trees) i)
-            digits i l =
-                sym (mask-digit (windowed u first last (allOwn false surfaces u trees)) left b i l)
-                ∙ ap (λ (m : ℕ). hasDigit m i) (seen-word (allOwn false surfaces u trees) s ∙ e ∙ sym (seen-word (allOwn true surfaces u trees) p))
-                ∙ mask-digit (windowed u first last (allOwn true surfaces u trees)) left b i l
+      pub tally-words : {x y z : ℕ} → x ≡ ones (bitAnd (words .sure) window) → y ≡ ones (bitAnd (words .centre) window) →
+          z ≡ ones (bitAnd (words .possible) window) → record { sure = x; centre = y; possible = z } ≡ tallyOver first last job
+      tally-words e f g =
+          tally-eq _ _ (word-ones (allOwn false surfaces u trees) (three .sure) e) (word-ones (allColour surfaces u trees) (three .centre) f)
+          (word-ones (allOwn true surfaces u trees) (three .possible) g)
 
-            centre : blockMask (windowed u first last (allColour surfaces u trees)) left b ≡ blockMask (windowed u first last (allOwn true surfaces u trees)) left b
-            centre = mask-agree _ _ left b (λ i l. alike-between (between-seen i) (digits i l))
-
-        pub tally-words : {word : ℕ} → word ≡ blockMask (coloursOf job) left b → {x y z : ℕ} → x ≡ ones (bitAnd certain window) →
-            y ≡ ones (bitAnd word window) → z ≡ ones (bitAnd doubted window) → record { sure = x; centre = y; possible = z } ≡ tallyOver first last job
-        tally-words t e f g =
-            tally-eq _ _ (word-ones (allOwn false surfaces u trees) s e) (word-ones (allColour surfaces u trees) t f) (word-ones (allOwn true surfaces u trees) p g)
-
-  -- what the words of marks answer
-  pub own-are : (possible : Bool) (h : left ≤ wordLevels) {r : ℕ} →
-      ((j : TreesWord surfaces axes table lengths low left codes from count) →
-      r ≡ blockMask (allOwn possible surfaces (j .block .universe) (j .carried .trees)) left (wordBlock (j .block))) →
-      r ≡ blockMask (allOwn possible surfaces u trees) left b
+  -- what the three words answer
+  pub three-are : (h : left ≤ wordLevels) {words : Three} → ((j : TreesWord surfaces axes table lengths low left codes from count) →
+      AllThree surfaces (j .block .universe) (j .carried .trees) left (wordBlock (j .block)) words) → AllThree surfaces u trees left b words
   unfolding trees-block
-  own-are possible h f =
-      f (trees-job job h)
-      ∙ ap₂ (λ (x : WordBlock surfaces axes table lengths low left) (ps : List Plain). blockMask (allOwn possible surfaces (x .universe) ps) left (wordBlock x))
-      (trees-of job h .0) (trees-of job h .1)
+  three-are h {words} f =
+      subst (λ (ps : List Plain). AllThree surfaces u ps left b words) (trees-of job h .1)
+      (subst (λ (x : WordBlock surfaces axes table lengths low left).
+      AllThree surfaces (x .universe) (trees-job job h .carried .trees) left (wordBlock x) words) (trees-of job h .0) (f (trees-job job h)))
 
   -- ---- pruned
   module _ (h : 2 ≤ times) {codes′ : List ℕ} {mark nodes : ℕ} (pruned : PrunedCodes (prune-job job h) codes′ mark nodes) where
@@ -284,12 +257,6 @@ module _ {surfaces : Surfaces} {axes : ℕ} {table lengths low side : List ℕ} 
           (sym (seen-agree first last left b (leftover job) (allOwn false surfaces u trees) _ (own-leftover false)))
           (sym (seen-agree first last left b (leftover job) (coloursOf job) _ (left-colours job h pruned not-white not-black n e)))
           (sym (seen-agree first last left b (leftover job) (allOwn true surfaces u trees) _ (own-leftover true)))
-
--- ---- a block that a word has room for
-pub tally-counted : {surfaces : Surfaces} {axes : ℕ} {table lengths low side : List ℕ} {left : ℕ} {codes : List ℕ} {from count : ℕ}
-    (job : BlockJob surfaces axes table lengths low side left codes from count (left + 1)) (first last : ℕ) → left ≤ wordLevels → {r : Tally} →
-    ((j : WordJob surfaces axes table lengths low left codes from count) → r ≡ tallyOver first last (j .block)) → r ≡ tallyOver first last job
-tally-counted {side = side} job first last h f = f (record { side = side; block = job; few = h })
 
 -- ---- both halves
 module _ {surfaces : Surfaces} {axes : ℕ} {table lengths low side : List ℕ} {left : ℕ} {codes : List ℕ} {from count : ℕ}

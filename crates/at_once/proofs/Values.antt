@@ -1,5 +1,6 @@
--- A row's least and greatest value over a block, as the machine adds them up axis by axis. By the two parts of the coefficients they are those of the block's
--- corners; an axis that the universe lacks has coefficient 0, so that all four are added; and they stay small on the way.
+-- A row's least and greatest value over a block, as the machine adds them up: what the axes give at the block's low end, and what falls and what rises from
+-- there along its sides. By the two parts of the coefficients they are those of the block's corners; an axis that the universe lacks has coefficient 0, so
+-- that all four are added.
 use Prim.Native.Nat.{ℕ, zero, suc, _+_, _*_, _≤_, _<_}
 use mathlib.Core.Path.{_≡_, refl, sym, ap, _∙_}
 use mathlib.Core.Bool.{Bool, true, false, cond}
@@ -12,21 +13,23 @@ use lib.ListN.{getD}
 use lib.Signed.{leZ}
 use mir.Syntax.{w64}
 use mir.Val.{SFits, toZ}
-use Rattle.lemmas.specs.Sums.{sum}
-use Rattle.lemmas.proofs.Machine.{Near, near, near-cast, near-add, near-sub, near-mul, near-back, near-call, near-fits, natAbs-parts}
-use Rattle.lemmas.proofs.Sums.{sum-cong}
+use Rattle.lemmas.specs.Sums.{sum, total}
+use Rattle.lemmas.proofs.Machine.{Near, near, near-cast, near-nat, near-add, near-sub, near-mul, near-back, near-call, near-fits, natAbs-parts}
+use Rattle.lemmas.proofs.Sums.{sum-cong, sum-zero}
+use Rattle.lemmas.proofs.Totals.{total-is, weighted-add}
 use Rattle.lemmas.proofs.Whole.{up, dn, Is, is-self, is-add, is-sub, is-mul, is-eq}
 use Rattle.universe.specs.declared.Block.{Block}
-use Rattle.universe.specs.Universe.{mostAxes, longestSide, coefficientLimit}
+use Rattle.universe.specs.Universe.{mostAxes, longestSide, offsetLimit, coefficientLimit}
 use Rattle.universe.specs.Block.{lowAlong}
-use Rattle.csg.specs.Halfspace.{Halfspace, lesser, rowAt, least, greatest}
+use Rattle.csg.specs.Halfspace.{Halfspace, lesser, rowAt}
 use Rattle.csg.proofs.Halfspace.{axesOf, endAlong, added, taken, rise, fall, least-is, greatest-is}
-use Rattle.convert.specs.Small.{SmallCoefficient, SmallPlace}
-use Rattle.pruned.specs.Nodes.{rises, falls, extremeLimit, SmallExtreme}
-use Rattle.pruned.proofs.Moving.{held, extreme-near, rise-is, fall-is, rises-all, falls-all}
-use Rattle.pruned.proofs.Steps.{weighted-few, is-size}
-use Rattle.at_once.specs.declared.leaf.Extremes.{Extremes}
-use Rattle.at_once.specs.Values.{withAxis, extremesOf, RowOver, RowFound}
+use Rattle.convert.specs.Small.{SmallPlaces}
+use Rattle.pruned.specs.Nodes.{falls, SmallExtreme}
+use Rattle.pruned.proofs.Moving.{held, extreme-near, fall-is, rises-all, falls-all}
+use Rattle.pruned.proofs.Steps.{is-size}
+use Rattle.at_once.specs.Words.{RowNamed}
+use Rattle.at_once.specs.Values.{alongOf, fallAlong, RowOver, RowFound}
+use Rattle.at_once.proofs.RowValues.{termLimit, coefficient-near, FourSmall, total-near}
 
 -- ---- what falls, as the machine tells it
 module _ {x : ℤ} (s : SmallExtreme x) where
@@ -46,92 +49,65 @@ lesser-falls a side = by (leZ (pos 0) (a *ℤ pos side)) refl
     by true e = sym (rises-all a side e .1)
     by false e = sym (falls-all a side e .1)
 
-rises-rest : (a : ℤ) (side : ℕ) → a *ℤ pos side -ℤ falls a side ≡ rises a side
-rises-rest a side = is-eq (is-sub (is-mul (is-self a) side) (fall-is a side)) (rise-is a side) (omega arith)
-
-extremes-eq : {a b e f : ℤ} → a ≡ b → e ≡ f → _≡_ {A = Extremes} (record { least = a; greatest = e }) (record { least = b; greatest = f })
-extremes-eq p q = λ i. record { least = p i; greatest = q i }
-
--- ---- one more axis
+-- ---- along the axes
 -- what an axis gives at the most
 abbrev share : ℕ
 share = coefficientLimit * longestSide
 
-module _ (low side : ℕ) {a : ℤ} {x y : ℤ} (sa : SmallCoefficient a) (sp : SmallPlace (low + side)) (sx : SmallExtreme x) (sy : SmallExtreme y) where
-  begin-near : Near (held a *ℤ toZ w64 low) (a *ℤ pos low) share
-  begin-near = near-mul {x = a} {y = pos low} (near (record { most = sa .most }) tt) (near-cast low longestSide (omega (arith, sp .most)) tt)
+module _ {rows : List ℤ} {i : ℕ} (row : RowNamed rows i) {places : List ℕ} (few : SmallPlaces places) where
+  abbrev line : Halfspace
+  line = rowAt rows i
 
-  amount-near : Near (held a *ℤ toZ w64 side) (a *ℤ pos side) share
-  amount-near = near-mul {x = a} {y = pos side} (near (record { most = sa .most }) tt) (near-cast side longestSide (omega (arith, sp .most)) tt)
+  module _ (axis : ℕ) (l : axis < mostAxes) where
+    along-near : Near (held (getD rows (5 * i + 1 + axis) (pos 0)) *ℤ toZ w64 (getD places axis 0)) (alongOf line places axis) share
+    along-near =
+        near-mul {x = line .coefficient axis} {y = pos (getD places axis 0)}
+        (coefficient-near row axis l)
+        (near-cast (getD places axis 0) longestSide (few .place axis .most) tt)
 
-  pub begin-fits : SFits w64 (held a *ℤ toZ w64 low)
-  begin-fits = near-fits {x = a *ℤ pos low} begin-near tt
+    pub place-fits : SFits w64 (pos (getD places axis 0))
+    place-fits = near-fits (near-nat (getD places axis 0) longestSide (few .place axis .most)) tt
 
-  pub amount-fits : SFits w64 (held a *ℤ toZ w64 side)
-  amount-fits = near-fits {x = a *ℤ pos side} amount-near tt
+    pub along-fits : SFits w64 (held (getD rows (5 * i + 1 + axis) (pos 0)) *ℤ toZ w64 (getD places axis 0))
+    along-fits = near-fits {x = alongOf line places axis} along-near tt
 
-  abbrev begin : ℤ
-  begin = held (held a *ℤ toZ w64 low)
+    pub along-is : held (held (getD rows (5 * i + 1 + axis) (pos 0)) *ℤ toZ w64 (getD places axis 0)) ≡ alongOf line places axis
+    along-is = near-back {x = alongOf line places axis} along-near tt .same
 
-  abbrev amount : ℤ
-  amount = held (held a *ℤ toZ w64 side)
+    -- a call's result
+    module _ {t : ℤ} (e : t ≡ alongOf line places axis) where
+      along-held : Near (held t) (alongOf line places axis) share
+      along-held = near-call {x = alongOf line places axis} e (record { same = refl; size = along-near .size }) tt
 
-  begin-held : Near begin (a *ℤ pos low) share
-  begin-held = near-back {x = a *ℤ pos low} begin-near tt
+      pub along-asks : SmallExtreme (held t)
+      along-asks = rw (along-held .same) (record { most = omega (arith, along-held .size) })
 
-  amount-held : Near amount (a *ℤ pos side) share
-  amount-held = near-back {x = a *ℤ pos side} amount-near tt
+      pub falls-along : {f : ℤ} → f ≡ lesser (pos 0) (held t) → f ≡ fallAlong line places axis
+      falls-along g = g ∙ ap (lesser (pos 0)) (along-held .same) ∙ lesser-falls (line .coefficient axis) (getD places axis 0)
 
-  pub amount-asks : SmallExtreme amount
-  amount-asks = rw (amount-held .same) (record { most = omega (arith, amount-held .size) })
+  pub along-small : FourSmall (alongOf line places)
+  along-small = record { few = λ j l. omega (arith, along-near j l .size) }
 
-  least-begun : Near (held x +ℤ begin) (x +ℤ a *ℤ pos low) (extremeLimit + share)
-  least-begun = near-add {x = x} {y = a *ℤ pos low} (extreme-near sx) begin-held
+  fall-few : (j : ℕ) → j < mostAxes → natAbs (fallAlong line places j) ≤ share
+  fall-few j l =
+      let d : dn (line .coefficient j) ≤ coefficientLimit = omega (arith, natAbs-parts (line .coefficient j), row .small .coefficient j l .most) in
+      omega (arith, is-size (fall-is (line .coefficient j) (getD places j 0)), mul-le-mul d (few .place j .most))
 
-  greatest-begun : Near (held y +ℤ begin) (y +ℤ a *ℤ pos low) (extremeLimit + share)
-  greatest-begun = near-add {x = y} {y = a *ℤ pos low} (extreme-near sy) begin-held
+  pub fall-small : FourSmall (fallAlong line places)
+  fall-small = record { few = λ j l. omega (arith, fall-few j l) }
 
-  pub begun-fits : SFits w64 (held x +ℤ begin) × SFits w64 (held y +ℤ begin)
-  begun-fits = (near-fits {x = x +ℤ a *ℤ pos low} least-begun tt, near-fits {x = y +ℤ a *ℤ pos low} greatest-begun tt)
+  -- by parts
+  along-parts : Is (total mostAxes (alongOf line places)) (rise line mostAxes (λ j. getD places j 0)) (fall line mostAxes (λ j. getD places j 0))
+  unfolding rise fall
+  along-parts =
+      total-is mostAxes (alongOf line places) (λ j. added line j * getD places j 0) (λ j. taken line j * getD places j 0)
+      (λ j l. is-mul (is-self (line .coefficient j)) (getD places j 0))
 
-  -- t is what the call handed over of what falls
-  module _ {t : ℤ} (e : t ≡ lesser (pos 0) amount) where
-    fallen : Near (held t) (falls a side) share
-    fallen =
-        let f : t ≡ falls a side = e ∙ ap (lesser (pos 0)) (amount-held .same) ∙ lesser-falls a side in
-        let d : dn a ≤ coefficientLimit = omega (arith, natAbs-parts a, sa .most) in
-        let s : side ≤ longestSide = omega (arith, sp .most) in
-        near-call {x = falls a side} f (record { same = refl; size = omega (arith, is-size (fall-is a side), mul-le-mul d s) }) tt
-
-    least-near : Near (held (held x +ℤ begin) +ℤ held t) (x +ℤ a *ℤ pos low +ℤ falls a side) (extremeLimit + share + share)
-    least-near = near-add {x = x +ℤ a *ℤ pos low} {y = falls a side} (near-back {x = x +ℤ a *ℤ pos low} least-begun tt) fallen
-
-    pub least-fits : SFits w64 (held (held x +ℤ begin) +ℤ held t)
-    least-fits = near-fits {x = x +ℤ a *ℤ pos low +ℤ falls a side} least-near tt
-
-    risen : Near (amount -ℤ held t) (a *ℤ pos side -ℤ falls a side) (share + share)
-    risen = near-sub {x = a *ℤ pos side} {y = falls a side} amount-held fallen
-
-    pub rise-fits : SFits w64 (amount -ℤ held t)
-    rise-fits = near-fits {x = a *ℤ pos side -ℤ falls a side} risen tt
-
-    abbrev rest : ℤ
-    rest = a *ℤ pos side -ℤ falls a side
-
-    greatest-near : Near (held (held y +ℤ begin) +ℤ held (amount -ℤ held t)) (y +ℤ a *ℤ pos low +ℤ rest) (extremeLimit + share + (share + share))
-    greatest-near =
-        near-add {x = y +ℤ a *ℤ pos low} {y = rest} (near-back {x = y +ℤ a *ℤ pos low} greatest-begun tt) (near-back {x = rest} risen tt)
-
-    pub greatest-fits : SFits w64 (held (held y +ℤ begin) +ℤ held (amount -ℤ held t))
-    greatest-fits = near-fits {x = y +ℤ a *ℤ pos low +ℤ rest} greatest-near tt
-
-    pub adds : _≡_ {A = Extremes}
-        (record { least = held (held (held x +ℤ begin) +ℤ held t); greatest = held (held (held y +ℤ begin) +ℤ held (amount -ℤ held t)) })
-        (withAxis (record { least = x; greatest = y }) a low side)
-    adds =
-        extremes-eq
-        (near-back {x = x +ℤ a *ℤ pos low +ℤ falls a side} least-near tt .same)
-        (near-back {x = y +ℤ a *ℤ pos low +ℤ rest} greatest-near tt .same ∙ ap (λ (z : ℤ). y +ℤ a *ℤ pos low +ℤ z) (rises-rest a side))
+  fall-parts : Is (total mostAxes (fallAlong line places)) (sum mostAxes (λ j. 0)) (fall line mostAxes (λ j. getD places j 0))
+  unfolding fall
+  fall-parts =
+      total-is mostAxes (fallAlong line places) (λ j. 0) (λ j. taken line j * getD places j 0)
+      (λ j l. fall-is (line .coefficient j) (getD places j 0))
 
 -- a sum goes on as it is where nothing is added
 sum-beyond : (f : ℕ → ℕ) (n m : ℕ) → n ≤ m → ((j : ℕ) → n ≤ j → j < m → f j ≡ 0) → sum m f ≡ sum n f
@@ -143,7 +119,7 @@ sum-beyond f n (suc m) l none = by (ℕ-discrete n (suc m)) (sum-beyond f n m)
     by (yes e) rec = rw e
     by (no d) rec = omega (arith, rec (omega (arith, d)) (λ j p q. none j p (omega arith)), none m (omega (arith, d)) (omega arith))
 
--- ---- all axes
+-- ---- over a block
 module _ {rows : List ℤ} {i : ℕ} {low side : List ℕ} (job : RowOver rows i low side) where
   abbrev h : Halfspace
   h = rowAt rows i
@@ -151,61 +127,23 @@ module _ {rows : List ℤ} {i : ℕ} {low side : List ℕ} (job : RowOver rows i
   abbrev b : Block
   b = job .block
 
-  abbrev at : ℕ → Extremes
-  at n = extremesOf n h low side
-
   abbrev begins : ℕ → ℕ
   begins j = getD low j 0
+
+  abbrev sides : ℕ → ℕ
+  sides j = getD side j 0
 
   abbrev ends : ℕ → ℕ
   ends j = getD low j 0 + getD side j 0
 
-  least-parts : (n : ℕ) → Is (at n .least) (up (h .offset) + rise h n begins) (dn (h .offset) + fall h n ends)
-  unfolding extremesOf rise fall sum
-  least-parts zero = record { is = omega (arith, is-self (h .offset) .is) }
-  least-parts (suc n) =
-      let a = h .coefficient n in
-      record { is = omega (arith, is-add (is-add (least-parts n) (is-mul (is-self a) (getD low n 0))) (fall-is a (getD side n 0)) .is) }
+  pub row-named : RowNamed rows i
+  row-named = record { here = job .named; small = job .small }
 
-  greatest-parts : (n : ℕ) → Is (at n .greatest) (up (h .offset) + rise h n ends) (dn (h .offset) + fall h n begins)
-  unfolding extremesOf rise fall sum
-  greatest-parts zero = record { is = omega (arith, is-self (h .offset) .is) }
-  greatest-parts (suc n) =
-      let a = h .coefficient n in
-      record { is = omega (arith, is-add (is-add (greatest-parts n) (is-mul (is-self a) (getD low n 0))) (rise-is a (getD side n 0)) .is) }
+  pub small-low : SmallPlaces low
+  small-low = record { place = λ j. record { most = omega (arith, job .places j .most) } }
 
-  begins-few : (j : ℕ) → begins j ≤ longestSide
-  begins-few j = omega (arith, job .places j .most)
-
-  values-small : (n : ℕ) → n ≤ mostAxes → SmallExtreme (at n .least) × SmallExtreme (at n .greatest)
-  values-small n l =
-      let p = weighted-few h n begins ends l (job .small) (λ j m. begins-few j) (λ j m. job .places j .most) in
-      let q = weighted-few h n ends begins l (job .small) (λ j m. job .places j .most) (λ j m. begins-few j) in (
-        record { most = omega (arith, is-size (least-parts n), p, job .small .offset, natAbs-parts (h .offset)) },
-        record { most = omega (arith, is-size (greatest-parts n), q, job .small .offset, natAbs-parts (h .offset)) },
-      )
-
-  abbrev first : Extremes
-  first = record { least = held (h .offset); greatest = held (h .offset) }
-
-  pub starts : first ≡ at 0
-  unfolding extremesOf
-  starts = let s = values-small 0 (omega arith) in extremes-eq (extreme-near (s .0) .same) (extreme-near (s .1) .same)
-
-  coefficient : (n : ℕ) → n < mostAxes → held (h .coefficient n) ≡ h .coefficient n
-  coefficient n l = near (record { most = job .small .coefficient n l .most }) tt .same
-
-  -- what adding axis n asks
-  pub asks : {s : Extremes} (n : ℕ) → n < mostAxes → s ≡ at n →
-      SmallCoefficient (held (h .coefficient n)) × (SmallPlace (ends n) × (SmallExtreme (s .least) × SmallExtreme (s .greatest)))
-  asks n l e = rw (e, coefficient n l) (job .small .coefficient n l, (job .places n, values-small n (omega arith)))
-
-  abbrev next : ℕ → Extremes → Extremes
-  next n s = withAxis s (held (h .coefficient n)) (getD low n 0) (getD side n 0)
-
-  pub goes-on : {s r : Extremes} (n : ℕ) → n < mostAxes → s ≡ at n → r ≡ next n s → r ≡ at (suc n)
-  unfolding extremesOf
-  goes-on n l e f = f ∙ rw (e, coefficient n l)
+  pub small-side : SmallPlaces side
+  small-side = record { place = λ j. record { most = omega (arith, job .places j .most) } }
 
   -- over the block
   nothing : (j : ℕ) → axesOf b ≤ j → j < mostAxes → (added h j ≡ 0) × (taken h j ≡ 0)
@@ -222,22 +160,75 @@ module _ {rows : List ℤ} {i : ℕ} {low side : List ℕ} (job : RowOver rows i
   ends-are : (j : ℕ) → j < axesOf b → ends j ≡ endAlong b j
   ends-are j l = omega (arith, job .begins j l, job .along j l)
 
-  pub found : {e : Extremes} → e ≡ at mostAxes → RowFound job (e .least) (e .greatest)
-  unfolding rise fall
-  found {e} f =
-      record {
-        least-is =
-            ap (λ (v : Extremes). v .least) f
-            ∙ is-eq (least-parts mostAxes) (least-is h b) (omega (
-              arith,
-              over (added h) begins (lowAlong b) (λ j p q. nothing j p q .0) (job .begins),
-              over (taken h) ends (endAlong b) (λ j p q. nothing j p q .1) ends-are,
-            ));
-        greatest-is =
-            ap (λ (v : Extremes). v .greatest) f
-            ∙ is-eq (greatest-parts mostAxes) (greatest-is h b) (omega (
-              arith,
-              over (added h) ends (endAlong b) (λ j p q. nothing j p q .0) ends-are,
-              over (taken h) begins (lowAlong b) (λ j p q. nothing j p q .1) (job .begins),
-            ));
-      }
+  -- what calls handed over: what the axes give at the low end, what they give along the sides, and what falls of that
+  module _ {p q f : ℤ} (e : p ≡ total mostAxes (alongOf h low)) (g : q ≡ total mostAxes (alongOf h side)) (k : f ≡ total mostAxes (fallAlong h side)) where
+    abbrev at-low : ℤ
+    at-low = h .offset +ℤ total mostAxes (alongOf h low)
+
+    abbrev all : ℤ
+    all = total mostAxes (alongOf h side)
+
+    abbrev fallen : ℤ
+    fallen = total mostAxes (fallAlong h side)
+
+    value-near : Near (held (h .offset) +ℤ held p) at-low (offsetLimit + 4 * termLimit)
+    value-near =
+        near-add {x = h .offset} {y = total mostAxes (alongOf h low)}
+        (near (record { most = job .small .offset }) tt) (total-near (along-small row-named small-low) e)
+
+    pub value-fits : SFits w64 (held (h .offset) +ℤ held p)
+    value-fits = near-fits {x = at-low} value-near tt
+
+    abbrev value : ℤ
+    value = held (held (h .offset) +ℤ held p)
+
+    value-held : Near value at-low (offsetLimit + 4 * termLimit)
+    value-held = near-back {x = at-low} value-near tt
+
+    fallen-near : Near (held f) fallen (4 * termLimit)
+    fallen-near = total-near (fall-small row-named small-side) k
+
+    least-near : Near (value +ℤ held f) (at-low +ℤ fallen) (offsetLimit + 4 * termLimit + 4 * termLimit)
+    least-near = near-add {x = at-low} {y = fallen} value-held fallen-near
+
+    pub least-fits : SFits w64 (value +ℤ held f)
+    least-fits = near-fits {x = at-low +ℤ fallen} least-near tt
+
+    rise-near : Near (held q -ℤ held f) (all -ℤ fallen) (4 * termLimit + 4 * termLimit)
+    rise-near = near-sub {x = all} {y = fallen} (total-near (along-small row-named small-side) g) fallen-near
+
+    pub rise-fits : SFits w64 (held q -ℤ held f)
+    rise-fits = near-fits {x = all -ℤ fallen} rise-near tt
+
+    greatest-near : Near (value +ℤ held (held q -ℤ held f)) (at-low +ℤ (all -ℤ fallen)) (offsetLimit + 4 * termLimit + (4 * termLimit + 4 * termLimit))
+    greatest-near = near-add {x = at-low} {y = all -ℤ fallen} value-held (near-back {x = all -ℤ fallen} rise-near tt)
+
+    pub greatest-fits : SFits w64 (value +ℤ held (held q -ℤ held f))
+    greatest-fits = near-fits {x = at-low +ℤ (all -ℤ fallen)} greatest-near tt
+
+    low-is : Is at-low (up (h .offset) + rise h mostAxes begins) (dn (h .offset) + fall h mostAxes begins)
+    low-is = is-add (is-self (h .offset)) (along-parts row-named small-low)
+
+    pub found : RowFound job (held (value +ℤ held f)) (held (value +ℤ held (held q -ℤ held f)))
+    unfolding rise fall
+    found =
+        record {
+          least-is =
+              near-back {x = at-low +ℤ fallen} least-near tt .same
+              ∙ is-eq (is-add low-is (fall-parts row-named small-side)) (least-is h b) (omega (
+                arith,
+                over (added h) begins (lowAlong b) (λ j p q. nothing j p q .0) (job .begins),
+                over (taken h) ends (endAlong b) (λ j p q. nothing j p q .1) ends-are,
+                weighted-add mostAxes (taken h) begins sides,
+                sum-zero mostAxes (λ j. 0) (λ j l. refl),
+              ));
+          greatest-is =
+              near-back {x = at-low +ℤ (all -ℤ fallen)} greatest-near tt .same
+              ∙ is-eq (is-add low-is (is-sub (along-parts row-named small-side) (fall-parts row-named small-side))) (greatest-is h b) (omega (
+                arith,
+                over (added h) ends (endAlong b) (λ j p q. nothing j p q .0) ends-are,
+                over (taken h) begins (lowAlong b) (λ j p q. nothing j p q .1) (job .begins),
+                weighted-add mostAxes (added h) begins sides,
+                sum-zero mostAxes (λ j. 0) (λ j l. refl),
+              ));
+        }

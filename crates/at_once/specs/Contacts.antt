@@ -29,7 +29,8 @@ contactsAnswer u surfaces first second from to =
     (windowVoxels u (possibleColour surfaces u t) from to))
 
 -- the tally of the whole universe
-pub record WholeTally (u : Universe) (surfaces : Surfaces) (first second : List ℕ) (from to : ℕ) (t : Tally) : Type 0 where
+pub record WholeTally (u : Universe) (surfaces : Surfaces) (first second : List ℕ) (from to : ℕ)
+    (t : Tally) : Type 0 where
   pub sure : t .sure ≡ windowVoxels u (sureColour surfaces u (treesOf surfaces first second)) from to
   pub centre : t .centre ≡ windowVoxels u (treeColour surfaces u (treesOf surfaces first second)) from to
   pub possible : t .possible ≡ windowVoxels u (possibleColour surfaces u (treesOf surfaces first second)) from to

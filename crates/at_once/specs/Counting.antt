@@ -14,7 +14,7 @@ use Rattle.masks.specs.Contacts.{contactIn}
 use Rattle.masks.specs.Ends.{endIn}
 use Rattle.pruned.specs.Left.{allColour}
 use Rattle.at_once.specs.Codes.{SameCodes, AtBlock, blockAt, Carrying}
-use Rattle.at_once.specs.Words.{wordLevels, Tabled}
+use Rattle.at_once.specs.Words.{Tabled}
 
 -- a block that stands in the arrays, the trees that are carried into it, and room for so many times their codes from
 -- there on: of a block with n levels left n + 1 times, of both its halves n times
@@ -47,13 +47,6 @@ pub record CountJob (surfaces : Surfaces) (axes : ℕ) (table lengths low side :
     (codes : List ℕ) (from count times : ℕ) (first last : ℕ) (contact : Contact) : Type 0 where
   pub block : BlockJob surfaces axes table lengths low side left codes from count times
   pub counts : contactOver first last block contact .voxels < 2 ^ 64
-
--- a block whose voxels have a digit each in one word; its sides are not looked at
-pub record WordJob (surfaces : Surfaces) (axes : ℕ) (table lengths low : List ℕ) (left : ℕ) (codes : List ℕ)
-    (from count : ℕ) : Type 0 where
-  pub side : List ℕ
-  pub block : BlockJob surfaces axes table lengths low side left codes from count (left + 1)
-  pub few : left ≤ wordLevels
 
 -- what is changed of the low places and of the sides is put back, and the codes below a place stay
 pub record PutBack (place : ℕ) (low side codes low′ side′ codes′ : List ℕ) : Type 0 where

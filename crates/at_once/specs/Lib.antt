@@ -11,4 +11,7 @@ pub mod Tallies
 pub mod Whole
 pub mod Answers
 pub mod Merged
+pub mod Voxel
+pub mod Raw
+pub mod Conversions
 pub mod Contacts

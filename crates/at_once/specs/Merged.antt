@@ -1,17 +1,14 @@
 -- How the merged expression (rules 4.2 and 4.3) is laid by the colours of blocks alone: the shape of a block and of a
--- word, and what laying them and the whole universe asks and comes to.
-use Prim.Native.Nat.{ℕ, suc, _+_, _*_, _^_, _≤_, _<_}
+-- word, and what laying them asks and comes to.
+use Prim.Native.Nat.{ℕ, suc, _+_, _^_, _≤_, _<_}
 use mathlib.Core.Path.{_≡_}
 use mathlib.Core.Bool.{true}
 use mathlib.Core.List.{List}
 use lib.ListN.{length}
 use lib.Seq.{sets}
-use Rattle.universe.specs.declared.Universe.{Universe}
-use Rattle.universe.specs.Universe.{levels}
 use Rattle.bintree.specs.Shape.{Shape, symbols, size}
 use Rattle.bintree.specs.Walks.{laid}
 use Rattle.csg.specs.Surfaces.{Surfaces}
-use Rattle.convert.specs.Blocks.{Ready}
 use Rattle.convert.specs.Shapes.{shaped, endLimit}
 use Rattle.masks.specs.Shapes.{voxelShape, maskShape}
 use Rattle.pruned.specs.Laying.{packedShape}
@@ -49,17 +46,3 @@ pub record WrittenText (word left : ℕ) (out : List ℕ) (at end : ℕ) (out′
 pub record RoomyText (word left : ℕ) (out : List ℕ) (at : ℕ) : Type 0 where
   pub text : TextJob word left at
   pub roomy : at + 2 ^ suc left ≤ length out
-
--- two trees that no check refuses, and room for the codes of what is left of them at every level
-pub record MergedReady (u : Universe) (surfaces : Surfaces) (first second codes : List ℕ) : Type 0 where
-  pub ready : Ready u surfaces first second
-  pub enough : (levels u + 1) * (length first + length second) ≤ length codes
-  pub bounded : length codes < 2 ^ 60
-
--- as much room as is soon cleared
-abbrev pub fewCodes : ℕ
-fewCodes = 1000
-
-pub record FewReady (u : Universe) (surfaces : Surfaces) (first second : List ℕ) : Type 0 where
-  pub ready : Ready u surfaces first second
-  pub few : (levels u + 1) * (length first + length second) ≤ fewCodes

@@ -8,10 +8,11 @@ use Rattle.universe.specs.Universe.{mostLevels}
 use Rattle.csg.specs.Surfaces.{Surfaces}
 use Rattle.csg.specs.Tree.{Plain}
 use Rattle.pruned.specs.Left.{allColour}
+use Rattle.pruned.specs.Nodes.{Shelves}
 use Rattle.masks.specs.Seen.{seenIn}
 use Rattle.at_once.specs.declared.tally.Tally.{Tally}
 use Rattle.at_once.specs.Codes.{blockAt}
-use Rattle.at_once.specs.Own.{allOwn}
+use Rattle.at_once.specs.Own.{allOwn, ThreeShelves}
 use Rattle.at_once.specs.Counting.{BlockJob}
 
 -- of trees over a block: those that are sure, black at their centre, and possible
@@ -42,3 +43,8 @@ pub record SmallTally (t : Tally) : Type 0 where
   pub sure : t .sure ≤ 2 ^ mostLevels
   pub centre : t .centre ≤ 2 ^ mostLevels
   pub possible : t .possible ≤ 2 ^ mostLevels
+
+-- what counting a block has to work in, beside the codes: shelves for pruning, and for the words pending
+pub record TallyShelves (starts marks sures centres possibles : List ℕ) : Type 0 where
+  pub pruning : Shelves starts marks
+  pub words : ThreeShelves sures centres possibles

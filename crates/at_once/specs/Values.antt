@@ -1,29 +1,30 @@
--- The least and the greatest value of a row over a block, axis by axis: what the axis gives at the block's low end, and
--- what falls and what rises from there along its side.
-use Prim.Native.Nat.{ℕ, zero, suc, _+_, _≤_, _<_}
+-- The least and the greatest value of a row over a block: what the axes give at the block's low end, and what falls and
+-- what rises from there along its sides.
+use Prim.Native.Nat.{ℕ, _+_, _*_, _≤_, _<_}
 use mathlib.Core.Path.{_≡_}
+use mathlib.Core.Bool.{Bool, _&&_}
 use mathlib.Core.List.{List}
-use lib.IntN.{ℤ, pos, _+ℤ_, _*ℤ_}
+use lib.Dec.{leb, ltb}
+use lib.IntN.{ℤ, pos, _*ℤ_}
 use lib.ListN.{getD}
 use Rattle.universe.specs.declared.Block.{Block}
 use Rattle.universe.specs.Universe.{mostAxes}
 use Rattle.universe.specs.Block.{lowAlong, lengthAlong}
 use Rattle.csg.specs.Halfspace.{Halfspace, rowAt, rowCount, least, greatest}
+use Rattle.csg.specs.Words.{firstHalfspace}
 use Rattle.convert.specs.Small.{SmallPlace, SmallHalfspace}
-use Rattle.pruned.specs.Nodes.{rises, falls}
-use Rattle.at_once.specs.declared.leaf.Extremes.{Extremes}
+use Rattle.pruned.specs.Nodes.{firstBallSide, falls}
 
-abbrev pub withAxis : Extremes → ℤ → ℕ → ℕ → Extremes
-withAxis e a low side =
-    record {
-      least = e .least +ℤ a *ℤ pos low +ℤ falls a side;
-      greatest = e .greatest +ℤ a *ℤ pos low +ℤ rises a side;
-    }
+-- what an axis gives over so many places of it, and what falls of that
+abbrev pub alongOf : Halfspace → List ℕ → ℕ → ℤ
+alongOf h places axis = h .coefficient axis *ℤ pos (getD places axis 0)
 
-unfoldable pub extremesOf : ℕ → Halfspace → List ℕ → List ℕ → Extremes
-extremesOf zero h low side = record { least = h .offset; greatest = h .offset }
-extremesOf (suc n) h low side =
-    withAxis (extremesOf n h low side) (h .coefficient n) (getD low n 0) (getD side n 0)
+abbrev pub fallAlong : Halfspace → List ℕ → ℕ → ℤ
+fallAlong h places axis = falls (h .coefficient axis) (getD places axis 0)
+
+-- whether a leaf's code is that of a halfspace's side
+abbrev pub isRowSide : ℕ → Bool
+isRowSide code = leb (2 * firstHalfspace) code && ltb code firstBallSide
 
 -- a row over a block with these low places and sides: an axis that the universe lacks adds nothing, so that all four
 -- are added

@@ -18,7 +18,7 @@ ghost use Rattle.at_once.specs.Counting.{BlockJob, PutBack};
 ghost use Rattle.at_once.specs.Merged.{shapeOver, LaidShape, AtPlace};
 
 // The symbol of a block over which the trees are decided.
-fn symbol_of(mark: u8) -> u8
+pub(crate) fn symbol_of(mark: u8) -> u8
     ensures { λ r. ⌜ r ≡ symbolOfBits mark ⌝ }
 {
     if mark == BLACK_BIT { b'B' } else { b'W' }

@@ -2,18 +2,21 @@
 use crate::ball::code_of_ball;
 use crate::marks::BLACK_BIT;
 use crate::marks::WHITE_BIT;
-use crate::marks::tested_code;
+use crate::marks::side_code;
 use crate::marks::turned_code;
 use universe::Universe;
 ghost use mathlib.Core.Path.{_≡_};
-ghost use Prim.Native.Nat.{_+_, _%_};
+ghost use Prim.Native.Nat.{_%_, _<_};
 ghost use lib.Dec.{eqb};
 ghost use lib.IntN.{pos};
-ghost use Rattle.csg.specs.Halfspace.{lesser};
+ghost use Rattle.lemmas.specs.Sums.{total};
+ghost use Rattle.universe.specs.Universe.{mostAxes};
+ghost use Rattle.csg.specs.Halfspace.{lesser, rowAt};
 ghost use Rattle.csg.specs.Surfaces.{surfacesOf};
-ghost use Rattle.convert.specs.Small.{SmallCoefficient, SmallPlace};
+ghost use Rattle.convert.specs.Small.{SmallPlaces};
 ghost use Rattle.pruned.specs.Nodes.{SmallExtreme};
-ghost use Rattle.at_once.specs.Values.{withAxis, RowOver, RowFound};
+ghost use Rattle.at_once.specs.Words.{RowNamed};
+ghost use Rattle.at_once.specs.Values.{alongOf, fallAlong, isRowSide, RowOver, RowFound};
 ghost use Rattle.at_once.specs.Pruning.{LeafJob, LeafJudged};
 
 // The least and the greatest value of a halfspace over a block.
@@ -33,21 +36,40 @@ fn falling(amount: i64) -> i64
     amount
 }
 
-// The values with what one more axis adds.
-fn with_axis(values: Extremes, coefficient: i64, low: u64, side: u64) -> Extremes
-    requires { ⌜ SmallCoefficient coefficient ⌝ }
-    requires { ⌜ SmallPlace (low + side) ⌝ }
-    requires { ⌜ SmallExtreme (values .least) ⌝ }
-    requires { ⌜ SmallExtreme (values .greatest) ⌝ }
-    ensures { λ r. ⌜ r ≡ withAxis values coefficient low side ⌝ }
+// What an axis gives over so many places of it: the coefficient of row i, as often.
+fn along(rows: &[i64], i: usize, places: &[u64; Universe::MOST_AXES as usize], axis: usize) -> i64
+    requires { ⌜ RowNamed (now rows) i ⌝ }
+    requires { ⌜ SmallPlaces (now places) ⌝ }
+    requires { ⌜ axis < mostAxes ⌝ }
+    ensures { λ r. ⌜ r ≡ alongOf (rowAt (now (rows .entry)) i) (now (places .entry)) axis ⌝ }
 {
-    let begin = coefficient * (low as i64);
-    let amount = coefficient * (side as i64);
-    let fall = falling(amount);
-    Extremes {
-        least: values.least + begin + fall,
-        greatest: values.greatest + begin + (amount - fall),
-    }
+    rows[csg::ROW_LENGTH * i + 1 + axis] * (places[axis] as i64)
+}
+
+// What all axes give.
+fn sum_along(rows: &[i64], i: usize, places: &[u64; Universe::MOST_AXES as usize]) -> i64
+    requires { ⌜ RowNamed (now rows) i ⌝ }
+    requires { ⌜ SmallPlaces (now places) ⌝ }
+    ensures { λ r. ⌜ r ≡ total mostAxes (alongOf (rowAt (now (rows .entry)) i) (now (places .entry))) ⌝ }
+{
+    let first = along(rows, i, places, 0);
+    let second = along(rows, i, places, 1);
+    let third = along(rows, i, places, 2);
+    let fourth = along(rows, i, places, 3);
+    first + second + third + fourth
+}
+
+// What falls of it.
+fn fall_along(rows: &[i64], i: usize, places: &[u64; Universe::MOST_AXES as usize]) -> i64
+    requires { ⌜ RowNamed (now rows) i ⌝ }
+    requires { ⌜ SmallPlaces (now places) ⌝ }
+    ensures { λ r. ⌜ r ≡ total mostAxes (fallAlong (rowAt (now (rows .entry)) i) (now (places .entry))) ⌝ }
+{
+    let first = falling(along(rows, i, places, 0));
+    let second = falling(along(rows, i, places, 1));
+    let third = falling(along(rows, i, places, 2));
+    let fourth = falling(along(rows, i, places, 3));
+    first + second + third + fourth
 }
 
 // The values of row i over the block with these low places and sides.
@@ -61,15 +83,13 @@ fn extremes_of_row(
     ensures { λ r. ⌜ ((job : RowOver (now (rows .entry)) i (now (low .entry)) (now (side .entry)))
         → RowFound job (r .least) (r .greatest)) ⌝ }
 {
-    let first = csg::ROW_LENGTH * i;
-    let none = Extremes {
-        least: rows[first],
-        greatest: rows[first],
-    };
-    let one = with_axis(none, rows[first + 1], low[0], side[0]);
-    let two = with_axis(one, rows[first + 2], low[1], side[1]);
-    let three = with_axis(two, rows[first + 3], low[2], side[2]);
-    with_axis(three, rows[first + 4], low[3], side[3])
+    let value = rows[csg::ROW_LENGTH * i] + sum_along(rows, i, low);
+    let all = sum_along(rows, i, side);
+    let fall = fall_along(rows, i, side);
+    Extremes {
+        least: value + fall,
+        greatest: value + (all - fall),
+    }
 }
 
 // The codes of leaves from which on they are sides of halfspaces, and of balls.
@@ -82,6 +102,16 @@ fn is_turned(code: u16) -> bool
     ensures { λ r. ⌜ r ≡ eqb (code % 2) 1 ⌝ }
 {
     code % 2 == 1
+}
+
+// Whether a leaf's code is that of a halfspace's side.
+fn is_row_side(code: u16) -> bool
+    ensures { λ r. ⌜ r ≡ isRowSide code ⌝ }
+{
+    if code < FIRST_SIDE {
+        return false;
+    }
+    code < FIRST_BALL_SIDE
 }
 
 // Judges the leaf with this code over the block.
@@ -98,6 +128,11 @@ pub(crate) fn judge_leaf(
     ensures { λ r. let surfaces = surfacesOf (now (rows .entry)) (now (balls .entry)) in
         ⌜ ((job : LeafJob surfaces axes (now (low .entry)) (now (side .entry)) code) → LeafJudged job r) ⌝ }
 {
+    if is_row_side(code) {
+        let row = code as usize / 2 - csg::FIRST_HALFSPACE as usize;
+        let values = extremes_of_row(rows, row, low, side);
+        return side_code(code, 0 <= values.least, values.greatest <= 0);
+    }
     if code < FIRST_SIDE {
         if code == 0 {
             return WHITE_BIT;
@@ -105,12 +140,6 @@ pub(crate) fn judge_leaf(
         return BLACK_BIT;
     }
     let turned = is_turned(code);
-    if code < FIRST_BALL_SIDE {
-        let row = ((code - FIRST_SIDE) / 2) as usize;
-        let values = extremes_of_row(rows, row, low, side);
-        let bits = tested_code(0 <= values.least, values.greatest <= 0);
-        return turned_code(turned, bits);
-    }
     let ball = ((code - FIRST_BALL_SIDE) / 2) as usize;
     let bits = code_of_ball(axes - 1, balls, ball, low, side);
     turned_code(turned, bits)

@@ -1,6 +1,7 @@
 // A mark in two bits, its code: by two tests, reversed, and joined by an operator.
 ghost use mathlib.Core.Path.{_≡_};
-ghost use Prim.Native.Nat.{_+_, _<_, _^_};
+ghost use Prim.Native.Nat.{_+_, _%_, _<_, _^_};
+ghost use lib.Dec.{eqb};
 ghost use Rattle.convert.specs.Codes.{testedCode};
 ghost use Rattle.pruned.specs.Nodes.{turnedCode, joinedCode, endAfter};
 
@@ -26,6 +27,21 @@ pub(crate) fn turned_code(turned: bool, code: u8) -> u8
         return code % WHITE_BIT * WHITE_BIT + code / WHITE_BIT;
     }
     code
+}
+
+// The code of the side with this code by the tests of the least and of the greatest value, the least looked at first;
+// of a side that is reversed, whose code is odd, the bits are exchanged.
+pub(crate) fn side_code(code: u16, least: bool, greatest: bool) -> u8
+    ensures { λ r. ⌜ r ≡ turnedCode (eqb (code % 2) 1) (testedCode least greatest) ⌝ }
+{
+    let turned = code % 2;
+    if least {
+        return (BLACK_BIT as u16 + turned) as u8;
+    }
+    if greatest {
+        return (WHITE_BIT as u16 - turned) as u8;
+    }
+    0
 }
 
 // The code of two shapes joined, by INTERSECTION where `meet` and else by UNION.

@@ -3,11 +3,11 @@
 use crate::digits::WORD_LEVELS;
 ghost use mathlib.Core.Path.{_≡_};
 ghost use Prim.Native.Nat.{_+_, _*_, _^_};
-ghost use lib.IntN.{pos};
+ghost use lib.IntN.{pos, _+ℤ_};
 ghost use lib.Signed.{leZ};
 ghost use Rattle.lemmas.specs.Grid.{count};
 ghost use Rattle.masks.specs.Leaves.{rowMask};
-ghost use Rattle.at_once.specs.Words.{stepAt, OnePair, PairReady, FewSteps, TwiceSteps, FewValues};
+ghost use Rattle.at_once.specs.Words.{stepAt, paired, OnePair, PairReady, FewSteps, TwiceSteps, FewValues};
 
 // What is added to each of the two, the place of the second one, and a number in both places.
 const MORE: i64 = 0x4000_0000;
@@ -53,7 +53,7 @@ fn pair_of_eight(pair: i64, steps: &[i64; WORD_LEVELS]) -> u64
     pair_of_four(pair, steps) | pair_of_four(pair + steps[2], steps) << 4
 }
 
-fn pair_of_sixteen(pair: i64, steps: &[i64; WORD_LEVELS]) -> u64
+pub(crate) fn pair_of_sixteen(pair: i64, steps: &[i64; WORD_LEVELS]) -> u64
     requires { ⌜ PairReady 4 pair (now steps) ⌝ }
     ensures { λ r. ⌜ ((job : PairReady 4 pair (now (steps .entry)))
         → r ≡ rowMask (job .second) (job .step) 4 * 2 ^ 32 + rowMask (job .first) (job .step) 4) ⌝ }
@@ -70,7 +70,7 @@ fn pair_of_thirty_two(pair: i64, steps: &[i64; WORD_LEVELS]) -> u64
 }
 
 // The steps of both values, of as many digits.
-fn both_steps(steps: &[i64; WORD_LEVELS]) -> [i64; WORD_LEVELS]
+pub(crate) fn both_steps(steps: &[i64; WORD_LEVELS]) -> [i64; WORD_LEVELS]
     requires { ⌜ FewSteps (now steps) ⌝ }
     ensures { λ r. ⌜ TwiceSteps (now (steps .entry)) r ⌝ }
 {
@@ -84,11 +84,19 @@ fn both_steps(steps: &[i64; WORD_LEVELS]) -> [i64; WORD_LEVELS]
     ]
 }
 
+// The value at the first voxel and that at the first of the high half in one number.
+pub(crate) fn first_pair(v: i64, steps: &[i64; WORD_LEVELS]) -> i64
+    requires { ⌜ FewValues v (now steps) ⌝ }
+    ensures { λ r. ⌜ r ≡ paired v (v +ℤ stepAt (now (steps .entry)) 5) ⌝ }
+{
+    (v + steps[5] + MORE) * PLACE + (v + MORE)
+}
+
 // The 64 digits from a value and its steps, all so small that two values have room in one number.
 pub(crate) fn pairs_word(v: i64, steps: &[i64; WORD_LEVELS]) -> u64
     requires { ⌜ FewValues v (now steps) ⌝ }
     ensures { λ r. ⌜ r ≡ rowMask v (stepAt (now (steps .entry))) 6 ⌝ }
 {
     let both = both_steps(steps);
-    pair_of_thirty_two((v + steps[5] + MORE) * PLACE + (v + MORE), &both)
+    pair_of_thirty_two(first_pair(v, steps), &both)
 }

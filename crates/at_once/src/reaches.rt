@@ -2,7 +2,7 @@
 use crate::digits::WORD_LEVELS;
 ghost use mathlib.Core.Path.{_≡_};
 ghost use Rattle.lemmas.specs.Sums.{total};
-ghost use Rattle.at_once.specs.Words.{wordLevels, fallOf, riseOf, SmallSteps, fallAt, riseAt};
+ghost use Rattle.at_once.specs.Words.{wordLevels, fallOf, SmallSteps, fallAt, riseAt};
 
 // What falls by a step: all of it where it is negative, else nothing.
 fn fall(step: i64) -> i64
@@ -12,16 +12,6 @@ fn fall(step: i64) -> i64
         return 0;
     }
     step
-}
-
-// What rises by it.
-fn rise(step: i64) -> i64
-    ensures { λ r. ⌜ r ≡ riseOf step ⌝ }
-{
-    if 0 <= step {
-        return step;
-    }
-    0
 }
 
 // What falls by all steps.
@@ -38,16 +28,11 @@ pub(crate) fn fall_of(steps: &[i64; WORD_LEVELS]) -> i64
     one + two + three + four + five + six
 }
 
-// What rises by all steps.
+// What rises by all steps: all of them less what falls.
 pub(crate) fn rise_of(steps: &[i64; WORD_LEVELS]) -> i64
     requires { ⌜ SmallSteps (now steps) ⌝ }
     ensures { λ r. ⌜ r ≡ total wordLevels (riseAt (now (steps .entry))) ⌝ }
 {
-    let one = rise(steps[0]);
-    let two = rise(steps[1]);
-    let three = rise(steps[2]);
-    let four = rise(steps[3]);
-    let five = rise(steps[4]);
-    let six = rise(steps[5]);
-    one + two + three + four + five + six
+    let all = steps[0] + steps[1] + steps[2] + steps[3] + steps[4] + steps[5];
+    all - fall_of(steps)
 }

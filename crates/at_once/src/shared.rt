@@ -1,4 +1,5 @@
-// Sure and possible contact of two trees over a window of frames: the checks in their order, and then the whole universe.
+// Sure and possible contact of two trees over a window of frames: the checks in their order, and then the whole
+// universe.
 use crate::answer::Contacts;
 use crate::prune::MOST_SHAPES;
 use crate::tally::Tally;
@@ -38,6 +39,9 @@ fn whole_tally(
     let mut codes = [0u16; MOST_CODES];
     let mut starts = [0usize; MOST_SHAPES];
     let mut marks = [0u8; MOST_SHAPES];
+    let mut sures = [0u64; MOST_SHAPES];
+    let mut centres = [0u64; MOST_SHAPES];
+    let mut possibles = [0u64; MOST_SHAPES];
     load_both(first, second, &mut codes, &mut starts);
     tally_block(
         universe.axes as usize,
@@ -53,6 +57,9 @@ fn whole_tally(
         first.len() + second.len(),
         &mut starts,
         &mut marks,
+        &mut sures,
+        &mut centres,
+        &mut possibles,
         first_frame,
         last_frame,
     )

@@ -6,18 +6,18 @@ use crate::frames::lesser;
 use crate::frames::voxels_of;
 use crate::marks::BLACK_BIT;
 use crate::marks::WHITE_BIT;
-use crate::own::own_trees_word;
 use crate::prune::MOST_SHAPES;
 use crate::prune::prune;
-use crate::window::window_word;
-use crate::word::trees_word;
+use crate::three::three_words;
+use crate::window::frames_word;
 use universe::Universe;
 ghost use mathlib.Core.Path.{_≡_};
 ghost use Prim.Native.Nat.{_+_, _≤_};
 ghost use Rattle.csg.specs.Surfaces.{surfacesOf};
-ghost use Rattle.pruned.specs.Nodes.{Shelves};
-ghost use Rattle.at_once.specs.Counting.{BlockJob, WordJob, PutBack};
-ghost use Rattle.at_once.specs.Tallies.{tallyOver, tallyOf, tallied, SmallTally};
+ghost use Rattle.at_once.specs.Words.{wordLevels};
+ghost use Rattle.at_once.specs.Own.{ThreeShelves};
+ghost use Rattle.at_once.specs.Counting.{BlockJob, PutBack};
+ghost use Rattle.at_once.specs.Tallies.{tallyOver, tallyOf, tallied, SmallTally, TallyShelves};
 
 // How many voxels are sure, black at their centre, and possible.
 pub(crate) struct Tally {
@@ -50,8 +50,7 @@ fn tallied(below: Tally, above: Tally) -> Tally
     }
 }
 
-// Counts a block whose voxels have a digit each in one word. Where none is possible there is no contact, and where
-// the possible ones are sure there is no doubt.
+// Counts a block whose voxels have a digit each in one word: nothing where none is possible.
 fn tally_word(
     axes: usize,
     rows: &[i64],
@@ -59,31 +58,28 @@ fn tally_word(
     table: &[usize; Universe::MOST_LEVELS as usize],
     lengths: &[u64; WORD_LEVELS],
     low: &[u64; Universe::MOST_AXES as usize],
+    side: &[u64; Universe::MOST_AXES as usize],
     left: u64,
     codes: &[u16],
     from: usize,
     count: usize,
+    sures: &mut [u64; MOST_SHAPES],
+    centres: &mut [u64; MOST_SHAPES],
+    possibles: &mut [u64; MOST_SHAPES],
     first: u64,
     last: u64,
 ) -> Tally
     requires { let surfaces = surfacesOf (now rows) (now balls) in
-        ⌜ WordJob surfaces axes (now table) (now lengths) (now low) left (now codes) from count ⌝ }
+        ⌜ BlockJob surfaces axes (now table) (now lengths) (now low) (now side) left (now codes) from count
+        (left + 1) ⌝ }
+    requires { ⌜ left ≤ wordLevels ⌝ }
+    requires { ⌜ ThreeShelves (now sures) (now centres) (now possibles) ⌝ }
     ensures { λ r. let surfaces = surfacesOf (now (rows .entry)) (now (balls .entry)) in
-        ⌜ ((job : WordJob surfaces axes (now (table .entry)) (now (lengths .entry)) (now (low .entry)) left
-        (now (codes .entry)) from count) → r ≡ tallyOver first last (job .block)) ⌝ }
+        ⌜ ((job : BlockJob surfaces axes (now (table .entry)) (now (lengths .entry)) (now (low .entry))
+        (now (side .entry)) left (now (codes .entry)) from count (left + 1)) → r ≡ tallyOver first last job) ⌝ }
+    ensures { λ _. ⌜ ThreeShelves (now (sures .exit)) (now (centres .exit)) (now (possibles .exit)) ⌝ }
 {
-    let frame_axis = axes - 1;
-    let window = window_word(
-        first,
-        last,
-        frame_axis,
-        table,
-        lengths,
-        left,
-        low[frame_axis],
-    );
-    let doubted = own_trees_word(
-        true,
+    let words = three_words(
         axes,
         rows,
         balls,
@@ -94,44 +90,24 @@ fn tally_word(
         codes,
         from,
         count,
+        sures,
+        centres,
+        possibles,
     );
-    let possible = doubted & window;
+    let sure = words.sure;
+    let centre = words.centre;
+    let possible = words.possible;
     if possible == 0 {
         return tally_of(0);
     }
-    let certain = own_trees_word(
-        false,
-        axes,
-        rows,
-        balls,
-        table,
-        lengths,
-        low,
-        left,
-        codes,
-        from,
-        count,
-    );
-    let sure = certain & window;
-    if sure == possible {
-        return tally_of(ones_of(sure));
-    }
-    let trees = trees_word(
-        axes,
-        rows,
-        balls,
-        table,
-        lengths,
-        low,
-        left,
-        codes,
-        from,
-        count,
-    );
+    let frame_axis = axes - 1;
+    let frame = low[frame_axis];
+    let wide = side[frame_axis];
+    let window = frames_word(first, last, frame_axis, table, lengths, left, frame, wide);
     Tally {
-        sure: ones_of(sure),
-        centre: ones_of(trees & window),
-        possible: ones_of(possible),
+        sure: ones_of(sure & window),
+        centre: ones_of(centre & window),
+        possible: ones_of(possible & window),
     }
 }
 
@@ -151,19 +127,23 @@ pub(crate) fn tally_block(
     count: usize,
     starts: &mut [usize; MOST_SHAPES],
     marks: &mut [u8; MOST_SHAPES],
+    sures: &mut [u64; MOST_SHAPES],
+    centres: &mut [u64; MOST_SHAPES],
+    possibles: &mut [u64; MOST_SHAPES],
     first: u64,
     last: u64,
 ) -> Tally
     requires { let surfaces = surfacesOf (now rows) (now balls) in
         ⌜ BlockJob surfaces axes (now table) (now lengths) (now low) (now side) left (now codes) from count
         (left + 1) ⌝ }
-    requires { ⌜ Shelves (now starts) (now marks) ⌝ }
+    requires { ⌜ TallyShelves (now starts) (now marks) (now sures) (now centres) (now possibles) ⌝ }
     ensures { λ r. let surfaces = surfacesOf (now (rows .entry)) (now (balls .entry)) in
         ⌜ ((job : BlockJob surfaces axes (now (table .entry)) (now (lengths .entry)) (now (low .entry))
         (now (side .entry)) left (now (codes .entry)) from count (left + 1)) → r ≡ tallyOver first last job) ⌝ }
     ensures { λ _. ⌜ PutBack (from + count) (now (low .entry)) (now (side .entry)) (now (codes .entry))
         (now (low .exit)) (now (side .exit)) (now (codes .exit)) ⌝ }
-    ensures { λ _. ⌜ Shelves (now (starts .exit)) (now (marks .exit)) ⌝ }
+    ensures { λ _. ⌜ TallyShelves (now (starts .exit)) (now (marks .exit)) (now (sures .exit)) (now (centres .exit))
+        (now (possibles .exit)) ⌝ }
 {
     let frame_axis = axes - 1;
     let frame = low[frame_axis];
@@ -181,10 +161,14 @@ pub(crate) fn tally_block(
             table,
             lengths,
             low,
+            side,
             left,
             codes,
             from,
             count,
+            sures,
+            centres,
+            possibles,
             first,
             last,
         );
@@ -223,6 +207,9 @@ pub(crate) fn tally_block(
         nodes,
         starts,
         marks,
+        sures,
+        centres,
+        possibles,
         first,
         last,
     )
@@ -243,19 +230,23 @@ fn tally_halves(
     count: usize,
     starts: &mut [usize; MOST_SHAPES],
     marks: &mut [u8; MOST_SHAPES],
+    sures: &mut [u64; MOST_SHAPES],
+    centres: &mut [u64; MOST_SHAPES],
+    possibles: &mut [u64; MOST_SHAPES],
     first: u64,
     last: u64,
 ) -> Tally
     requires { let surfaces = surfacesOf (now rows) (now balls) in
         ⌜ BlockJob surfaces axes (now table) (now lengths) (now low) (now side) left (now codes) from count left ⌝ }
     requires { ⌜ 1 ≤ left ⌝ }
-    requires { ⌜ Shelves (now starts) (now marks) ⌝ }
+    requires { ⌜ TallyShelves (now starts) (now marks) (now sures) (now centres) (now possibles) ⌝ }
     ensures { λ r. let surfaces = surfacesOf (now (rows .entry)) (now (balls .entry)) in
         ⌜ ((job : BlockJob surfaces axes (now (table .entry)) (now (lengths .entry)) (now (low .entry))
         (now (side .entry)) left (now (codes .entry)) from count left) → r ≡ tallyOver first last job) ⌝ }
     ensures { λ _. ⌜ PutBack (from + count) (now (low .entry)) (now (side .entry)) (now (codes .entry))
         (now (low .exit)) (now (side .exit)) (now (codes .exit)) ⌝ }
-    ensures { λ _. ⌜ Shelves (now (starts .exit)) (now (marks .exit)) ⌝ }
+    ensures { λ _. ⌜ TallyShelves (now (starts .exit)) (now (marks .exit)) (now (sures .exit)) (now (centres .exit))
+        (now (possibles .exit)) ⌝ }
 {
     let axis = table[(left - 1) as usize];
     let near = low[axis];
@@ -276,6 +267,9 @@ fn tally_halves(
         count,
         starts,
         marks,
+        sures,
+        centres,
+        possibles,
         first,
         last,
     );
@@ -294,6 +288,9 @@ fn tally_halves(
         count,
         starts,
         marks,
+        sures,
+        centres,
+        possibles,
         first,
         last,
     );

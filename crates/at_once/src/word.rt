@@ -120,12 +120,16 @@ fn sixty_four(v: i64, steps: &[i64; WORD_LEVELS]) -> u64
     each_of_sixty_four(v, steps)
 }
 
-// The word of a halfspace over a block with so many levels left. The digits that the block does not have are 0.
+// The word of a halfspace over a block with so many levels left. The digits that the block does not have are 0; with
+// six levels it has them all.
 pub(crate) fn row_word(v: i64, steps: &[i64; WORD_LEVELS], left: u64) -> u64
     requires { ⌜ RowReady 6 v (now steps) ⌝ }
     requires { ⌜ left ≤ wordLevels ⌝ }
     ensures { λ r. ⌜ r ≡ rowMask v (stepAt (now (steps .entry))) left ⌝ }
 {
+    if left == WORD_LEVELS as u64 {
+        return sixty_four(v, steps);
+    }
     sixty_four(v, steps) & all_ones(left)
 }
 
@@ -141,7 +145,8 @@ fn term_of_row(
     requires { ⌜ axis < mostAxes ⌝ }
     ensures { λ r. ⌜ r ≡ termOf (rowAt (now (rows .entry)) i) (now (low .entry)) axis ⌝ }
 {
-    rows[csg::ROW_LENGTH * i + 1 + axis] * ((2 * low[axis] + 1) as i64)
+    let coefficient = rows[csg::ROW_LENGTH * i + 1 + axis];
+    2 * (coefficient * (low[axis] as i64)) + coefficient
 }
 
 // That value.
@@ -254,7 +259,7 @@ fn square_along(axis: usize, places: usize, off: i64) -> i64
 }
 
 // The sum of the squares.
-fn distance_of(places: usize, offs: [i64; csg::MOST_PLACES]) -> i64
+pub(crate) fn distance_of(places: usize, offs: [i64; csg::MOST_PLACES]) -> i64
     requires { ⌜ SmallOffs offs ⌝ }
     ensures { λ r. ⌜ r ≡ squaresOf places offs ⌝ }
 {
@@ -308,7 +313,7 @@ fn ball_word(
 }
 
 // The word of ball i over the block with these low places.
-fn word_of_ball(
+pub(crate) fn word_of_ball(
     axes: usize,
     rows: &[i64],
     balls: &[i64],
@@ -351,7 +356,7 @@ fn surface_word(
         (wordBlock (job .block))) ⌝ }
 {
     if name < csg::FIRST_BALL {
-        let i = (name - csg::FIRST_HALFSPACE) as usize;
+        let i = name as usize - csg::FIRST_HALFSPACE as usize;
         return word_of_row(axes, rows, balls, i, table, lengths, low, left);
     }
     let i = (name - csg::FIRST_BALL) as usize;
@@ -378,11 +383,11 @@ fn leaf_word(
         ⌜ ((job : LeafWord surfaces axes (now (table .entry)) (now (lengths .entry)) (now (low .entry)) left code)
         → r ≡ blockMask (plainColour surfaces (job .block .universe) (job .tree)) left (wordBlock (job .block))) ⌝ }
 {
-    if code == 0 {
-        return 0;
-    }
     let ones = all_ones(left);
     if code < FIRST_SIDE {
+        if code == 0 {
+            return 0;
+        }
         return ones;
     }
     let word = surface_word(axes, rows, balls, table, lengths, low, left, code / 2);

@@ -1,6 +1,8 @@
 // Answers at once run through the entry points: a line for each question, the number and the verdict, the number and
 // the ends, and beside them the verdict in lent room on the same scene; and merged expressions, the number, the length
-// and the room, and beside them those of the first conversion.
+// and the room, and beside them those of the first conversion; and both conversions in rooms at each edge.
+mod rooms;
+
 use at_once::Span;
 use bintree::Verdict;
 use bintree::Written;
@@ -769,4 +771,5 @@ fn main() {
     axes();
     refusals();
     merged();
+    rooms::rooms();
 }

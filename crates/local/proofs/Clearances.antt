@@ -1,5 +1,5 @@
--- The verdict of two trees by way of their raw conversion: with a window that is accepted the checks are the conversion's own, so a refusal of the conversion is
--- the verdict's; where there is none, crate `convert` has the rest.
+-- The verdict of two trees by way of their raw conversion: with a window that is accepted the checks are the conversion's own, so a refusal of the
+-- conversion is the verdict's; where there is none, crate `convert` has the rest.
 use Prim.Native.Nat.{ℕ, _≤_}
 use mathlib.Core.Path.{_≡_, refl, sym, ap, _∙_}
 use mathlib.Core.Bool.{false}

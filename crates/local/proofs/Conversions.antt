@@ -2,6 +2,7 @@
 -- not, and then the work room's check accepts.
 use Prim.Native.Nat.{ℕ, _+_, _≤_}
 use mathlib.Core.Path.{_≡_, ap₂, _∙_}
+use mathlib.Core.Bool.{Bool, true, false}
 use mathlib.Core.List.{List, [], _∷_}
 use lib.IntN.{ℤ}
 use lib.ListN.{length}
@@ -15,7 +16,8 @@ use Rattle.pruned.specs.Answers.{nodesLent, nodesNeeded}
 use Rattle.pruned.specs.Answers as pruned
 use Rattle.pruned.proofs.Answers.{same}
 use Rattle.pruned.proofs.Conversions.{all-accepted, one-refusal}
-use Rattle.local.specs.Rooms.{Suffices, partsOf}
+use Rattle.local.specs.Rooms.{Suffices, partsOf, rawAnswer, rawBuffer}
+use Rattle.local.proofs.Rooms.{fewer-suffice}
 
 -- a writing by its two numbers
 parts : {number long : ℕ} {w : Written} → number ≡ w .refusal → long ≡ w .length → record { refusal = number; length = long } ≡ w
@@ -47,3 +49,15 @@ module _ (u : Universe) (surfaces : Surfaces) (first second : List ℕ) (work : 
       let k = same (twoTreesRefusal u surfaces first second) work (nodesNeeded u (length first + length second)) out (rawOfTwo u surfaces first second) _
       two-accepted in
       (a ∙ rw f (parts (k .number) (k .long)), g ∙ k .room)
+
+  -- whichever of both is asked for
+  pub first-alone : {both : Bool} → both ≡ false → {found : Conversion} {out′ : List ℕ} →
+      found ≡ pruned.rawOfOneAnswer u surfaces first work out → out′ ≡ pruned.rawOfOneBuffer u surfaces first work out → {w : Written} → w ≡ partsOf found →
+      (w ≡ rawAnswer both u surfaces first second out) × (out′ ≡ rawBuffer both u surfaces first second out)
+  first-alone b f g a = rw b (one-as-first u surfaces first work out (fewer-suffice _ _ s) f g a)
+
+  pub both-together : {both : Bool} → both ≡ true → {found : Conversion} {out′ : List ℕ} →
+      found ≡ pruned.rawOfTwoAnswer u surfaces first second work out → out′ ≡ pruned.rawOfTwoBuffer u surfaces first second work out → {w : Written} →
+      w ≡ partsOf found →
+      (w ≡ rawAnswer both u surfaces first second out) × (out′ ≡ rawBuffer both u surfaces first second out)
+  both-together b f g a = rw b (two-as-first f g a)

@@ -4,7 +4,7 @@ use mathlib.Core.Path.{_≡_, refl, ap}
 use native.Mathlib.Omega.{arith}
 use native.Mathlib.Nat.{mul-le-mul}
 use Rattle.universe.specs.declared.Universe.{Universe}
-use Rattle.universe.specs.Universe.{mostLevels}
+use Rattle.universe.specs.Universe.{levels, mostLevels}
 use Rattle.universe.specs.Questions.{levelsAnswer}
 use Rattle.universe.proofs.Questions.{levels-told, levels-answered}
 use Rattle.local.specs.Rooms.{many, Suffices}
@@ -27,3 +27,13 @@ none-suffices u words h e k = absurd (omega arith)
 -- more nodes suffice too
 pub more-suffice : {u : Universe} {words nodes more : ℕ} → Suffices u words nodes → nodes ≤ more → Suffices u words more
 more-suffice s h = record { enough = λ z. omega (arith, s .enough z) }
+
+-- so many suffice for fewer words too, and for none besides
+pub fewer-suffice : {u : Universe} (words more : ℕ) {nodes : ℕ} → Suffices u (words + more) nodes → Suffices u words nodes
+fewer-suffice {u} words more s =
+    let l : levels u + 1 ≤ levels u + 1 = omega arith in
+    let w : words ≤ words + more = omega arith in
+    record { enough = λ z. omega (arith, s .enough z, mul-le-mul l w) }
+
+pub none-besides : {u : Universe} {words nodes : ℕ} → Suffices u words nodes → Suffices u (words + 0) nodes
+none-besides {u} {words} s = let e : words + 0 ≡ words = omega arith in rw e s

@@ -1,4 +1,4 @@
-// Work room of the call's own, of three sizes, and the pruned conversions in it.
+// Work room of the call's own, of four sizes, and the pruned conversions in it.
 use bintree::Written;
 use pruned::Conversion;
 use universe::Universe;
@@ -8,18 +8,20 @@ ghost use lib.ListN.{length};
 ghost use Rattle.csg.specs.Surfaces.{surfacesOf};
 ghost use Rattle.convert.specs.Answers.{rawOfOneAnswer, rawOfOneBuffer, rawOfTwoAnswer, rawOfTwoBuffer};
 ghost use Rattle.pruned.specs.Answers.{nodesLent};
-ghost use Rattle.local.specs.Rooms.{few, some, many, Suffices, partsOf};
+ghost use Rattle.local.specs.Rooms.{fewest, few, some, many, Suffices, partsOf, rawAnswer, rawBuffer};
 
 // The numbers of a node.
 const NODE_LENGTH: usize = 3;
 
-// The nodes of the smallest work room.
+// The nodes of the smallest work room: two words need no more with up to 15 levels.
+const FEWEST: usize = 32;
+
+// Those of the next larger ones.
 const FEW: usize = 128;
 
-// Those of the middle one.
 const SOME: usize = 512;
 
-// Those of the largest.
+// Those of the largest: beside its recursion the stack has room for no more.
 pub(crate) const MANY: usize = 1_280;
 
 // The nodes of work room that trees with so many words need (rule 16.4), where they are no more than MANY.
@@ -42,161 +44,148 @@ fn parts_of(found: Conversion) -> Written
     }
 }
 
-// The raw expression of one tree, in work room that suffices.
-fn one_in(
-    universe: Universe,
-    rows: &[i64],
-    balls: &[i64],
-    words: &[u16],
-    work: &mut [i64],
-    out: &mut [u8],
-) -> Written
-    requires { ⌜ Suffices universe (length (now words)) (nodesLent (now work)) ⌝ }
-    ensures { λ r. let surfaces = surfacesOf (now (rows .entry)) (now (balls .entry)) in
-        ⌜ r ≡ rawOfOneAnswer universe surfaces (now (words .entry)) (now (out .entry)) ⌝ }
-    ensures { λ _. let surfaces = surfacesOf (now (rows .entry)) (now (balls .entry)) in
-        ⌜ now (out .exit) ≡ rawOfOneBuffer universe surfaces (now (words .entry)) (now (out .entry)) ⌝ }
-{
-    let found = pruned::raw_of_one(universe, rows, balls, words, work, out);
-    parts_of(found)
-}
-
-// The raw expression of two trees intersected, in work room that suffices.
-fn two_in(
+// The raw expression of both trees intersected, or of the first alone, in work room that suffices.
+fn laid_in(
     universe: Universe,
     rows: &[i64],
     balls: &[i64],
     first: &[u16],
     second: &[u16],
+    both: bool,
     work: &mut [i64],
     out: &mut [u8],
 ) -> Written
     requires { ⌜ Suffices universe (length (now first) + length (now second)) (nodesLent (now work)) ⌝ }
     ensures { λ r. let surfaces = surfacesOf (now (rows .entry)) (now (balls .entry)) in
-        ⌜ r ≡ rawOfTwoAnswer universe surfaces (now (first .entry)) (now (second .entry)) (now (out .entry)) ⌝ }
+        ⌜ r ≡ rawAnswer both universe surfaces (now (first .entry)) (now (second .entry)) (now (out .entry)) ⌝ }
     ensures { λ _. let surfaces = surfacesOf (now (rows .entry)) (now (balls .entry)) in
         ⌜ now (out .exit)
-        ≡ rawOfTwoBuffer universe surfaces (now (first .entry)) (now (second .entry)) (now (out .entry)) ⌝ }
+        ≡ rawBuffer both universe surfaces (now (first .entry)) (now (second .entry)) (now (out .entry)) ⌝ }
 {
-    let found = pruned::raw_of_two(universe, rows, balls, first, second, work, out);
+    if both {
+        let found = pruned::raw_of_two(universe, rows, balls, first, second, work, out);
+        return parts_of(found);
+    }
+    let found = pruned::raw_of_one(universe, rows, balls, first, work, out);
     parts_of(found)
 }
 
-// The raw expression of one tree that needs few nodes.
-fn few_of_one(
-    universe: Universe,
-    rows: &[i64],
-    balls: &[i64],
-    words: &[u16],
-    out: &mut [u8],
-) -> Written
-    requires { ⌜ Suffices universe (length (now words)) few ⌝ }
-    ensures { λ r. let surfaces = surfacesOf (now (rows .entry)) (now (balls .entry)) in
-        ⌜ r ≡ rawOfOneAnswer universe surfaces (now (words .entry)) (now (out .entry)) ⌝ }
-    ensures { λ _. let surfaces = surfacesOf (now (rows .entry)) (now (balls .entry)) in
-        ⌜ now (out .exit) ≡ rawOfOneBuffer universe surfaces (now (words .entry)) (now (out .entry)) ⌝ }
-{
-    let mut work = [0i64; NODE_LENGTH * FEW];
-    one_in(universe, rows, balls, words, &mut work, out)
-}
-
-// The same of some more nodes.
-fn some_of_one(
-    universe: Universe,
-    rows: &[i64],
-    balls: &[i64],
-    words: &[u16],
-    out: &mut [u8],
-) -> Written
-    requires { ⌜ Suffices universe (length (now words)) some ⌝ }
-    ensures { λ r. let surfaces = surfacesOf (now (rows .entry)) (now (balls .entry)) in
-        ⌜ r ≡ rawOfOneAnswer universe surfaces (now (words .entry)) (now (out .entry)) ⌝ }
-    ensures { λ _. let surfaces = surfacesOf (now (rows .entry)) (now (balls .entry)) in
-        ⌜ now (out .exit) ≡ rawOfOneBuffer universe surfaces (now (words .entry)) (now (out .entry)) ⌝ }
-{
-    let mut work = [0i64; NODE_LENGTH * SOME];
-    one_in(universe, rows, balls, words, &mut work, out)
-}
-
-// The same of many nodes.
-fn many_of_one(
-    universe: Universe,
-    rows: &[i64],
-    balls: &[i64],
-    words: &[u16],
-    out: &mut [u8],
-) -> Written
-    requires { ⌜ Suffices universe (length (now words)) many ⌝ }
-    ensures { λ r. let surfaces = surfacesOf (now (rows .entry)) (now (balls .entry)) in
-        ⌜ r ≡ rawOfOneAnswer universe surfaces (now (words .entry)) (now (out .entry)) ⌝ }
-    ensures { λ _. let surfaces = surfacesOf (now (rows .entry)) (now (balls .entry)) in
-        ⌜ now (out .exit) ≡ rawOfOneBuffer universe surfaces (now (words .entry)) (now (out .entry)) ⌝ }
-{
-    let mut work = [0i64; NODE_LENGTH * MANY];
-    one_in(universe, rows, balls, words, &mut work, out)
-}
-
-// The raw expression of two trees that need few nodes.
-fn few_of_two(
+// The same in the smallest work room.
+fn fewest_of(
     universe: Universe,
     rows: &[i64],
     balls: &[i64],
     first: &[u16],
     second: &[u16],
+    both: bool,
+    out: &mut [u8],
+) -> Written
+    requires { ⌜ Suffices universe (length (now first) + length (now second)) fewest ⌝ }
+    ensures { λ r. let surfaces = surfacesOf (now (rows .entry)) (now (balls .entry)) in
+        ⌜ r ≡ rawAnswer both universe surfaces (now (first .entry)) (now (second .entry)) (now (out .entry)) ⌝ }
+    ensures { λ _. let surfaces = surfacesOf (now (rows .entry)) (now (balls .entry)) in
+        ⌜ now (out .exit)
+        ≡ rawBuffer both universe surfaces (now (first .entry)) (now (second .entry)) (now (out .entry)) ⌝ }
+{
+    let mut work = [0i64; NODE_LENGTH * FEWEST];
+    laid_in(universe, rows, balls, first, second, both, &mut work, out)
+}
+
+// The same in the second.
+fn few_of(
+    universe: Universe,
+    rows: &[i64],
+    balls: &[i64],
+    first: &[u16],
+    second: &[u16],
+    both: bool,
     out: &mut [u8],
 ) -> Written
     requires { ⌜ Suffices universe (length (now first) + length (now second)) few ⌝ }
     ensures { λ r. let surfaces = surfacesOf (now (rows .entry)) (now (balls .entry)) in
-        ⌜ r ≡ rawOfTwoAnswer universe surfaces (now (first .entry)) (now (second .entry)) (now (out .entry)) ⌝ }
+        ⌜ r ≡ rawAnswer both universe surfaces (now (first .entry)) (now (second .entry)) (now (out .entry)) ⌝ }
     ensures { λ _. let surfaces = surfacesOf (now (rows .entry)) (now (balls .entry)) in
         ⌜ now (out .exit)
-        ≡ rawOfTwoBuffer universe surfaces (now (first .entry)) (now (second .entry)) (now (out .entry)) ⌝ }
+        ≡ rawBuffer both universe surfaces (now (first .entry)) (now (second .entry)) (now (out .entry)) ⌝ }
 {
     let mut work = [0i64; NODE_LENGTH * FEW];
-    two_in(universe, rows, balls, first, second, &mut work, out)
+    laid_in(universe, rows, balls, first, second, both, &mut work, out)
 }
 
-// The same of some more nodes.
-fn some_of_two(
+// The same in the third.
+fn some_of(
     universe: Universe,
     rows: &[i64],
     balls: &[i64],
     first: &[u16],
     second: &[u16],
+    both: bool,
     out: &mut [u8],
 ) -> Written
     requires { ⌜ Suffices universe (length (now first) + length (now second)) some ⌝ }
     ensures { λ r. let surfaces = surfacesOf (now (rows .entry)) (now (balls .entry)) in
-        ⌜ r ≡ rawOfTwoAnswer universe surfaces (now (first .entry)) (now (second .entry)) (now (out .entry)) ⌝ }
+        ⌜ r ≡ rawAnswer both universe surfaces (now (first .entry)) (now (second .entry)) (now (out .entry)) ⌝ }
     ensures { λ _. let surfaces = surfacesOf (now (rows .entry)) (now (balls .entry)) in
         ⌜ now (out .exit)
-        ≡ rawOfTwoBuffer universe surfaces (now (first .entry)) (now (second .entry)) (now (out .entry)) ⌝ }
+        ≡ rawBuffer both universe surfaces (now (first .entry)) (now (second .entry)) (now (out .entry)) ⌝ }
 {
     let mut work = [0i64; NODE_LENGTH * SOME];
-    two_in(universe, rows, balls, first, second, &mut work, out)
+    laid_in(universe, rows, balls, first, second, both, &mut work, out)
 }
 
-// The same of many nodes.
-fn many_of_two(
+// The same in the largest.
+fn many_of(
     universe: Universe,
     rows: &[i64],
     balls: &[i64],
     first: &[u16],
     second: &[u16],
+    both: bool,
     out: &mut [u8],
 ) -> Written
     requires { ⌜ Suffices universe (length (now first) + length (now second)) many ⌝ }
     ensures { λ r. let surfaces = surfacesOf (now (rows .entry)) (now (balls .entry)) in
-        ⌜ r ≡ rawOfTwoAnswer universe surfaces (now (first .entry)) (now (second .entry)) (now (out .entry)) ⌝ }
+        ⌜ r ≡ rawAnswer both universe surfaces (now (first .entry)) (now (second .entry)) (now (out .entry)) ⌝ }
     ensures { λ _. let surfaces = surfacesOf (now (rows .entry)) (now (balls .entry)) in
         ⌜ now (out .exit)
-        ≡ rawOfTwoBuffer universe surfaces (now (first .entry)) (now (second .entry)) (now (out .entry)) ⌝ }
+        ≡ rawBuffer both universe surfaces (now (first .entry)) (now (second .entry)) (now (out .entry)) ⌝ }
 {
     let mut work = [0i64; NODE_LENGTH * MANY];
-    two_in(universe, rows, balls, first, second, &mut work, out)
+    laid_in(universe, rows, balls, first, second, both, &mut work, out)
 }
 
-// The raw expression of one tree, in the smallest work room that suffices.
+// The same in the smallest work room that suffices.
+fn pruned_of(
+    universe: Universe,
+    rows: &[i64],
+    balls: &[i64],
+    first: &[u16],
+    second: &[u16],
+    both: bool,
+    nodes: u64,
+    out: &mut [u8],
+) -> Written
+    requires { ⌜ nodes ≤ many ⌝ }
+    requires { ⌜ Suffices universe (length (now first) + length (now second)) nodes ⌝ }
+    ensures { λ r. let surfaces = surfacesOf (now (rows .entry)) (now (balls .entry)) in
+        ⌜ r ≡ rawAnswer both universe surfaces (now (first .entry)) (now (second .entry)) (now (out .entry)) ⌝ }
+    ensures { λ _. let surfaces = surfacesOf (now (rows .entry)) (now (balls .entry)) in
+        ⌜ now (out .exit)
+        ≡ rawBuffer both universe surfaces (now (first .entry)) (now (second .entry)) (now (out .entry)) ⌝ }
+{
+    if nodes <= FEWEST as u64 {
+        return fewest_of(universe, rows, balls, first, second, both, out);
+    }
+    if nodes <= FEW as u64 {
+        return few_of(universe, rows, balls, first, second, both, out);
+    }
+    if nodes <= SOME as u64 {
+        return some_of(universe, rows, balls, first, second, both, out);
+    }
+    many_of(universe, rows, balls, first, second, both, out)
+}
+
+// The raw expression of one tree, pruned in work room of so many nodes or more.
 pub(crate) fn pruned_of_one(
     universe: Universe,
     rows: &[i64],
@@ -212,13 +201,7 @@ pub(crate) fn pruned_of_one(
     ensures { λ _. let surfaces = surfacesOf (now (rows .entry)) (now (balls .entry)) in
         ⌜ now (out .exit) ≡ rawOfOneBuffer universe surfaces (now (words .entry)) (now (out .entry)) ⌝ }
 {
-    if nodes <= FEW as u64 {
-        return few_of_one(universe, rows, balls, words, out);
-    }
-    if nodes <= SOME as u64 {
-        return some_of_one(universe, rows, balls, words, out);
-    }
-    many_of_one(universe, rows, balls, words, out)
+    pruned_of(universe, rows, balls, words, &[], false, nodes, out)
 }
 
 // The same of two trees intersected.
@@ -239,11 +222,5 @@ pub(crate) fn pruned_of_two(
         ⌜ now (out .exit)
         ≡ rawOfTwoBuffer universe surfaces (now (first .entry)) (now (second .entry)) (now (out .entry)) ⌝ }
 {
-    if nodes <= FEW as u64 {
-        return few_of_two(universe, rows, balls, first, second, out);
-    }
-    if nodes <= SOME as u64 {
-        return some_of_two(universe, rows, balls, first, second, out);
-    }
-    many_of_two(universe, rows, balls, first, second, out)
+    pruned_of(universe, rows, balls, first, second, true, nodes, out)
 }

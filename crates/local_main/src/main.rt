@@ -1,6 +1,6 @@
 // Raw conversions and verdicts in local room run beside the first, at both sides of each size of work room: a line for
-// each scene, its levels, words and length, and behind it for each room lent the number and the length, and where answer
-// or room is not that of the first conversion, so.
+// each scene, its levels, words and length, and behind it for each room lent the number and the length, and where
+// answer or room is not that of the first conversion, so.
 use bintree::Verdict;
 use bintree::Written;
 use libc::STDOUT_FILENO;
@@ -347,7 +347,16 @@ fn pairs(
     );
 }
 
-// At both sides of the smallest work room: 126 and 129 nodes of one tree, 128 and 130 of two.
+// At both sides of the smallest work room: 32 and 33 nodes of one tree, 32 and 36 of two.
+fn fewest() {
+    unions(b"one of fewest", universe(4, 7, 10), &[-48, 1, 0, 0, 0], 0);
+    let rows = [-3i64, 1, 0, 0, 0, 70, -1, 0, 0, 0];
+    unions(b"one past fewest", universe(1, 0, 10), &rows, 1);
+    pairs(b"two of fewest", universe(1, 0, 7), &rows, 1, 0, 3, 127);
+    pairs(b"two past fewest", universe(1, 0, 8), &rows, 0, 1, 3, 255);
+}
+
+// At both sides of the second: 126 and 129 nodes of one tree, 128 and 130 of two.
 fn few() {
     let rows = [-23i64, 2, 1, 0, 0];
     unions(b"one of few", universe(2, 5, 12), &rows, 3);
@@ -357,7 +366,7 @@ fn few() {
     pairs(b"two past few", universe(1, 0, 12), &rows, 2, 2, 6, 2_000);
 }
 
-// At both sides of the middle one: 511 and 513 nodes of one tree, 512 and 516 of two.
+// At both sides of the third: 511 and 513 nodes of one tree, 512 and 516 of two.
 fn some() {
     let rows = [-23i64, 2, 1, 0, 0, 900, -3, -1, 0, 0];
     unions(b"one of some", universe(2, 2, 4), &rows, 36);
@@ -432,6 +441,7 @@ fn refused() {
 }
 
 fn main() {
+    fewest();
     few();
     some();
     many();

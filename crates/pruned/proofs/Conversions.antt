@@ -116,7 +116,7 @@ module _ {u : Universe} {surfaces : Surfaces} (scene : SoundScene u surfaces) {s
   sources = record { universe = u; surfaces = surfaces; scene = scene; rows-are = refl; axes-are = refl; standing = stands }
 
 -- the room question's answer
-room-told : (u : Universe) (x b : ℕ) {answer : RoomAnswer} → universeRefusal u ≡ 0 → answer ≡ roomAnswer u x b → answer .symbols ≡ room u x b
+pub room-told : (u : Universe) (x b : ℕ) {answer : RoomAnswer} → universeRefusal u ≡ 0 → answer ≡ roomAnswer u x b → answer .symbols ≡ room u x b
 unfolding roomAnswer
 room-told u x b z e = ap (λ (a : RoomAnswer). a .symbols) e ∙ rw (eq-eqb (universeRefusal u) 0 z)
 
@@ -155,7 +155,7 @@ module _ {u : Universe} {surfaces : Surfaces} {words : List ℕ} {work : List �
   one-tree = treeOf names words
 
   module _ (starts : List ℕ) (l : length starts ≡ mostShapes) {work₁ : List ℤ} {starts₁ : List ℕ} (d : Loaded (one-loading starts l) work₁ starts₁)
-      {x b : ℕ} {answer : RoomAnswer} (p : x ≡ halfspaceWords words) (q : b ≡ ballWords words) (a : answer ≡ roomAnswer u x b) where
+      {x b lent : ℕ} (p : x ≡ halfspaceWords words) (q : b ≡ ballWords words) (a : room u x b ≤ lent) where
     holds-one : Holds surfaces (wholeOf u) work₁ 0 (postfix (plain one-tree))
     unfolding one-loading sources
     holds-one = d .holds
@@ -164,7 +164,11 @@ module _ {u : Universe} {surfaces : Surfaces} {words : List ℕ} {work : List �
     unfolding one-loading sources
     counted-one = d .counted
 
-    pub one-whole : WholeJob u surfaces side work₁ (length words) starts₁ (answer .symbols)
+    one-in-room : size (examineAll surfaces (oneTree surfaces words) (levels u) (wholeBlock u)) ≤ room u x b
+    one-in-room = rw (p, q, ← tree-leaves names words (ready .accepted), ← tree-balls names words (ready .accepted))
+        (in-room u (one-stands surfaces one-tree) (ready .scene .accepted-universe))
+
+    pub one-whole : WholeJob u surfaces side work₁ (length words) starts₁ lent
     unfolding allPostfix countLeaves
     one-whole =
         record {
@@ -178,16 +182,7 @@ module _ {u : Universe} {surfaces : Surfaces} {words : List ℕ} {work : List �
           enough = rw (d .below .long) (ready .enough);
           bounded = rw (d .below .long) (ready .bounded);
           starts-long = d .starts-long;
-          suffices =
-              rw (
-                room-told u x b (ready .scene .accepted-universe) a,
-                p,
-                q,
-                ← tree-leaves names words (ready .accepted),
-                ← tree-balls names words
-                    (ready .accepted),
-              )
-              (in-room u (one-stands surfaces one-tree) (ready .scene .accepted-universe));
+          suffices = omega (arith, one-in-room, a);
         }
 
     pub one-ended : (m : Bool) (out : List ℕ) {r : Conversion} {out′ : List ℕ} →
@@ -248,9 +243,9 @@ module _ {u : Universe} {surfaces : Surfaces} {first second : List ℕ} {work : 
     unfolding first-loading sources
     counted-first = d .counted
 
-    module _ {work₂ : List ℤ} {starts₂ : List ℕ} (f : Loaded second-loading work₂ starts₂) {x y b c : ℕ} {answer : RoomAnswer}
+    module _ {work₂ : List ℤ} {starts₂ : List ℕ} (f : Loaded second-loading work₂ starts₂) {x y b c lent : ℕ}
         (p : x ≡ halfspaceWords first) (p₂ : y ≡ halfspaceWords second) (q : b ≡ ballWords first) (q₂ : c ≡ ballWords second)
-        (a : answer ≡ roomAnswer u (x + y) (b + c)) where
+        (a : room u (x + y) (b + c) ≤ lent) where
       holds-second : Holds surfaces (wholeOf u) work₂ (length first) (postfix plain-second)
       unfolding second-loading sources
       holds-second = f .holds
@@ -272,7 +267,22 @@ module _ {u : Universe} {surfaces : Surfaces} {first second : List ℕ} {work : 
       abbrev both-trees : Tree
       both-trees = treesOf surfaces first second
 
-      pub two-whole : WholeJob u surfaces side work₂ (length first + length second) starts₂ (answer .symbols)
+      two-in-room : size (examineAll surfaces (twoTrees surfaces first second) (levels u) (wholeBlock u)) ≤ room u (x + y) (b + c)
+      unfolding countLeaves
+      two-in-room =
+          rw (
+            p,
+            p₂,
+            q,
+            q₂,
+            ← tree-leaves names₂ first (ready .accepted-first),
+            ← tree-leaves names₂ second (ready .accepted-second),
+            ← tree-balls names₂ first (ready .accepted-first),
+            ← tree-balls names₂ second (ready .accepted-second),
+          )
+          (in-room u (two-stand surfaces (treeOf names₂ first) (treeOf names₂ second)) (ready .scene .accepted-universe))
+
+      pub two-whole : WholeJob u surfaces side work₂ (length first + length second) starts₂ lent
       unfolding allPostfix countLeaves
       two-whole =
           record {
@@ -293,19 +303,7 @@ module _ {u : Universe} {surfaces : Surfaces} {first second : List ℕ} {work : 
             enough = rw same-long (ready .enough);
             bounded = rw same-long (ready .bounded);
             starts-long = f .starts-long;
-            suffices =
-                rw (
-                  room-told u (x + y) (b + c) (ready .scene .accepted-universe) a,
-                  p,
-                  p₂,
-                  q,
-                  q₂,
-                  ← tree-leaves names₂ first (ready .accepted-first),
-                  ← tree-leaves names₂ second (ready .accepted-second),
-                  ← tree-balls names₂ first (ready .accepted-first),
-                  ← tree-balls names₂ second (ready .accepted-second),
-                )
-                (in-room u (two-stand surfaces (treeOf names₂ first) (treeOf names₂ second)) (ready .scene .accepted-universe));
+            suffices = omega (arith, two-in-room, a);
           }
 
       pub two-ended : (m : Bool) (out : List ℕ) {r : Conversion} {out′ : List ℕ} →

@@ -1,8 +1,8 @@
 -- What the machine computes of a halfspace's least and greatest value over a half. The amount, a coefficient times half a length, is small, as a product or
--- shifted; where it is not negative it is what rises and nothing falls, else the other way round.
+-- shifted; where it is not negative all of it rises and nothing falls, else the other way round.
 use Prim.Native.Nat.{ℕ, _+_, _*_, _^_, _≤_, _<_}
 use mathlib.Core.Path.{_≡_, refl, sym, ap, _∙_}
-use mathlib.Core.Bool.{Bool, true, false}
+use mathlib.Core.Bool.{Bool, true, false, cond}
 use native.Mathlib.Omega.{arith}
 use lib.Dec.{lit≤}
 use lib.IntN.{ℤ, pos, natAbs, _+ℤ_, _-ℤ_, _*ℤ_}
@@ -12,6 +12,7 @@ use mir.Val.{SFits, toZ, ofZ}
 use Rattle.lemmas.proofs.Machine.{Near, near, near-cast, near-add, near-sub, near-mul, near-back, near-fits}
 use Rattle.lemmas.proofs.Whole.{up, dn, one-part, Is, is-nat, is-self, is-add, is-sub, is-mul, is-eq, le-is, lt-is, leZ-true, leZ-false}
 use Rattle.universe.specs.Universe.{coefficientLimit, longestSide}
+use Rattle.csg.specs.Halfspace.{lesser, greater}
 use Rattle.csg.proofs.Extremes.{above-is, below-is}
 use Rattle.convert.specs.Codes.{testedCode}
 use Rattle.convert.specs.Small.{SmallCoefficient, SmallPlace}
@@ -136,63 +137,100 @@ pub unmoved : (a : ℤ) {times : ℕ} (high : Bool) (x y : ℤ) → 64 ≤ times
     (x ≡ movedLeast high a (doubled times) x) × (y ≡ movedGreatest high a (doubled times) y)
 unmoved a {times} high x y h = rw (doubled-none h) (least-none high a x, greatest-none high a y)
 
-module _ {m x y : ℤ} (sm : SmallAmount m) (sx : SmallExtreme x) (sy : SmallExtreme y) where
+-- ---- the parts of an amount that rise and that fall, as the machine tells them
+greater-rises : (a : ℤ) (half : ℕ) → greater (pos 0) (a *ℤ pos half) ≡ rises a half
+greater-rises a half = by (leZ (pos 0) (a *ℤ pos half)) refl
+  where
+    by : (t : Bool) → leZ (pos 0) (a *ℤ pos half) ≡ t → cond t (a *ℤ pos half) (pos 0) ≡ rises a half
+    by true e = sym (rises-all a half e .0)
+    by false e = sym (falls-all a half e .0)
+
+pub lesser-falls : (a : ℤ) (half : ℕ) → lesser (pos 0) (a *ℤ pos half) ≡ falls a half
+lesser-falls a half = by (leZ (pos 0) (a *ℤ pos half)) refl
+  where
+    by : (t : Bool) → leZ (pos 0) (a *ℤ pos half) ≡ t → cond t (pos 0) (a *ℤ pos half) ≡ falls a half
+    by true e = sym (rises-all a half e .1)
+    by false e = sym (falls-all a half e .1)
+
+module _ {m : ℤ} (sm : SmallAmount m) where
   by-near : Near (held m) m amountLimit
   by-near = near (record { most = sm .most }) tt
 
-  sum-near : (z : ℤ) → SmallExtreme z → Near (held z +ℤ held m) (z +ℤ m) (extremeLimit + amountLimit)
-  sum-near z s = near-add {x = z} {y = m} (extreme-near s) by-near
+  test-is : {t : Bool} → leZ (pos 0) (held m) ≡ t → leZ (pos 0) m ≡ t
+  test-is e = rw (by-near .same) at e
 
-  less-near : (z : ℤ) → SmallExtreme z → Near (held z -ℤ held m) (z -ℤ m) (extremeLimit + amountLimit)
-  less-near z s = near-sub {x = z} {y = m} (extreme-near s) by-near
+  pub rises-whole : leZ (pos 0) (held m) ≡ true → held m ≡ greater (pos 0) m
+  rises-whole t = rw (test-is t) (by-near .same)
 
-  pub sum-fits : SFits w64 (held x +ℤ held m) × SFits w64 (held y +ℤ held m)
-  sum-fits = (near-fits {x = x +ℤ m} (sum-near x sx) tt, near-fits {x = y +ℤ m} (sum-near y sy) tt)
+  pub rises-nothing : leZ (pos 0) (held m) ≡ false → pos 0 ≡ greater (pos 0) m
+  rises-nothing t = rw (test-is t)
 
-  pub less-fits : SFits w64 (held x -ℤ held m) × SFits w64 (held y -ℤ held m)
-  less-fits = (near-fits {x = x -ℤ m} (less-near x sx) tt, near-fits {x = y -ℤ m} (less-near y sy) tt)
+  pub falls-nothing : leZ (pos 0) (held m) ≡ true → pos 0 ≡ lesser (pos 0) m
+  falls-nothing t = rw (test-is t)
 
-  test-is : {t : Bool} (a : ℤ) (half : ℕ) → m ≡ a *ℤ pos half → leZ (pos 0) (held m) ≡ t → leZ (pos 0) (a *ℤ pos half) ≡ t
-  test-is a half e f = rw (by-near .same ∙ e) at f
+  pub falls-whole : leZ (pos 0) (held m) ≡ false → held m ≡ lesser (pos 0) m
+  falls-whole t = rw (test-is t) (by-near .same)
 
-  pub high-rises : {high : Bool} → high ≡ true → leZ (pos 0) (held m) ≡ true → MovedBy m high x y (held (held x +ℤ held m)) (held y)
-  high-rises h t =
+  pub held-small : SmallAmount (held m)
+  held-small = rw (by-near .same) sm
+
+  part-small : (t : Bool) → natAbs (cond t m (pos 0)) ≤ amountLimit
+  part-small true = sm .most
+  part-small false = omega arith
+
+  rest-small : (t : Bool) → natAbs (cond t (pos 0) m) ≤ amountLimit
+  rest-small true = omega arith
+  rest-small false = sm .most
+
+  rise-near : {r : ℤ} → r ≡ greater (pos 0) (held m) → Near (held r) (greater (pos 0) m) amountLimit
+  rise-near e = rw (e, by-near .same) (near (record { most = part-small (leZ (pos 0) m) }) tt)
+
+  fall-near : {r : ℤ} → r ≡ lesser (pos 0) (held m) → Near (held r) (lesser (pos 0) m) amountLimit
+  fall-near e = rw (e, by-near .same) (near (record { most = rest-small (leZ (pos 0) m) }) tt)
+
+-- the values moved by both
+module _ {m x y r f : ℤ} (sm : SmallAmount m) (sx : SmallExtreme x) (sy : SmallExtreme y)
+    (re : r ≡ greater (pos 0) (held m)) (fe : f ≡ lesser (pos 0) (held m)) where
+  least-up : Near (held x +ℤ held r) (x +ℤ greater (pos 0) m) (extremeLimit + amountLimit)
+  least-up = near-add {x = x} {y = greater (pos 0) m} (extreme-near sx) (rise-near sm re)
+
+  greatest-up : Near (held y +ℤ held f) (y +ℤ lesser (pos 0) m) (extremeLimit + amountLimit)
+  greatest-up = near-add {x = y} {y = lesser (pos 0) m} (extreme-near sy) (fall-near sm fe)
+
+  least-down : Near (held x -ℤ held f) (x -ℤ lesser (pos 0) m) (extremeLimit + amountLimit)
+  least-down = near-sub {x = x} {y = lesser (pos 0) m} (extreme-near sx) (fall-near sm fe)
+
+  greatest-down : Near (held y -ℤ held r) (y -ℤ greater (pos 0) m) (extremeLimit + amountLimit)
+  greatest-down = near-sub {x = y} {y = greater (pos 0) m} (extreme-near sy) (rise-near sm re)
+
+  pub high-fits : SFits w64 (held x +ℤ held r) × SFits w64 (held y +ℤ held f)
+  high-fits = (near-fits {x = x +ℤ greater (pos 0) m} least-up tt, near-fits {x = y +ℤ lesser (pos 0) m} greatest-up tt)
+
+  pub low-fits : SFits w64 (held x -ℤ held f) × SFits w64 (held y -ℤ held r)
+  low-fits = (near-fits {x = x -ℤ lesser (pos 0) m} least-down tt, near-fits {x = y -ℤ greater (pos 0) m} greatest-down tt)
+
+  rise-is-part : (a : ℤ) (half : ℕ) → m ≡ a *ℤ pos half → greater (pos 0) m ≡ rises a half
+  rise-is-part a half e = ap (greater (pos 0)) e ∙ greater-rises a half
+
+  fall-is-part : (a : ℤ) (half : ℕ) → m ≡ a *ℤ pos half → lesser (pos 0) m ≡ falls a half
+  fall-is-part a half e = ap (lesser (pos 0)) e ∙ lesser-falls a half
+
+  pub high-moves : {high : Bool} → high ≡ true → MovedBy m high x y (held (held x +ℤ held r)) (held (held y +ℤ held f))
+  high-moves h =
       record {
-        over = λ a half e. let w = rises-all a half (test-is a half e t) in
-            rw h (
-              near-back {x = x +ℤ m} (sum-near x sx) tt .same ∙ ap (λ (z : ℤ). x +ℤ z) (e ∙ sym (w .0)),
-              extreme-near sy .same ∙ sym (plus-nothing y) ∙ ap (λ (z : ℤ). y +ℤ z) (sym (w .1)),
-            );
+        over = λ a half e. rw h (
+          near-back {x = x +ℤ greater (pos 0) m} least-up tt .same ∙ ap (λ (z : ℤ). x +ℤ z) (rise-is-part a half e),
+          near-back {x = y +ℤ lesser (pos 0) m} greatest-up tt .same ∙ ap (λ (z : ℤ). y +ℤ z) (fall-is-part a half e),
+        );
       }
 
-  pub high-falls : {high : Bool} → high ≡ true → leZ (pos 0) (held m) ≡ false → MovedBy m high x y (held x) (held (held y +ℤ held m))
-  high-falls h t =
+  pub low-moves : {high : Bool} → high ≡ false → MovedBy m high x y (held (held x -ℤ held f)) (held (held y -ℤ held r))
+  low-moves h =
       record {
-        over = λ a half e. let w = falls-all a half (test-is a half e t) in
-            rw h (
-              extreme-near sx .same ∙ sym (plus-nothing x) ∙ ap (λ (z : ℤ). x +ℤ z) (sym (w .0)),
-              near-back {x = y +ℤ m} (sum-near y sy) tt .same ∙ ap (λ (z : ℤ). y +ℤ z) (e ∙ sym (w .1)),
-            );
-      }
-
-  pub low-rises : {high : Bool} → high ≡ false → leZ (pos 0) (held m) ≡ true → MovedBy m high x y (held x) (held (held y -ℤ held m))
-  low-rises h t =
-      record {
-        over = λ a half e. let w = rises-all a half (test-is a half e t) in
-            rw h (
-              extreme-near sx .same ∙ sym (less-nothing x) ∙ ap (λ (z : ℤ). x -ℤ z) (sym (w .1)),
-              near-back {x = y -ℤ m} (less-near y sy) tt .same ∙ ap (λ (z : ℤ). y -ℤ z) (e ∙ sym (w .0)),
-            );
-      }
-
-  pub low-falls : {high : Bool} → high ≡ false → leZ (pos 0) (held m) ≡ false → MovedBy m high x y (held (held x -ℤ held m)) (held y)
-  low-falls h t =
-      record {
-        over = λ a half e. let w = falls-all a half (test-is a half e t) in
-            rw h (
-              near-back {x = x -ℤ m} (less-near x sx) tt .same ∙ ap (λ (z : ℤ). x -ℤ z) (e ∙ sym (w .1)),
-              extreme-near sy .same ∙ sym (less-nothing y) ∙ ap (λ (z : ℤ). y -ℤ z) (sym (w .0)),
-            );
+        over = λ a half e. rw h (
+          near-back {x = x -ℤ lesser (pos 0) m} least-down tt .same ∙ ap (λ (z : ℤ). x -ℤ z) (fall-is-part a half e),
+          near-back {x = y -ℤ greater (pos 0) m} greatest-down tt .same ∙ ap (λ (z : ℤ). y -ℤ z) (rise-is-part a half e),
+        );
       }
 
 -- ---- the code by the two values

@@ -5,11 +5,14 @@ use crate::answer::short_of_work;
 use crate::load::load;
 use crate::prune::MOST_SHAPES;
 use crate::prune::NODE_LENGTH;
+use crate::scratch::SHORT_SCRATCH;
 use crate::whole::write_whole;
 use universe::Universe;
 ghost use mathlib.Core.Path.{_≡_};
-ghost use Prim.Native.Nat.{_+_};
+ghost use Prim.Native.Nat.{_+_, _≤_};
 ghost use lib.ListN.{length};
+ghost use Rattle.universe.specs.Universe.{universeRefusal};
+ghost use Rattle.universe.specs.Room.{room};
 ghost use Rattle.csg.specs.Surfaces.{surfacesOf};
 ghost use Rattle.convert.specs.Answers.{oneTreeRefusal, twoTreesRefusal, writtenOfTwo};
 ghost use Rattle.convert.specs.Blocks.{wholeSides};
@@ -32,6 +35,9 @@ ghost use Rattle.pruned.specs.Answers.{
 };
 ghost use Rattle.pruned.specs.Whole.{Ended, OneReady, TwoReady, Converted};
 
+// No expression is longer.
+const MOST_ROOM: u64 = 2 << Universe::MOST_LEVELS;
+
 // The sides of the whole universe; 0 along an axis that it lacks.
 fn whole_sides(universe: Universe) -> [u64; Universe::MOST_AXES as usize]
     ensures { λ r. ⌜ r ≡ wholeSides universe ⌝ }
@@ -42,6 +48,19 @@ fn whole_sides(universe: Universe) -> [u64; Universe::MOST_AXES as usize]
         universe.side(2),
         universe.side(3),
     ]
+}
+
+// Room that suffices for trees with so many leaves: by the formula, or as much as any universe takes where so little is
+// lent that scratch room serves as well, which is sooner done than the formula is worked out.
+fn room_for(universe: Universe, leaves: u64, balls: u64, lent: usize) -> u64
+    requires { ⌜ universeRefusal universe ≡ 0 ⌝ }
+    ensures { λ r. ⌜ room universe leaves balls ≤ r ⌝ }
+{
+    if lent <= SHORT_SCRATCH {
+        return MOST_ROOM;
+    }
+    let room = universe.room(leaves, balls);
+    room.symbols
 }
 
 // The expression of one tree that no check refuses, where the work room suffices.
@@ -73,7 +92,7 @@ fn written_of_one(
     );
     let leaves = csg::halfspace_words(words);
     let round = csg::ball_words(words);
-    let room = universe.room(leaves, round);
+    let room = room_for(universe, leaves, round, out.len());
     write_whole(
         universe,
         rows,
@@ -83,7 +102,7 @@ fn written_of_one(
         work,
         words.len(),
         &mut starts,
-        room.symbols,
+        room,
         out,
     )
 }
@@ -113,7 +132,7 @@ fn written_of_two(
     load(axes, rows, &side, second, work, first.len(), &mut starts);
     let leaves = csg::halfspace_words(first) + csg::halfspace_words(second);
     let round = csg::ball_words(first) + csg::ball_words(second);
-    let room = universe.room(leaves, round);
+    let room = room_for(universe, leaves, round, out.len());
     write_whole(
         universe,
         rows,
@@ -123,7 +142,7 @@ fn written_of_two(
         work,
         first.len() + second.len(),
         &mut starts,
-        room.symbols,
+        room,
         out,
     )
 }

@@ -11,7 +11,7 @@ ghost use Prim.Native.Nat.{_%_, _^_, _<_};
 ghost use lib.Count.{trailingZeros};
 ghost use lib.Dec.{eqb};
 ghost use lib.IntN.{pos, _*ℤ_};
-ghost use Rattle.csg.specs.Halfspace.{rowAt};
+ghost use Rattle.csg.specs.Halfspace.{rowAt, lesser, greater};
 ghost use Rattle.pruned.specs.Loading.{widened, wholeExtremes, WholeReady};
 ghost use Rattle.csg.specs.Surfaces.{surfacesOf};
 ghost use Rattle.convert.specs.Small.{SmallCoefficient, SmallPlace};
@@ -35,35 +35,47 @@ pub(crate) struct Extremes {
     pub greatest: i64,
 }
 
+// What rises by an amount: all of it where it is not negative, else nothing.
+fn rising(amount: i64) -> i64
+    requires { ⌜ SmallAmount amount ⌝ }
+    ensures { λ r. ⌜ r ≡ greater (pos 0) amount ⌝ }
+{
+    if 0 <= amount {
+        return amount;
+    }
+    0
+}
+
+// What falls by it: all of it where it is negative.
+fn falling(amount: i64) -> i64
+    requires { ⌜ SmallAmount amount ⌝ }
+    ensures { λ r. ⌜ r ≡ lesser (pos 0) amount ⌝ }
+{
+    if 0 <= amount {
+        return 0;
+    }
+    amount
+}
+
 // What the values come to over a half, which moves one of them by this amount: that of the coefficient and half the
-// length.
+// length. Nothing rises or nothing falls, so that both are added and no sign is a branch.
 pub(crate) fn moved_by(amount: i64, high: bool, least: i64, greatest: i64) -> Extremes
     requires { ⌜ SmallAmount amount ⌝ }
     requires { ⌜ SmallExtreme least ⌝ }
     requires { ⌜ SmallExtreme greatest ⌝ }
     ensures { λ r. ⌜ MovedBy amount high least greatest (r .least) (r .greatest) ⌝ }
 {
+    let rise = rising(amount);
+    let fall = falling(amount);
     if high {
-        if 0 <= amount {
-            return Extremes {
-                least: least + amount,
-                greatest: greatest,
-            };
-        }
         return Extremes {
-            least: least,
-            greatest: greatest + amount,
-        };
-    }
-    if 0 <= amount {
-        return Extremes {
-            least: least,
-            greatest: greatest - amount,
+            least: least + rise,
+            greatest: greatest + fall,
         };
     }
     Extremes {
-        least: least - amount,
-        greatest: greatest,
+        least: least - fall,
+        greatest: greatest - rise,
     }
 }
 

@@ -1,5 +1,5 @@
 // Both halves of the undecided universe where the room lent may not suffice: what is lent is left alone until it is
-// known to. Scratch room that is no shorter than the room lent holds whatever fits there, so that nothing is laid twice.
+// known to. Scratch room that is no shorter than the room lent holds whatever fits there: nothing is laid twice.
 use crate::answer::Conversion;
 use crate::answer::done;
 use crate::answer::short_of_symbols;

@@ -19,3 +19,9 @@ at-once-merged-of-one w _ _ = ((tt, refl), λ _ _ _ _ _. two w (λ p q. (same (p
 
 pub at-once-merged-of-two : (w : World) → TellsApart w at_once.merged_of_two.ended at_once.merged_of_two.clauses
 at-once-merged-of-two w _ _ = ((tt, refl), λ _ _ _ _ _. two w (λ p q. (same (p .0) (q .0), λ i. behind 5 (same (p .1) (q .1) i, tt))))
+
+pub at-once-raw-of-one : (w : World) → TellsApart w at_once.raw_of_one.ended at_once.raw_of_one.clauses
+at-once-raw-of-one w _ _ = ((tt, refl), λ _ _ _ _ _. two w (λ p q. (same (p .0) (q .0), λ i. behind 4 (same (p .1) (q .1) i, tt))))
+
+pub at-once-raw-of-two : (w : World) → TellsApart w at_once.raw_of_two.ended at_once.raw_of_two.clauses
+at-once-raw-of-two w _ _ = ((tt, refl), λ _ _ _ _ _. two w (λ p q. (same (p .0) (q .0), λ i. behind 5 (same (p .1) (q .1) i, tt))))

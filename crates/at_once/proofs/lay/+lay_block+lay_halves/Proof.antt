@@ -1,5 +1,5 @@
--- `lay_block` and `lay_halves` lay the merged shape of a block: that of its word where it has few levels left, one leaf where the trees are decided over it, and
--- else both halves, joined. What is changed of the low places and of the sides is put back, and the codes that are carried into it stay.
+-- `lay_block` and `lay_halves` lay the merged shape of a block: that of its word where it has few levels left, one leaf where the trees are decided over it,
+-- and else both halves, joined. What is changed of the low places and of the sides is put back, and the codes that are carried into it stay.
 use Prim.Native.Nat.{_+_, _*_, _≤_}
 use native.Mathlib.Omega.{arith}
 use mathlib.Core.Path.{refl, _∙_}
@@ -85,8 +85,11 @@ module _ (t : ℕ) where
   lay-block-returns : lay-block-lts.Need-returns lay-block-claims lay-block-at lay-block.Post
   lay-block-returns c =
       let k = c .before .before .before .before .before .before .before .before .before .before in
-      let few = c .before .before .before .before .before .before .before .if1 .taken in
-      (λ job. word-laid job (k .pre .1 .1 .1) few (trees-are job few (c .before .before .before .before .trees-word .ensures)) (c .before .before .lay-word .ensures), (put-same, k .pre .1 .1 .0))
+      let few = c .before .before .before .before .before .before .before .if1 .taken in (
+        λ job. word-laid job (k .pre .1 .1 .1) few (trees-are job few (c .before .before .before .before .trees-word .ensures))
+            (c .before .before .lay-word .ensures),
+        (put-same, k .pre .1 .1 .0),
+      )
 
   lay-block-prune-requires : lay-block-lts.Need-prune-requires lay-block-claims lay-block-at lay-block.Post
   lay-block-prune-requires c κs =
@@ -96,11 +99,21 @@ module _ (t : ℕ) where
 
   lay-block-add-result : lay-block-lts.Need-add-result lay-block-claims lay-block-at lay-block.Post
   lay-block-add-result c =
-      omega (arith, block-fits (c .before .before .before .before .before .before .before .before .before .before .before .before .pre .1 .0) (c .before .before .before .before .before .before .before .before .before .before .before .before .pre .1 .1 .1))
+      omega (
+        arith,
+        block-fits (c .before .before .before .before .before .before .before .before .before .before .before .before .pre .1 .0)
+            (c .before .before .before .before .before .before .before .before .before .before .before .before .pre .1 .1 .1),
+      )
 
   lay-block-mul-result : lay-block-lts.Need-mul-result lay-block-claims lay-block-at lay-block.Post
   lay-block-mul-result c =
-      record { fits = omega (arith, block-fits (c .before .before .before .before .before .before .before .before .before .before .before .before .pre .1 .0) (c .before .before .before .before .before .before .before .before .before .before .before .before .pre .1 .1 .1)) }
+      record {
+        fits = omega (
+          arith,
+          block-fits (c .before .before .before .before .before .before .before .before .before .before .before .before .pre .1 .0)
+              (c .before .before .before .before .before .before .before .before .before .before .before .before .pre .1 .1 .1),
+        );
+      }
 
   lay-block-symbol-of-requires : lay-block-lts.Need-symbol-of-requires lay-block-claims lay-block-at lay-block.Post
   lay-block-symbol-of-requires c κs = tt
@@ -110,7 +123,13 @@ module _ (t : ℕ) where
 
   lay-block-add-result-2 : lay-block-lts.Need-add-result-2 lay-block-claims lay-block-at lay-block.Post
   lay-block-add-result-2 c =
-      omega (arith, block-fits (c .before .before .before .before .before .before .before .before .before .before .before .before .before .pre .1 .0) (c .before .before .before .before .before .before .before .before .before .before .before .before .before .pre .1 .1 .1), c .symbol-of .ensures, symbol-few (c .before .before .before .before .prune .result .mark))
+      omega (
+        arith,
+        block-fits (c .before .before .before .before .before .before .before .before .before .before .before .before .before .pre .1 .0)
+            (c .before .before .before .before .before .before .before .before .before .before .before .before .before .pre .1 .1 .1),
+        c .symbol-of .ensures,
+        symbol-few (c .before .before .before .before .prune .result .mark),
+      )
 
   lay-block-same-length-3 : lay-block-lts.Need-same-length-3 lay-block-claims lay-block-at lay-block.Post
   lay-block-same-length-3 c = c .before .before .before .before .prune .kept .1 .1 .1 .1 .1 .0
@@ -131,27 +150,41 @@ module _ (t : ℕ) where
 
   lay-block-lay-halves-requires : lay-block-lts.Need-lay-halves-requires lay-block-claims lay-block-at lay-block.Post
   lay-block-lay-halves-requires c κs =
-      let k = c .before .before .before .before .before .before .before .before .before .before .before .before .before .before .before .before .before .before in
+      let k = c .before .before .before .before .before .before .before .before .before .before .before .before .before .before .before .before .before
+      .before in
       let j = k .pre .1 .0 in
-      let two : 2 ≤ k .args .left + 1 = omega (arith, c .before .before .before .before .before .before .before .before .before .before .before .before .before .before .before .if1 .left) in
+      let two : 2 ≤ k .args .left + 1 = omega (
+        arith,
+        c .before .before .before .before .before .before .before .before .before .before .before .before
+            .before .before .before .if1 .left,
+      ) in
       let p = c .before .before .before .before .before .before .before .before .before .prune .ensures in (
         omega (arith, k .pre .0),
-        (open-job j (k .pre .1 .1 .1) two (p .0 (prune-job j two)) (c .before .before .before .before .before .before .if2 .left) (k .args .left) refl, (omega (arith, two), (p .1, k .pre .1 .1 .1))),
+        (
+          open-job j (k .pre .1 .1 .1) two (p .0 (prune-job j two)) (c .before .before .before .before .before .before .if2 .left) (k .args .left) refl,
+          (omega (arith, two), (p .1, k .pre .1 .1 .1)),
+        ),
       )
 
   lay-block-same-length-4 : lay-block-lts.Need-same-length-4 lay-block-claims lay-block-at lay-block.Post
   lay-block-same-length-4 c =
-      c .before .before .before .before .lay-halves .kept .1 .1 .1 .1 .1 .1 .1 .1 .0 ∙ c .before .before .before .before .before .before .before .before .before .before .before .before .before .before .prune .kept .1 .1 .1 .1 .1 .0
+      c .before .before .before .before .lay-halves .kept .1 .1 .1 .1 .1 .1 .1 .1 .0 ∙ c .before .before .before .before .before .before .before .before
+      .before .before .before .before .before .before .prune .kept .1 .1 .1 .1 .1 .0
 
   lay-block-same-length-5 : lay-block-lts.Need-same-length-5 lay-block-claims lay-block-at lay-block.Post
   lay-block-same-length-5 c = c .before .before .before .before .lay-halves .kept .1 .1 .1 .1 .1 .1 .1 .1 .1 .1 .1 .1 .1 .0
 
   lay-block-returns-3 : lay-block-lts.Need-returns-3 lay-block-claims lay-block-at lay-block.Post
   lay-block-returns-3 c =
-      let k = c .before .before .before .before .before .before .before .before .before .before .before .before .before .before .before .before .before .before .before .before .before .before .before in
+      let k = c .before .before .before .before .before .before .before .before .before .before .before .before .before .before .before .before .before
+      .before .before .before .before .before .before in
       let j = k .pre .1 .0 in
       let place = k .pre .1 .1 .1 in
-      let two : 2 ≤ k .args .left + 1 = omega (arith, c .before .before .before .before .before .before .before .before .before .before .before .before .before .before .before .before .before .before .before .before .if1 .left) in
+      let two : 2 ≤ k .args .left + 1 = omega (
+        arith,
+        c .before .before .before .before .before .before .before .before .before .before .before .before
+            .before .before .before .before .before .before .before .before .if1 .left,
+      ) in
       let p = c .before .before .before .before .before .before .before .before .before .before .before .before .before .before .prune .ensures in
       let z = c .before .before .before .before .before .before .before .before .before .before .before .if2 .left in
       let h = c .before .before .before .before .lay-halves .ensures in (
@@ -196,7 +229,11 @@ module _ (t : ℕ) where
 
   lay-halves-add-lay-block : lay-halves-lts.Need-add-lay-block lay-halves-claims lay-halves-at lay-halves.Post
   lay-halves-add-lay-block c =
-      omega (arith, block-fits (c .before .before .before .before .before .before .before .before .before .before .before .pre .1 .0) (c .before .before .before .before .before .before .before .before .before .before .before .pre .1 .1 .1 .1))
+      omega (
+        arith,
+        block-fits (c .before .before .before .before .before .before .before .before .before .before .before .pre .1 .0)
+            (c .before .before .before .before .before .before .before .before .before .before .before .pre .1 .1 .1 .1),
+      )
 
   lay-halves-lay-block-requires : lay-halves-lts.Need-lay-block-requires lay-halves-claims lay-halves-at lay-halves.Post
   lay-halves-lay-block-requires c κs =
@@ -207,23 +244,43 @@ module _ (t : ℕ) where
 
   lay-halves-add-low : lay-halves-lts.Need-add-low lay-halves-claims lay-halves-at lay-halves.Post
   lay-halves-add-low c =
-      omega (arith, near-fits (c .before .before .before .before .before .before .before .before .before .before .before .before .before .before .before .before .pre .1 .0) (c .before .before .before .before .before .before .before .before .before .before .before .before .before .before .before .before .pre .1 .1 .0))
+      omega (
+        arith,
+        near-fits (c .before .before .before .before .before .before .before .before .before .before .before .before .before .before .before
+            .before .pre .1 .0)
+            (c .before .before .before .before .before .before .before .before .before .before .before .before .before .before .before
+            .before .pre .1 .1 .0),
+      )
 
   lay-halves-mul-low : lay-halves-lts.Need-mul-low lay-halves-claims lay-halves-at lay-halves.Post
   lay-halves-mul-low c =
-      omega (arith, axis-within (c .before .before .before .before .before .before .before .before .before .before .before .before .before .before .before .before .pre .1 .0) (c .before .before .before .before .before .before .before .before .before .before .before .before .before .before .before .before .pre .1 .1 .0))
+      omega (
+        arith,
+        axis-within (c .before .before .before .before .before .before .before .before .before .before .before .before .before .before .before
+            .before .pre .1 .0)
+            (c .before .before .before .before .before .before .before .before .before .before .before .before .before .before .before
+            .before .pre .1 .1 .0),
+      )
 
   lay-halves-element-write-low : lay-halves-lts.Need-element-write-low lay-halves-claims lay-halves-at lay-halves.Post
   lay-halves-element-write-low c =
-      omega (arith, axis-within (c .before .before .before .before .before .before .before .before .before .before .before .before .before .before .before .before .pre .1 .0) (c .before .before .before .before .before .before .before .before .before .before .before .before .before .before .before .before .pre .1 .1 .0))
+      omega (
+        arith,
+        axis-within (c .before .before .before .before .before .before .before .before .before .before .before .before .before .before .before
+            .before .pre .1 .0)
+            (c .before .before .before .before .before .before .before .before .before .before .before .before .before .before .before
+            .before .pre .1 .1 .0),
+      )
 
   lay-halves-sub-lay-block-2 : lay-halves-lts.Need-sub-lay-block-2 lay-halves-claims lay-halves-at lay-halves.Post
   lay-halves-sub-lay-block-2 c =
-      c .before .before .before .before .before .before .before .before .before .before .before .before .before .before .before .before .before .before .pre .1 .1 .0
+      c .before .before .before .before .before .before .before .before .before .before .before .before .before .before .before .before .before .before .pre
+      .1 .1 .0
 
   lay-halves-lay-block-requires-2 : lay-halves-lts.Need-lay-block-requires-2 lay-halves-claims lay-halves-at lay-halves.Post
   lay-halves-lay-block-requires-2 c κs =
-      let k = c .before .before .before .before .before .before .before .before .before .before .before .before .before .before .before .before .before .before .before .before .before .before in
+      let k = c .before .before .before .before .before .before .before .before .before .before .before .before .before .before .before .before .before
+      .before .before .before .before .before in
       let j = k .pre .1 .0 in
       let some = k .pre .1 .1 .0 in
       let place = k .pre .1 .1 .1 .1 in
@@ -233,19 +290,43 @@ module _ (t : ℕ) where
 
   lay-halves-mul-low-2 : lay-halves-lts.Need-mul-low-2 lay-halves-claims lay-halves-at lay-halves.Post
   lay-halves-mul-low-2 c =
-      omega (arith, axis-within (c .before .before .before .before .before .before .before .before .before .before .before .before .before .before .before .before .before .before .before .before .before .before .before .before .before .before .before .pre .1 .0) (c .before .before .before .before .before .before .before .before .before .before .before .before .before .before .before .before .before .before .before .before .before .before .before .before .before .before .before .pre .1 .1 .0))
+      omega (
+        arith,
+        axis-within (c .before .before .before .before .before .before .before .before .before .before .before .before .before .before .before
+            .before .before .before .before .before .before .before .before .before .before .before .before .pre .1 .0)
+            (c .before .before .before .before .before .before .before .before .before .before .before .before .before .before .before .before .before .before
+            .before .before .before .before .before .before .before .before .before .pre .1 .1 .0),
+      )
 
   lay-halves-element-write-low-2 : lay-halves-lts.Need-element-write-low-2 lay-halves-claims lay-halves-at lay-halves.Post
   lay-halves-element-write-low-2 c =
-      omega (arith, axis-within (c .before .before .before .before .before .before .before .before .before .before .before .before .before .before .before .before .before .before .before .before .before .before .before .before .before .before .before .pre .1 .0) (c .before .before .before .before .before .before .before .before .before .before .before .before .before .before .before .before .before .before .before .before .before .before .before .before .before .before .before .pre .1 .1 .0))
+      omega (
+        arith,
+        axis-within (c .before .before .before .before .before .before .before .before .before .before .before .before .before .before .before
+            .before .before .before .before .before .before .before .before .before .before .before .before .pre .1 .0)
+            (c .before .before .before .before .before .before .before .before .before .before .before .before .before .before .before .before .before .before
+            .before .before .before .before .before .before .before .before .before .pre .1 .1 .0),
+      )
 
   lay-halves-mul-side-2 : lay-halves-lts.Need-mul-side-2 lay-halves-claims lay-halves-at lay-halves.Post
   lay-halves-mul-side-2 c =
-      omega (arith, axis-within (c .before .before .before .before .before .before .before .before .before .before .before .before .before .before .before .before .before .before .before .before .before .before .before .before .before .before .before .pre .1 .0) (c .before .before .before .before .before .before .before .before .before .before .before .before .before .before .before .before .before .before .before .before .before .before .before .before .before .before .before .pre .1 .1 .0))
+      omega (
+        arith,
+        axis-within (c .before .before .before .before .before .before .before .before .before .before .before .before .before .before .before
+            .before .before .before .before .before .before .before .before .before .before .before .before .pre .1 .0)
+            (c .before .before .before .before .before .before .before .before .before .before .before .before .before .before .before .before .before .before
+            .before .before .before .before .before .before .before .before .before .pre .1 .1 .0),
+      )
 
   lay-halves-element-write-side-2 : lay-halves-lts.Need-element-write-side-2 lay-halves-claims lay-halves-at lay-halves.Post
   lay-halves-element-write-side-2 c =
-      omega (arith, axis-within (c .before .before .before .before .before .before .before .before .before .before .before .before .before .before .before .before .before .before .before .before .before .before .before .before .before .before .before .pre .1 .0) (c .before .before .before .before .before .before .before .before .before .before .before .before .before .before .before .before .before .before .before .before .before .before .before .before .before .before .before .pre .1 .1 .0))
+      omega (
+        arith,
+        axis-within (c .before .before .before .before .before .before .before .before .before .before .before .before .before .before .before
+            .before .before .before .before .before .before .before .before .before .before .before .before .pre .1 .0)
+            (c .before .before .before .before .before .before .before .before .before .before .before .before .before .before .before .before .before .before
+            .before .before .before .before .before .before .before .before .before .pre .1 .1 .0),
+      )
 
   lay-halves-cast-join : lay-halves-lts.Need-cast-join lay-halves-claims lay-halves-at lay-halves.Post
   lay-halves-cast-join c = search needs
@@ -255,30 +336,38 @@ module _ (t : ℕ) where
 
   lay-halves-join-requires : lay-halves-lts.Need-join-requires lay-halves-claims lay-halves-at lay-halves.Post
   lay-halves-join-requires c κs =
-      let k = c .before .before .before .before .before .before .before .before .before .before .before .before .before .before .before .before .before .before .before .before .before .before .before .before .before .before .before .before in
+      let k = c .before .before .before .before .before .before .before .before .before .before .before .before .before .before .before .before .before
+      .before .before .before .before .before .before .before .before .before .before .before in
       let j = k .pre .1 .0 in
       let some = k .pre .1 .1 .0 in
       let place = k .pre .1 .1 .1 .1 in
-      let e = c .before .before .before .before .before .before .before .before .before .before .before .before .before .before .before .before .lay-block .ensures in
+      let e = c .before .before .before .before .before .before .before .before .before .before .before .before .before .before .before .before .lay-block
+      .ensures in
       let f = c .before .before .before .before .before .lay-block2 .ensures in
       (block-fits j place, end-few j some place (e .0 (lower-job j some)) (e .1 .0) (f .0) (f .1 .0))
 
   lay-halves-same-length : lay-halves-lts.Need-same-length lay-halves-claims lay-halves-at lay-halves.Post
   lay-halves-same-length c =
-      c .before .before .before .before .before .before .before .before .lay-block2 .kept .1 .1 .1 .1 .1 .1 .1 .1 .0 ∙ c .before .before .before .before .before .before .before .before .before .before .before .before .before .before .before .before .before .before .before .lay-block .kept .1 .1 .1 .1 .1 .1 .1 .1 .0
+      c .before .before .before .before .before .before .before .before .lay-block2 .kept .1 .1 .1 .1 .1 .1 .1 .1 .0
+      ∙ c .before .before .before .before .before .before .before .before .before .before .before .before .before .before .before .before .before .before
+      .before .lay-block .kept .1 .1 .1 .1 .1 .1 .1 .1 .0
 
   lay-halves-same-length-2 : lay-halves-lts.Need-same-length-2 lay-halves-claims lay-halves-at lay-halves.Post
   lay-halves-same-length-2 c =
-      c .before .before .join .kept .0 ∙ c .before .before .before .before .before .before .before .before .lay-block2 .kept .1 .1 .1 .1 .1 .1 .1 .1 .1 .1 .1 .1 .1 .0
-      ∙ c .before .before .before .before .before .before .before .before .before .before .before .before .before .before .before .before .before .before .before .lay-block .kept .1 .1 .1 .1 .1 .1 .1 .1 .1 .1 .1 .1 .1 .0
+      c .before .before .join .kept .0 ∙ c .before .before .before .before .before .before .before .before .lay-block2 .kept .1 .1 .1 .1 .1 .1 .1 .1 .1 .1 .1
+      .1 .1 .0
+      ∙ c .before .before .before .before .before .before .before .before .before .before .before .before .before .before .before .before .before .before
+      .before .lay-block .kept .1 .1 .1 .1 .1 .1 .1 .1 .1 .1 .1 .1 .1 .0
 
   lay-halves-returns : lay-halves-lts.Need-returns lay-halves-claims lay-halves-at lay-halves.Post
   lay-halves-returns c =
-      let k = c .before .before .before .before .before .before .before .before .before .before .before .before .before .before .before .before .before .before .before .before .before .before .before .before .before .before .before .before .before .before .before in
+      let k = c .before .before .before .before .before .before .before .before .before .before .before .before .before .before .before .before .before
+      .before .before .before .before .before .before .before .before .before .before .before .before .before .before in
       let j = k .pre .1 .0 in
       let some = k .pre .1 .1 .0 in
       let place = k .pre .1 .1 .1 .1 in
-      let e = c .before .before .before .before .before .before .before .before .before .before .before .before .before .before .before .before .before .before .before .lay-block .ensures in
+      let e = c .before .before .before .before .before .before .before .before .before .before .before .before .before .before .before .before .before
+      .before .before .lay-block .ensures in
       let f = c .before .before .before .before .before .before .before .before .lay-block2 .ensures in
       let g = c .before .before .join .ensures in (
         λ job. both-laid job some place (e .0 (lower-job job some)) (e .1 .0) (f .0) (f .1 .0) (g .0) (g .1),

@@ -36,7 +36,8 @@ module _ (t : ℕ) where
   own-ball-word-cast-result-2 c = tt
 
   own-ball-word-returns : own-ball-word-lts.Need-returns cs (own-ball-word-at t) own-ball-word.Post
-  own-ball-word-returns c = λ own. own-voxel own (c .before .before .args .possible) (c .before .before .fits .most) (c .before .if1 .taken) (c .spread-sum .ensures)
+  own-ball-word-returns c = λ own. own-voxel own (c .before .before .args .possible) (c .before .before .fits .most) (c .before .if1 .taken)
+      (c .spread-sum .ensures)
 
   own-ball-word-sub-n : own-ball-word-lts.Need-sub-n cs (own-ball-word-at t) own-ball-word.Post
   own-ball-word-sub-n c = omega arith
@@ -58,75 +59,90 @@ module _ (t : ℕ) where
 
   own-ball-word-side-by-side-requires : own-ball-word-lts.Need-side-by-side-requires cs (own-ball-word-at t) own-ball-word.Post
   own-ball-word-side-by-side-requires c κs =
-      let t = c .before .before .before .before in let own = t .pre .1 in let f = t .fits .most in let p = t .args .possible in let k = c .before .before .before .if1 .left in
+      let t = c .before .before .before .before in let own = t .pre .1 in let f = t .fits .most in let p = t .args .possible in
+      let k = c .before .before .before .if1 .left in
       let e = c .before .before .own-ball-word .ensures (own-low own p f k) in
       (half-place (own .over) f k, (own-low-fits own p f k e, own-low-fits own p f k e))
 
   own-ball-word-returns-2 : own-ball-word-lts.Need-returns-2 cs (own-ball-word-at t) own-ball-word.Post
   own-ball-word-returns-2 c =
-      let t = c .before .before .before .before .before in let f = t .fits .most in let p = t .args .possible in let k = c .before .before .before .before .if1 .left in
+      let t = c .before .before .before .before .before in let f = t .fits .most in let p = t .args .possible in
+      let k = c .before .before .before .before .if1 .left in
       λ own. own-alike own p f k (c .before .before .before .own-ball-word .ensures (own-low own p f k)) (c .before .if2 .taken) (c .side-by-side .ensures)
 
   own-ball-word-mul-length : own-ball-word-lts.Need-mul-length cs (own-ball-word-at t) own-ball-word.Post
   own-ball-word-mul-length c =
-      let t = c .before .before .before .before in let own = t .pre .1 in let f = t .fits .most in let p = t .args .possible in let k = c .before .before .before .if1 .left in
+      let t = c .before .before .before .before in let own = t .pre .1 in let f = t .fits .most in let p = t .args .possible in
+      let k = c .before .before .before .if1 .left in
       omega (arith, half-place (own .over) f k)
 
   own-ball-word-element-copy-out-length : own-ball-word-lts.Need-element-copy-out-length cs (own-ball-word-at t) own-ball-word.Post
   own-ball-word-element-copy-out-length c =
-      let t = c .before .before .before .before in let own = t .pre .1 in let f = t .fits .most in let p = t .args .possible in let k = c .before .before .before .if1 .left in
+      let t = c .before .before .before .before in let own = t .pre .1 in let f = t .fits .most in let p = t .args .possible in
+      let k = c .before .before .before .if1 .left in
       half-place (own .over) f k
 
   own-ball-word-cast-length : own-ball-word-lts.Need-cast-length cs (own-ball-word-at t) own-ball-word.Post
   own-ball-word-cast-length c =
-      let t = c .before .before .before .before .before in let own = t .pre .1 in let f = t .fits .most in let p = t .args .possible in let k = c .before .before .before .before .if1 .left in let l = c .before .if2 .left in
+      let t = c .before .before .before .before .before in let own = t .pre .1 in let f = t .fits .most in let p = t .args .possible in
+      let k = c .before .before .before .before .if1 .left in let l = c .before .if2 .left in
       length-cast (own .over) f k l
 
   own-ball-word-mul-off : own-ball-word-lts.Need-mul-off cs (own-ball-word-at t) own-ball-word.Post
   own-ball-word-mul-off c =
-      let t = c .before .before .before .before .before in let own = t .pre .1 in let f = t .fits .most in let p = t .args .possible in let k = c .before .before .before .before .if1 .left in let l = c .before .if2 .left in
+      let t = c .before .before .before .before .before in let own = t .pre .1 in let f = t .fits .most in let p = t .args .possible in
+      let k = c .before .before .before .before .if1 .left in let l = c .before .if2 .left in
       omega (arith, axis-place (own .over) f k l)
 
   own-ball-word-array-copy-out-off : own-ball-word-lts.Need-array-copy-out-off cs (own-ball-word-at t) own-ball-word.Post
   own-ball-word-array-copy-out-off c =
-      let t = c .before .before .before .before .before in let own = t .pre .1 in let f = t .fits .most in let p = t .args .possible in let k = c .before .before .before .before .if1 .left in let l = c .before .if2 .left in
+      let t = c .before .before .before .before .before in let own = t .pre .1 in let f = t .fits .most in let p = t .args .possible in
+      let k = c .before .before .before .before .if1 .left in let l = c .before .if2 .left in
       axis-place (own .over) f k l
 
   own-ball-word-mul-further : own-ball-word-lts.Need-mul-further cs (own-ball-word-at t) own-ball-word.Post
   own-ball-word-mul-further c =
-      let t = c .before .before .before .before .before .before in let own = t .pre .1 in let f = t .fits .most in let p = t .args .possible in let k = c .before .before .before .before .before .if1 .left in let l = c .before .before .if2 .left in
+      let t = c .before .before .before .before .before .before in let own = t .pre .1 in let f = t .fits .most in let p = t .args .possible in
+      let k = c .before .before .before .before .before .if1 .left in let l = c .before .before .if2 .left in
       two-fits (own .over) f k l
 
   own-ball-word-add-further : own-ball-word-lts.Need-add-further cs (own-ball-word-at t) own-ball-word.Post
   own-ball-word-add-further c =
-      let t = c .before .before .before .before .before .before in let own = t .pre .1 in let f = t .fits .most in let p = t .args .possible in let k = c .before .before .before .before .before .if1 .left in let l = c .before .before .if2 .left in
+      let t = c .before .before .before .before .before .before in let own = t .pre .1 in let f = t .fits .most in let p = t .args .possible in
+      let k = c .before .before .before .before .before .if1 .left in let l = c .before .before .if2 .left in
       further-fits (own .over) f k l
 
   own-ball-word-mul-further-2 : own-ball-word-lts.Need-mul-further-2 cs (own-ball-word-at t) own-ball-word.Post
   own-ball-word-mul-further-2 c =
-      let t = c .before .before .before .before .before .before in let own = t .pre .1 in let f = t .fits .most in let p = t .args .possible in let k = c .before .before .before .before .before .if1 .left in let l = c .before .before .if2 .left in
+      let t = c .before .before .before .before .before .before in let own = t .pre .1 in let f = t .fits .most in let p = t .args .possible in
+      let k = c .before .before .before .before .before .if1 .left in let l = c .before .before .if2 .left in
       omega (arith, axis-place (own .over) f k l)
 
   own-ball-word-array-set-from-further : own-ball-word-lts.Need-array-set-from-further cs (own-ball-word-at t) own-ball-word.Post
   own-ball-word-array-set-from-further c =
-      let t = c .before .before .before .before .before .before in let own = t .pre .1 in let f = t .fits .most in let p = t .args .possible in let k = c .before .before .before .before .before .if1 .left in let l = c .before .before .if2 .left in
+      let t = c .before .before .before .before .before .before in let own = t .pre .1 in let f = t .fits .most in let p = t .args .possible in
+      let k = c .before .before .before .before .before .if1 .left in let l = c .before .before .if2 .left in
       axis-place (own .over) f k l
 
   own-ball-word-own-ball-word-requires-2 : own-ball-word-lts.Need-own-ball-word-requires-2 cs (own-ball-word-at t) own-ball-word.Post
   own-ball-word-own-ball-word-requires-2 c κs =
-      let t = c .before .before .before .before .before .before in let own = t .pre .1 in let f = t .fits .most in let p = t .args .possible in let k = c .before .before .before .before .before .if1 .left in let l = c .before .before .if2 .left in
+      let t = c .before .before .before .before .before .before in let own = t .pre .1 in let f = t .fits .most in let p = t .args .possible in
+      let k = c .before .before .before .before .before .if1 .left in let l = c .before .before .if2 .left in
       (omega (arith, t .pre .0, k), own-high own p f k l)
 
   own-ball-word-side-by-side-requires-2 : own-ball-word-lts.Need-side-by-side-requires-2 cs (own-ball-word-at t) own-ball-word.Post
   own-ball-word-side-by-side-requires-2 c κs =
-      let t = c .before .before .before .before .before .before .before in let own = t .pre .1 in let f = t .fits .most in let p = t .args .possible in let k = c .before .before .before .before .before .before .if1 .left in let l = c .before .before .before .if2 .left in
+      let t = c .before .before .before .before .before .before .before in let own = t .pre .1 in let f = t .fits .most in let p = t .args .possible in
+      let k = c .before .before .before .before .before .before .if1 .left in let l = c .before .before .before .if2 .left in
       let e = c .before .before .before .before .before .own-ball-word .ensures (own-low own p f k) in
       (half-place (own .over) f k, (own-low-fits own p f k e, own-high-fits own p f k l (c .own-ball-word2 .ensures (own-high own p f k l))))
 
   own-ball-word-returns-3 : own-ball-word-lts.Need-returns-3 cs (own-ball-word-at t) own-ball-word.Post
   own-ball-word-returns-3 c =
-      let t = c .before .before .before .before .before .before .before .before in let f = t .fits .most in let p = t .args .possible in let k = c .before .before .before .before .before .before .before .if1 .left in let l = c .before .before .before .before .if2 .left in
-      λ own. own-across own p f k l (c .before .own-ball-word2 .ensures (own-high own p f k l)) (c .before .before .before .before .before .before .own-ball-word .ensures (own-low own p f k))
+      let t = c .before .before .before .before .before .before .before .before in let f = t .fits .most in let p = t .args .possible in
+      let k = c .before .before .before .before .before .before .before .if1 .left in let l = c .before .before .before .before .if2 .left in
+      λ own. own-across own p f k l (c .before .own-ball-word2 .ensures (own-high own p f k l))
+      (c .before .before .before .before .before .before .own-ball-word .ensures (own-low own p f k))
       (c .side-by-side2 .ensures)
 
 pub +own-ball-word-spec : {M : Type 1} → statement M

@@ -59,16 +59,33 @@ size-of-requires-4 : tie.Need-size-of-requires-4
 size-of-requires-4 c κs = coefficient-asks (c .before .before .before .before .before .before .before .pre) 3 _ (lit< tt) refl
 
 add-result : tie.Need-add-result
-add-result c = omega (arith, reach-few (c .before .before .before .before .before .before .before .before .pre) (c .before .before .before .before .before .before .size-of .ensures) (c .before .before .before .before .size-of2 .ensures) (c .before .before .size-of3 .ensures) (c .size-of4 .ensures))
+add-result c = omega (
+  arith,
+  reach-few (c .before .before .before .before .before .before .before .before .pre)
+      (c .before .before .before .before .before .before .size-of .ensures) (c .before .before .before .before .size-of2 .ensures)
+      (c .before .before .size-of3 .ensures) (c .size-of4 .ensures),
+)
 
 add-result-2 : tie.Need-add-result-2
-add-result-2 c = omega (arith, reach-few (c .before .before .before .before .before .before .before .before .pre) (c .before .before .before .before .before .before .size-of .ensures) (c .before .before .before .before .size-of2 .ensures) (c .before .before .size-of3 .ensures) (c .size-of4 .ensures))
+add-result-2 c = omega (
+  arith,
+  reach-few (c .before .before .before .before .before .before .before .before .pre)
+      (c .before .before .before .before .before .before .size-of .ensures) (c .before .before .before .before .size-of2 .ensures)
+      (c .before .before .size-of3 .ensures) (c .size-of4 .ensures),
+)
 
 add-result-3 : tie.Need-add-result-3
-add-result-3 c = omega (arith, reach-few (c .before .before .before .before .before .before .before .before .pre) (c .before .before .before .before .before .before .size-of .ensures) (c .before .before .before .before .size-of2 .ensures) (c .before .before .size-of3 .ensures) (c .size-of4 .ensures))
+add-result-3 c = omega (
+  arith,
+  reach-few (c .before .before .before .before .before .before .before .before .pre)
+      (c .before .before .before .before .before .before .size-of .ensures) (c .before .before .before .before .size-of2 .ensures)
+      (c .before .before .size-of3 .ensures) (c .size-of4 .ensures),
+)
 
 returns : tie.Need-returns
-returns c = reach-is (c .before .before .before .before .before .before .before .before .pre) (c .before .before .before .before .before .before .size-of .ensures) (c .before .before .before .before .size-of2 .ensures) (c .before .before .size-of3 .ensures) (c .size-of4 .ensures)
+returns c = reach-is (c .before .before .before .before .before .before .before .before .pre)
+    (c .before .before .before .before .before .before .size-of .ensures) (c .before .before .before .before .size-of2 .ensures)
+    (c .before .before .size-of3 .ensures) (c .size-of4 .ensures)
 
 pub reach-of-row-spec : {M : Type 1} → statement M
 reach-of-row-spec =

@@ -1,46 +1,34 @@
--- `pairs_word`: the value at the first voxel and that at the first of the high half in one number.
-use borrow.Author.Needs.{needs}
-use Rattle.at_once.proofs.Pairs.{high-fits, more-fits, placed-fits, low-fits, whole-fits, few-steps, whole-pair, pairs-are}
+-- `pairs_word`: the first pair and the steps of both values, and the digits by them.
+use Rattle.at_once.proofs.Pairs.{few-steps, few-held, pair-held, whole-pair, pairs-are}
+use Rattle.at_once.proofs.Threes.{held-mask}
 use Rattle.at_once.proofs.pair.pairs_word.Statement.{statement}
 use Rattle.at_once.proofs.pair.pairs_word.Tie as tie
 
 both-steps-requires : tie.Need-both-steps-requires
 both-steps-requires c κs = few-steps (c .pre)
 
-element-copy-out-pair-of-thirty-two : tie.Need-element-copy-out-pair-of-thirty-two
-element-copy-out-pair-of-thirty-two c = search needs
-
-add-pair-of-thirty-two : tie.Need-add-pair-of-thirty-two
-add-pair-of-thirty-two c = high-fits (c .before .before .pre)
-
-add-pair-of-thirty-two-2 : tie.Need-add-pair-of-thirty-two-2
-add-pair-of-thirty-two-2 c = more-fits (c .before .before .pre)
-
-mul-pair-of-thirty-two : tie.Need-mul-pair-of-thirty-two
-mul-pair-of-thirty-two c = placed-fits (c .before .before .pre)
-
-add-pair-of-thirty-two-3 : tie.Need-add-pair-of-thirty-two-3
-add-pair-of-thirty-two-3 c = low-fits (c .before .before .pre)
-
-add-pair-of-thirty-two-4 : tie.Need-add-pair-of-thirty-two-4
-add-pair-of-thirty-two-4 c = whole-fits (c .before .before .pre)
+first-pair-requires : tie.Need-first-pair-requires
+first-pair-requires c κs =
+    let c1 = c .before in
+    few-held (c1 .pre)
 
 pair-of-thirty-two-requires : tie.Need-pair-of-thirty-two-requires
-pair-of-thirty-two-requires c κs = whole-pair (c .before .before .before .pre) (c .before .before .both-steps .ensures)
+pair-of-thirty-two-requires c κs =
+    let c1 = c .before in let c2 = c1 .before in let c3 = c2 .before in
+    let few = few-held (c3 .pre) in whole-pair few (c2 .both-steps .ensures) (pair-held few (c1 .first-pair .ensures))
 
 returns : tie.Need-returns
-returns c = pairs-are (c .before .before .before .before .pre) (c .before .before .before .both-steps .ensures) (c .pair-of-thirty-two .ensures)
+returns c =
+    let c2 = c .before .before in let c3 = c2 .before in let c4 = c3 .before in
+    let few = few-held (c4 .pre) in
+    held-mask (c4 .fits .v) (c4 .args .steps .now) 6
+    (pairs-are few (c3 .both-steps .ensures) (pair-held few (c2 .first-pair .ensures)) (c .pair-of-thirty-two .ensures))
 
 pub pairs-word-spec : {M : Type 1} → statement M
 pairs-word-spec =
     tie.close
     (tie.spec
     both-steps-requires
-    element-copy-out-pair-of-thirty-two
-    add-pair-of-thirty-two
-    add-pair-of-thirty-two-2
-    mul-pair-of-thirty-two
-    add-pair-of-thirty-two-3
-    add-pair-of-thirty-two-4
+    first-pair-requires
     pair-of-thirty-two-requires
     returns)

@@ -10,38 +10,53 @@ axes-left-requires : tie.Need-axes-left-requires
 axes-left-requires c κs = tt
 
 lengths-of-requires : tie.Need-lengths-of-requires
-lengths-of-requires c κs = (c .before .before .before .before .pre .scene .accepted-universe, c .before .axes-left .ensures)
+lengths-of-requires c κs =
+    let c1 = c .before in let c4 = c1 .before .before .before in
+    (c4 .pre .scene .accepted-universe, c1 .axes-left .ensures)
 
 whole-sides-requires : tie.Need-whole-sides-requires
 whole-sides-requires c κs = tt
 
 load-both-requires : tie.Need-load-both-requires
-load-both-requires c κs = both-job (c .before .before .before .before .before .before .before .before .pre) codes-long shelf-long
+load-both-requires c κs =
+    let c8 = c .before .before .before .before .before .before .before .before in
+    both-job (c8 .pre) codes-long shelf-long
 
 levels-requires : tie.Need-levels-requires
 levels-requires c κs = tt
 
 add-tally-block : tie.Need-add-tally-block
-add-tally-block c = omega (arith, few-words (c .before .before .before .before .before .before .before .before .before .before .before .before .before .before .before .before .pre))
+add-tally-block c =
+    let c15 = c .before .before .before .before .before .before .before .before .before .before .before .before .before .before .before in
+    let c16 = c15 .before in
+    omega (arith, few-words (c16 .pre))
 
 tally-block-requires : tie.Need-tally-block-requires
 tally-block-requires c κs =
-    let k = c .before .before .before .before .before .before .before .before .before .before .before .before .before .before .before .before .before .before in
-    let b = c .before .before .before .before .before .before .before .before .before .load-both .ensures (both-job (k .pre) codes-long shelf-long) in
-    let tabled = c .before .before .before .before .before .before .before .before .before .before .before .before .before .lengths-of .ensures in
-    let sides = c .before .before .before .before .before .before .before .before .before .before .before .before .whole-sides .ensures in
-    let l = c .before .before .before .levels .ensures in
-    (whole-job (k .pre) l codes-long shelf-long tabled sides b, record { starts-long = b .starts-long; codes-long = shelf-long })
+    let c6 = c .before .before .before .before .before .before in let c12 = c6 .before .before .before .before .before .before in
+    let c15 = c12 .before .before .before in let c16 = c15 .before in let k = c16 .before .before .before .before .before in
+    let b = c12 .load-both .ensures (both-job (k .pre) codes-long shelf-long) in
+    let tabled = c16 .lengths-of .ensures in
+    let sides = c15 .whole-sides .ensures in
+    let l = c6 .levels .ensures in (
+      whole-job (k .pre) l codes-long shelf-long tabled sides b,
+      record {
+        pruning = record { starts-long = b .starts-long; codes-long = shelf-long };
+        words = record { sures-long = shelf-long; centres-long = shelf-long; possibles-long = shelf-long };
+      },
+    )
 
 returns : tie.Need-returns
 returns c =
-    let k = c .before .before .before .before .before .before .before .before .before .before .before .before .before .before .before .before .before .before .before .before in
-    let b = c .before .before .before .before .before .before .before .before .before .before .before .load-both .ensures (both-job (k .pre) codes-long shelf-long) in
-    let tabled = c .before .before .before .before .before .before .before .before .before .before .before .before .before .before .before .lengths-of .ensures in
-    let sides = c .before .before .before .before .before .before .before .before .before .before .before .before .before .before .whole-sides .ensures in
-    let l = c .before .before .before .before .before .levels .ensures in
+    let c1 = c .before in let c8 = c1 .before .before .before .before .before .before .before in
+    let c14 = c8 .before .before .before .before .before .before in let c17 = c14 .before .before .before in let c18 = c17 .before in
+    let k = c18 .before .before .before .before .before in
+    let b = c14 .load-both .ensures (both-job (k .pre) codes-long shelf-long) in
+    let tabled = c18 .lengths-of .ensures in
+    let sides = c17 .whole-sides .ensures in
+    let l = c8 .levels .ensures in
     whole-tally (k .pre) l codes-long shelf-long tabled sides b
-    (c .before .tally-block .ensures .0 (whole-job (k .pre) l codes-long shelf-long tabled sides b))
+    (c1 .tally-block .ensures .0 (whole-job (k .pre) l codes-long shelf-long tabled sides b))
 
 pub whole-tally-spec : {M : Type 1} → statement M
 whole-tally-spec =

@@ -1,72 +1,90 @@
--- `tally_word` counts the ones of three words within the window, and fewer where one tells of the others.
-use borrow.Author.Needs.{needs}
-use mathlib.Core.Bool.{true, false}
+-- `tally_word` counts the ones of three words within the window, and nothing where none is possible.
+use mathlib.Core.Path.{refl}
 use native.Mathlib.Omega.{arith}
-use Rattle.at_once.proofs.Jobs.{some-axis, last-axis, trees-job, halvings, trees-are, window-are, frames-fit}
-use Rattle.at_once.proofs.Tallies.{own-are, tally-none, tally-alike, tally-words}
+use Rattle.at_once.proofs.Jobs.{some-axis, last-axis, trees-job, framed, frames-are}
+use Rattle.at_once.proofs.Tallies.{three-are, tally-none, tally-words}
 use Rattle.at_once.proofs.tally.tally_word.Statement.{statement}
 use Rattle.at_once.proofs.tally.tally_word.Tie as tie
 
-sub-frame-axis : tie.Need-sub-frame-axis
-sub-frame-axis c = some-axis (c .before .pre .block)
+three-words-requires : tie.Need-three-words-requires
+three-words-requires c κs =
+    let c4 = c .before .before .before .before in
+    (trees-job (c4 .pre .0) (c4 .pre .1 .0), c4 .pre .1 .1)
 
-mul-window-word : tie.Need-mul-window-word
-mul-window-word c = omega (arith, last-axis (c .before .pre .block))
-
-element-copy-out-window-word : tie.Need-element-copy-out-window-word
-element-copy-out-window-word c = last-axis (c .before .pre .block)
-
-window-word-requires : tie.Need-window-word-requires
-window-word-requires c κs = let k = c .before .before in (halvings (k .pre .block) (k .pre .few), frames-fit (k .pre .block) (k .pre .few))
-
-own-trees-word-requires : tie.Need-own-trees-word-requires
-own-trees-word-requires c κs = let k = c .before .before .before in trees-job (k .pre .block) (k .pre .few)
+tally-of-requires : tie.Need-tally-of-requires
+tally-of-requires c κs = tt
 
 returns : tie.Need-returns
 returns c =
-    let k = c .before .before .before .before .before .before in let h = k .pre .few in let w = c .before .before .before .window-word .ensures in
-    λ job. tally-none (job .block) (k .args .first) (k .args .last) (window-are (job .block) h (k .args .first) (k .args .last) w)
-    (own-are (job .block) (k .args .first) (k .args .last) true h (c .before .before .own-trees-word .ensures)) (c .before .if1 .taken) (c .tally-of .ensures)
+    let c1 = c .before in let c2 = c1 .before in let c7 = c2 .before .before .before .before .before in
+    let first = c7 .args .first in let last = c7 .args .last in let few = c7 .pre .1 .0 in (
+      λ job. tally-none job first last refl (three-are job first last few (c2 .three-words .ensures .0)) (c1 .if1 .taken) (c .tally-of .ensures),
+      c2 .three-words .ensures .1,
+    )
 
-own-trees-word-requires-2 : tie.Need-own-trees-word-requires-2
-own-trees-word-requires-2 c κs = let k = c .before .before .before .before .before in trees-job (k .pre .block) (k .pre .few)
+sub-frame-axis : tie.Need-sub-frame-axis
+sub-frame-axis c =
+    let c6 = c .before .before .before .before .before .before in
+    some-axis (c6 .pre .0)
+
+mul-frame : tie.Need-mul-frame
+mul-frame c =
+    let c6 = c .before .before .before .before .before .before in
+    omega (arith, last-axis (c6 .pre .0))
+
+element-copy-out-frame : tie.Need-element-copy-out-frame
+element-copy-out-frame c =
+    let c6 = c .before .before .before .before .before .before in
+    last-axis (c6 .pre .0)
+
+mul-wide : tie.Need-mul-wide
+mul-wide c =
+    let c7 = c .before .before .before .before .before .before .before in
+    omega (arith, last-axis (c7 .pre .0))
+
+element-copy-out-wide : tie.Need-element-copy-out-wide
+element-copy-out-wide c =
+    let c7 = c .before .before .before .before .before .before .before in
+    last-axis (c7 .pre .0)
+
+frames-word-requires : tie.Need-frames-word-requires
+frames-word-requires c κs =
+    let c8 = c .before .before .before .before .before .before .before .before in
+    framed (c8 .pre .0) (c8 .pre .1 .0)
+
+ones-of-requires : tie.Need-ones-of-requires
+ones-of-requires c κs = tt
+
+ones-of-requires-2 : tie.Need-ones-of-requires-2
+ones-of-requires-2 c κs = tt
+
+ones-of-requires-3 : tie.Need-ones-of-requires-3
+ones-of-requires-3 c κs = tt
 
 returns-2 : tie.Need-returns-2
 returns-2 c =
-    let k = c .before .before .before .before .before .before .before .before .before in let h = k .pre .few in let w = c .before .before .before .before .before .before .window-word .ensures in
-    λ job. tally-alike (job .block) (k .args .first) (k .args .last) (window-are (job .block) h (k .args .first) (k .args .last) w)
-    (own-are (job .block) (k .args .first) (k .args .last) true h (c .before .before .before .before .before .own-trees-word .ensures))
-    (own-are (job .block) (k .args .first) (k .args .last) false h (c .before .before .before .own-trees-word2 .ensures)) (c .before .before .if2 .taken) (c .before .ones-of .ensures)
-    (c .tally-of2 .ensures)
-
-trees-word-requires : tie.Need-trees-word-requires
-trees-word-requires c κs = let k = c .before .before .before .before .before .before .before in trees-job (k .pre .block) (k .pre .few)
-
-returns-3 : tie.Need-returns-3
-returns-3 c =
-    let k = c .before .before .before .before .before .before .before .before .before .before .before in let h = k .pre .few in let w = c .before .before .before .before .before .before .before .before .window-word .ensures in
-    λ job. tally-words (job .block) (k .args .first) (k .args .last) (window-are (job .block) h (k .args .first) (k .args .last) w)
-    (own-are (job .block) (k .args .first) (k .args .last) true h (c .before .before .before .before .before .before .before .own-trees-word .ensures))
-    (own-are (job .block) (k .args .first) (k .args .last) false h (c .before .before .before .before .before .own-trees-word2 .ensures))
-    (trees-are (job .block) h (c .before .before .before .trees-word .ensures)) (c .before .before .ones-of2 .ensures) (c .before .ones-of3 .ensures) (c .ones-of4 .ensures)
+    let c1 = c .before in let c2 = c1 .before in let c3 = c2 .before in let c7 = c3 .before .before .before .before in
+    let c12 = c7 .before .before .before .before .before in
+    let first = c12 .args .first in let last = c12 .args .last in let few = c12 .pre .1 .0 in (
+      λ job. tally-words job first last (frames-are job few first last (c3 .frames-word .ensures)) (three-are job first last few (c7 .three-words .ensures .0))
+          (c2 .ones-of .ensures) (c1 .ones-of2 .ensures) (c .ones-of3 .ensures),
+      c7 .three-words .ensures .1,
+    )
 
 pub tally-word-spec : {M : Type 1} → statement M
 tally-word-spec =
     tie.close
     (tie.spec
-    sub-frame-axis
-    mul-window-word
-    element-copy-out-window-word
-    window-word-requires
-    own-trees-word-requires
-    (λ c κs. search needs)
+    three-words-requires
+    tally-of-requires
     returns
-    own-trees-word-requires-2
-    (λ c κs. search needs)
-    (λ c κs. search needs)
-    returns-2
-    trees-word-requires
-    (λ c κs. search needs)
-    (λ c κs. search needs)
-    (λ c κs. search needs)
-    returns-3)
+    sub-frame-axis
+    mul-frame
+    element-copy-out-frame
+    mul-wide
+    element-copy-out-wide
+    frames-word-requires
+    ones-of-requires
+    ones-of-requires-2
+    ones-of-requires-3
+    returns-2)

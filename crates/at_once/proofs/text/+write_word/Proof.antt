@@ -28,7 +28,18 @@ write-word-below t =
 
 module _ (t : ℕ) where
   abbrev cs : write-word-lts.Claims
-  cs = (note-reads.Asked, note-reads.Learnt, all-ones-reads.Asked, all-ones-reads.Learnt, lower-reads.Asked, lower-reads.Learnt, upper-reads.Asked, upper-reads.Learnt, write-word-below t, write-word.Post)
+  cs = (
+    note-reads.Asked,
+    note-reads.Learnt,
+    all-ones-reads.Asked,
+    all-ones-reads.Learnt,
+    lower-reads.Asked,
+    lower-reads.Learnt,
+    upper-reads.Asked,
+    upper-reads.Learnt,
+    write-word-below t,
+    write-word.Post,
+  )
 
   write-word-note-requires : write-word-lts.Need-note-requires cs (write-word-at t) write-word.Post
   write-word-note-requires c κs = search needs
@@ -41,7 +52,8 @@ module _ (t : ℕ) where
 
   write-word-returns : write-word-lts.Need-returns cs (write-word-at t) write-word.Post
   write-word-returns c =
-      white-text (c .before .before .before .before .before .before .pre .1) (c .before .before .before .before .if1 .taken) _ (c .before .before .note .ensures)
+      white-text (c .before .before .before .before .before .before .pre .1) (c .before .before .before .before .if1 .taken) _
+      (c .before .before .note .ensures)
 
   write-word-all-ones-requires : write-word-lts.Need-all-ones-requires cs (write-word-at t) write-word.Post
   write-word-all-ones-requires c κs = c .before .before .pre .1 .few
@@ -57,7 +69,8 @@ module _ (t : ℕ) where
 
   write-word-returns-2 : write-word-lts.Need-returns-2 cs (write-word-at t) write-word.Post
   write-word-returns-2 c =
-      black-text (c .before .before .before .before .before .before .before .before .pre .1) (c .before .before .before .before .before .before .if1 .left) (c .before .before .before .before .before .all-ones .ensures) (c .before .before .before .before .if2 .taken) _ (c .before .before .note2 .ensures)
+      black-text (c .before .before .before .before .before .before .before .before .pre .1) (c .before .before .before .before .before .before .if1 .left)
+      (c .before .before .before .before .before .all-ones .ensures) (c .before .before .before .before .if2 .taken) _ (c .before .before .note2 .ensures)
 
   write-word-sub-n : write-word-lts.Need-sub-n cs (write-word-at t) write-word.Post
   write-word-sub-n c = left-some (c .before .before .before .before .pre .1) (c .before .before .if1 .left) (c .before .all-ones .ensures) (c .if2 .left)
@@ -68,7 +81,8 @@ module _ (t : ℕ) where
 
   write-word-upper-requires : write-word-lts.Need-upper-requires cs (write-word-at t) write-word.Post
   write-word-upper-requires c κs =
-      place-few (c .before .before .before .before .before .pre .1) (c .before .before .before .if1 .left) (c .before .before .all-ones .ensures) (c .before .if2 .left)
+      place-few (c .before .before .before .before .before .pre .1) (c .before .before .before .if1 .left) (c .before .before .all-ones .ensures)
+      (c .before .if2 .left)
 
   write-word-note-requires-3 : write-word-lts.Need-note-requires-3 cs (write-word-at t) write-word.Post
   write-word-note-requires-3 c κs = search needs
@@ -82,8 +96,11 @@ module _ (t : ℕ) where
       let j = c .before .before .before .before .before .before .before .before .before .before .before .pre .1 in
       let some = c .before .before .before .before .before .before .before .before .before .if1 .left in
       let o = c .before .before .before .before .before .before .before .before .all-ones .ensures in
-      let fewer = c .before .before .before .before .before .before .before .if2 .left in
-      (omega (arith, c .before .before .before .before .before .before .before .before .before .before .before .pre .0, left-some j some o fewer), low-text j some o fewer (c .before .before .before .before .before .before .lower .ensures))
+      let fewer = c .before .before .before .before .before .before .before .if2 .left in (
+        omega (arith, c .before .before .before .before .before .before .before .before .before .before .before .pre .0, left-some j some o fewer),
+        low-text j
+            some o fewer (c .before .before .before .before .before .before .lower .ensures),
+      )
 
   write-word-write-word-requires-2 : write-word-lts.Need-write-word-requires-2 cs (write-word-at t) write-word.Post
   write-word-write-word-requires-2 c κs =
@@ -91,8 +108,13 @@ module _ (t : ℕ) where
       let some = c .before .before .before .before .before .before .before .before .before .before .before .before .before .if1 .left in
       let o = c .before .before .before .before .before .before .before .before .before .before .before .before .all-ones .ensures in
       let fewer = c .before .before .before .before .before .before .before .before .before .before .before .if2 .left in (
-        omega (arith, c .before .before .before .before .before .before .before .before .before .before .before .before .before .before .before .pre .0, left-some j some o fewer),
-        high-text j some o fewer (c .before .before .before .before .before .before .before .before .before .before .lower .ensures) (c .before .before .before .before .before .before .before .before .before .upper .ensures) (c .before .before .before .write-word .ensures),
+        omega (
+          arith,
+          c .before .before .before .before .before .before .before .before .before .before .before .before .before .before .before .pre .0,
+          left-some j some o fewer,
+        ),
+        high-text j some o fewer (c .before .before .before .before .before .before .before .before .before .before .lower .ensures)
+            (c .before .before .before .before .before .before .before .before .before .upper .ensures) (c .before .before .before .write-word .ensures),
       )
 
   write-word-same-length-3 : write-word-lts.Need-same-length-3 cs (write-word-at t) write-word.Post
@@ -100,9 +122,15 @@ module _ (t : ℕ) where
 
   write-word-returns-3 : write-word-lts.Need-returns-3 cs (write-word-at t) write-word.Post
   write-word-returns-3 c =
-      let j = c .before .before .before .before .before .before .before .before .before .before .before .before .before .before .before .before .before .before .pre .1 in
+      let j = c .before .before .before .before .before .before .before .before .before .before .before .before .before .before .before .before .before
+      .before .pre .1 in
       let o = c .before .before .before .before .before .before .before .before .before .before .before .before .before .before .before .all-ones .ensures in
-      both-texts j (c .before .before .before .before .before .before .before .before .before .before .before .before .before .before .before .before .if1 .left) o (c .before .before .before .before .before .before .before .before .before .before .before .before .before .before .if2 .left) (c .before .before .before .before .before .before .before .before .before .before .before .before .before .lower .ensures) (c .before .before .before .before .before .before .before .before .before .before .before .before .upper .ensures) (c .before .before .before .before .before .before .write-word .ensures) _ (c .before .before .before .before .before .before .before .before .before .before .note3 .ensures)
+      both-texts j (c .before .before .before .before .before .before .before .before .before .before .before .before .before .before .before .before .if1
+      .left) o (c .before .before .before .before .before .before .before .before .before .before .before .before .before .before .if2 .left)
+      (c .before .before .before .before .before .before .before .before .before .before .before .before .before .lower .ensures)
+      (c .before .before .before .before .before .before .before .before .before .before .before .before .upper .ensures)
+      (c .before .before .before .before .before .before .write-word .ensures) _ (c .before .before .before .before .before .before .before .before .before
+      .before .note3 .ensures)
       (c .before .before .write-word2 .ensures)
 
 pub +write-word-spec : {M : Type 1} → statement M

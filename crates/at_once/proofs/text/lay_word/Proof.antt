@@ -54,7 +54,8 @@ same-length c = search needs
 
 returns-3 : tie.Need-returns-3
 returns-3 c =
-    text-laid (c .before .before .before .before .before .before .before .before .pre) (c .before .before .before .before .before .before .if1 .left) (c .before .before .before .before .before .all-ones .ensures) (c .before .before .before .before .if2 .left) (c .before .before .write-text .ensures)
+    text-laid (c .before .before .before .before .before .before .before .before .pre) (c .before .before .before .before .before .before .if1 .left)
+    (c .before .before .before .before .before .all-ones .ensures) (c .before .before .before .before .if2 .left) (c .before .before .write-text .ensures)
 
 pub lay-word-spec : {M : Type 1} → statement M
 lay-word-spec =

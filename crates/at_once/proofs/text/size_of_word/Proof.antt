@@ -49,8 +49,10 @@ add-result c = search needs
 
 returns : tie.Need-returns
 returns c =
-    size-is (c .before .before .before .before .before .before .args .word) refl refl refl refl refl refl (search needs) (c .before .before .before .before .before .mixed-blocks .ensures .0) (c .before .before .before .before .mixed-blocks2 .ensures .0)
-    (c .before .before .before .mixed-blocks3 .ensures .0) (c .before .before .mixed-blocks4 .ensures .0) (c .before .mixed-blocks5 .ensures .0) (c .mixed-blocks6 .ensures .0)
+    size-is (c .before .before .before .before .before .before .args .word) refl refl refl refl refl refl (search needs)
+    (c .before .before .before .before .before .mixed-blocks .ensures .0) (c .before .before .before .before .mixed-blocks2 .ensures .0)
+    (c .before .before .before .mixed-blocks3 .ensures .0) (c .before .before .mixed-blocks4 .ensures .0) (c .before .mixed-blocks5 .ensures .0)
+    (c .mixed-blocks6 .ensures .0)
 
 pub size-of-word-spec : {M : Type 1} → statement M
 size-of-word-spec =

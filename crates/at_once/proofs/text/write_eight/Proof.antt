@@ -46,7 +46,8 @@ write-four-requires c κs = low-roomy (c .before .before .before .before .pre) (
 
 write-four-requires-2 : tie.Need-write-four-requires-2
 write-four-requires-2 c κs =
-    high-roomy (c .before .before .before .before .before .before .before .before .pre) (c .before .before .before .before .before .before .if1 .left) refl (c .before .before .before .before .before .if2 .left) refl refl (c .before .before .before .write-four .ensures)
+    high-roomy (c .before .before .before .before .before .before .before .before .pre) (c .before .before .before .before .before .before .if1 .left) refl
+    (c .before .before .before .before .before .if2 .left) refl refl (c .before .before .before .write-four .ensures)
 
 same-length-3 : tie.Need-same-length-3
 same-length-3 c =
@@ -56,7 +57,10 @@ same-length-3 c =
 
 returns-3 : tie.Need-returns-3
 returns-3 c =
-    both-stored (c .before .before .before .before .before .before .before .before .before .before .before .pre) (c .before .before .before .before .before .before .before .before .before .if1 .left) refl (c .before .before .before .before .before .before .before .before .if2 .left) refl refl (c .before .before .before .before .before .before .write-four .ensures) (c .before .before .write-four2 .ensures)
+    both-stored (c .before .before .before .before .before .before .before .before .before .before .before .pre)
+    (c .before .before .before .before .before .before .before .before .before .if1 .left) refl
+    (c .before .before .before .before .before .before .before .before .if2 .left) refl refl
+    (c .before .before .before .before .before .before .write-four .ensures) (c .before .before .write-four2 .ensures)
 
 pub write-eight-spec : {M : Type 1} → statement M
 write-eight-spec =

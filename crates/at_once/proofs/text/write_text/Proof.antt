@@ -42,14 +42,16 @@ returns-3 c = search needs
 
 write-sixty-four-requires : tie.Need-write-sixty-four-requires
 write-sixty-four-requires c κs =
-    roomy-text (c .before .before .before .before .before .pre) (c .before .before .before .if1 .left) (omega (arith, c .before .before .if2 .left)) (omega (arith, c .before .if3 .left))
+    roomy-text (c .before .before .before .before .before .pre) (c .before .before .before .if1 .left) (omega (arith, c .before .before .if2 .left)) (omega
+    (arith, c .before .if3 .left))
 
 same-length-3 : tie.Need-same-length-3
 same-length-3 c = search needs
 
 returns-4 : tie.Need-returns-4
 returns-4 c =
-    roomy-written (c .before .before .before .before .before .before .before .before .pre) (c .before .before .before .before .before .before .if1 .left) (c .before .before .write-sixty-four .ensures)
+    roomy-written (c .before .before .before .before .before .before .before .before .pre) (c .before .before .before .before .before .before .if1 .left)
+    (c .before .before .write-sixty-four .ensures)
 
 pub write-text-spec : {M : Type 1} → statement M
 write-text-spec =

@@ -46,7 +46,8 @@ write-sixteen-requires c κs = low-roomy (c .before .before .before .before .pre
 
 write-sixteen-requires-2 : tie.Need-write-sixteen-requires-2
 write-sixteen-requires-2 c κs =
-    high-roomy (c .before .before .before .before .before .before .before .before .pre) (c .before .before .before .before .before .before .if1 .left) refl (c .before .before .before .before .before .if2 .left) refl refl (c .before .before .before .write-sixteen .ensures)
+    high-roomy (c .before .before .before .before .before .before .before .before .pre) (c .before .before .before .before .before .before .if1 .left) refl
+    (c .before .before .before .before .before .if2 .left) refl refl (c .before .before .before .write-sixteen .ensures)
 
 same-length-3 : tie.Need-same-length-3
 same-length-3 c =
@@ -56,7 +57,10 @@ same-length-3 c =
 
 returns-3 : tie.Need-returns-3
 returns-3 c =
-    both-stored (c .before .before .before .before .before .before .before .before .before .before .before .pre) (c .before .before .before .before .before .before .before .before .before .if1 .left) refl (c .before .before .before .before .before .before .before .before .if2 .left) refl refl (c .before .before .before .before .before .before .write-sixteen .ensures) (c .before .before .write-sixteen2 .ensures)
+    both-stored (c .before .before .before .before .before .before .before .before .before .before .before .pre)
+    (c .before .before .before .before .before .before .before .before .before .if1 .left) refl
+    (c .before .before .before .before .before .before .before .before .if2 .left) refl refl
+    (c .before .before .before .before .before .before .write-sixteen .ensures) (c .before .before .write-sixteen2 .ensures)
 
 pub write-thirty-two-spec : {M : Type 1} → statement M
 write-thirty-two-spec =

@@ -4,11 +4,11 @@ use Rattle.at_once.proofs.LeafWords.{row-some, row-place, ball-place, g
 use Rattle.at_once.proofs.word.surface_word.Statement.{statement}
 use Rattle.at_once.proofs.word.surface_word.Tie as tie
 
-sub-i : tie.Need-sub-i
-sub-i c = row-some (c .before .pre) (c .if1 .taken)
-
 cast-i : tie.Need-cast-i
 cast-i c = search needs
+
+sub-i : tie.Need-sub-i
+sub-i c = row-some (c .before .pre) (c .if1 .taken)
 
 word-of-row-requires : tie.Need-word-of-row-requires
 word-of-row-requires c κs = (c .before .pre .block, row-place (c .before .pre) (c .if1 .taken))
@@ -26,4 +26,4 @@ returns-2 : tie.Need-returns-2
 returns-2 c = λ job. gives-ball job (c .before .if1 .left) (c .word-of-ball .ensures (job .block))
 
 pub surface-word-spec : {M : Type 1} → statement M
-surface-word-spec = tie.close (tie.spec sub-i cast-i word-of-row-requires returns cast-i-2 word-of-ball-requires returns-2)
+surface-word-spec = tie.close (tie.spec cast-i sub-i word-of-row-requires returns cast-i-2 word-of-ball-requires returns-2)

@@ -1,47 +1,58 @@
--- `term_of_row` is a product of small numbers.
-use native.Mathlib.Omega.{arith}
+-- `term_of_row`: a product of small numbers, twice, and the coefficient once.
+use Rattle.at_once.proofs.RowValues.{place-fits, begin-fits, twice-fits, term-fits, term-is}
 use borrow.Author.Needs.{needs}
-use Rattle.at_once.proofs.RowValues.{place-fits, term-fits, term-is}
 use Rattle.at_once.proofs.word.term_of_row.Statement.{statement}
 use Rattle.at_once.proofs.word.term_of_row.Tie as tie
+
+mul-coefficient : tie.Need-mul-coefficient
+mul-coefficient c = search needs
+
+add-coefficient : tie.Need-add-coefficient
+add-coefficient c = search needs
+
+add-coefficient-2 : tie.Need-add-coefficient-2
+add-coefficient-2 c = search needs
+
+mul-coefficient-2 : tie.Need-mul-coefficient-2
+mul-coefficient-2 c = search needs
+
+shared-slice-copy-out-coefficient : tie.Need-shared-slice-copy-out-coefficient
+shared-slice-copy-out-coefficient c = search needs
 
 mul-result : tie.Need-mul-result
 mul-result c = search needs
 
-add-result : tie.Need-add-result
-add-result c = search needs
-
-add-result-2 : tie.Need-add-result-2
-add-result-2 c = search needs
-
-mul-result-2 : tie.Need-mul-result-2
-mul-result-2 c = search needs
-
-shared-slice-copy-out-result : tie.Need-shared-slice-copy-out-result
-shared-slice-copy-out-result c = search needs
-
-mul-result-3 : tie.Need-mul-result-3
-mul-result-3 c = search needs
-
 element-copy-out-result : tie.Need-element-copy-out-result
 element-copy-out-result c = search needs
 
-mul-result-4 : tie.Need-mul-result-4
-mul-result-4 c = omega (arith, c .before .before .pre .1 .0 .place (c .before .before .args .axis) .most)
-
-add-result-3 : tie.Need-add-result-3
-add-result-3 c = omega (arith, c .before .before .pre .1 .0 .place (c .before .before .args .axis) .most)
-
 cast-result : tie.Need-cast-result
-cast-result c = place-fits (c .before .before .pre .0) (c .before .before .pre .1 .0) (c .before .before .args .axis) (c .before .before .pre .1 .1)
+cast-result c = let t = c .before .before in place-fits (t .pre .0) (t .pre .1 .0) (t .args .axis) (t .pre .1 .1)
 
-mul-result-5 : tie.Need-mul-result-5
-mul-result-5 c = term-fits (c .before .before .pre .0) (c .before .before .pre .1 .0) (c .before .before .args .axis) (c .before .before .pre .1 .1)
+mul-result-2 : tie.Need-mul-result-2
+mul-result-2 c = let t = c .before .before in begin-fits (t .pre .0) (t .pre .1 .0) (t .args .axis) (t .pre .1 .1)
+
+mul-result-3 : tie.Need-mul-result-3
+mul-result-3 c = let t = c .before .before in twice-fits (t .pre .0) (t .pre .1 .0) (t .args .axis) (t .pre .1 .1)
+
+add-result : tie.Need-add-result
+add-result c = let t = c .before .before in term-fits (t .pre .0) (t .pre .1 .0) (t .args .axis) (t .pre .1 .1)
 
 returns : tie.Need-returns
-returns c = term-is (c .before .before .pre .0) (c .before .before .pre .1 .0) (c .before .before .args .axis) (c .before .before .pre .1 .1)
+returns c = let t = c .before .before in term-is (t .pre .0) (t .pre .1 .0) (t .args .axis) (t .pre .1 .1)
 
 pub term-of-row-spec : {M : Type 1} → statement M
 term-of-row-spec =
-    tie.close (tie.spec mul-result add-result add-result-2 mul-result-2 shared-slice-copy-out-result mul-result-3 element-copy-out-result mul-result-4
-    add-result-3 cast-result mul-result-5 returns)
+    tie.close
+    (tie.spec
+    mul-coefficient
+    add-coefficient
+    add-coefficient-2
+    mul-coefficient-2
+    shared-slice-copy-out-coefficient
+    mul-result
+    element-copy-out-result
+    cast-result
+    mul-result-2
+    mul-result-3
+    add-result
+    returns)

@@ -1,7 +1,7 @@
 -- `value_of_row` is a sum of small numbers.
 use borrow.Author.Needs.{needs}
 use lib.Dec.{lit<}
-use Rattle.at_once.proofs.RowValues.{offset-fits, two-fits, three-fits, four-fits, value-fits, value-is}
+use Rattle.at_once.proofs.RowValues.{terms-small, offset-fits, two-fits, three-fits, four-fits, value-fits, value-is}
 use Rattle.at_once.proofs.word.value_of_row.Statement.{statement}
 use Rattle.at_once.proofs.word.value_of_row.Tie as tie
 
@@ -33,21 +33,21 @@ add-result : tie.Need-add-result
 add-result c =
     let t = c .before .before .before .before .before in let c4 = c .before .before .before .before in let c3 = c .before .before .before in
     let c2 = c .before .before in
-    two-fits (t .pre .0) (t .pre .1) (c4 .term-of-row .ensures) (c3 .term-of-row2 .ensures) (c2 .term-of-row3 .ensures)
+    two-fits (terms-small (t .pre .0) (t .pre .1)) (c4 .term-of-row .ensures) (c3 .term-of-row2 .ensures) (c2 .term-of-row3 .ensures)
     (c .before .term-of-row4 .ensures)
 
 add-result-2 : tie.Need-add-result-2
 add-result-2 c =
     let t = c .before .before .before .before .before in let c4 = c .before .before .before .before in let c3 = c .before .before .before in
     let c2 = c .before .before in
-    three-fits (t .pre .0) (t .pre .1) (c4 .term-of-row .ensures) (c3 .term-of-row2 .ensures) (c2 .term-of-row3 .ensures)
+    three-fits (terms-small (t .pre .0) (t .pre .1)) (c4 .term-of-row .ensures) (c3 .term-of-row2 .ensures) (c2 .term-of-row3 .ensures)
     (c .before .term-of-row4 .ensures)
 
 add-result-3 : tie.Need-add-result-3
 add-result-3 c =
     let t = c .before .before .before .before .before in let c4 = c .before .before .before .before in let c3 = c .before .before .before in
     let c2 = c .before .before in
-    four-fits (t .pre .0) (t .pre .1) (c4 .term-of-row .ensures) (c3 .term-of-row2 .ensures) (c2 .term-of-row3 .ensures)
+    four-fits (terms-small (t .pre .0) (t .pre .1)) (c4 .term-of-row .ensures) (c3 .term-of-row2 .ensures) (c2 .term-of-row3 .ensures)
     (c .before .term-of-row4 .ensures)
 
 add-result-4 : tie.Need-add-result-4

@@ -1,4 +1,4 @@
--- `raw_of_two`: it is pruned only where the nodes that are needed are no more than the largest work room has; the first conversion does the rest.
+-- `raw_of_two`: by what is left of the trees, or by the first conversion, whose contract is the same; the words counted for the room are few.
 use native.Mathlib.Omega.{arith}
 use Rattle.csg.specs.Halfspace.{mostRows}
 use Rattle.csg.specs.Ball.{mostBalls}
@@ -8,11 +8,11 @@ use borrow.Author.Needs.{needs}
 use Rattle.local.proofs.conversion.raw_of_two.Statement.{statement}
 use Rattle.local.proofs.conversion.raw_of_two.Tie as tie
 
-add-nodes-of : tie.Need-add-nodes-of
-add-nodes-of c = search needs
+add-is-small : tie.Need-add-is-small
+add-is-small c = search needs
 
-nodes-of-requires : tie.Need-nodes-of-requires
-nodes-of-requires c κs = search needs
+is-small-requires : tie.Need-is-small-requires
+is-small-requires c κs = search needs
 
 raw-of-two-requires : tie.Need-raw-of-two-requires
 raw-of-two-requires c κs = search needs
@@ -23,14 +23,23 @@ same-length c = search needs
 returns : tie.Need-returns
 returns c = search needs
 
-pruned-of-two-requires : tie.Need-pruned-of-two-requires
-pruned-of-two-requires c κs = let h = c .before .before .if1 .left in (h, c .before .before .before .nodes-of .ensures h)
+left-of-two-requires : tie.Need-left-of-two-requires
+left-of-two-requires c κs = search needs
 
 same-length-2 : tie.Need-same-length-2
 same-length-2 c = search needs
 
 returns-2 : tie.Need-returns-2
 returns-2 c = search needs
+
+left-of-two-requires-2 : tie.Need-left-of-two-requires-2
+left-of-two-requires-2 c κs = search needs
+
+same-length-3 : tie.Need-same-length-3
+same-length-3 c = search needs
+
+returns-3 : tie.Need-returns-3
+returns-3 c = search needs
 
 halfspace-words-requires : tie.Need-halfspace-words-requires
 halfspace-words-requires c κs = search needs
@@ -40,7 +49,7 @@ halfspace-words-requires-2 c κs = search needs
 
 add-leaves : tie.Need-add-leaves
 add-leaves c =
-    let k = c .before .before .before .before .before .before .before .before .args in
+    let k = c .before .before .before .before .before .before .before .before .before .args in
     let one = count-words-most firstHalfspace mostRows (k .first .now) in
     let two = count-words-most firstHalfspace mostRows (k .second .now) in
     record { fits = omega (arith, c .before .halfspace-words .ensures, c .halfspace-words2 .ensures, one, two) }
@@ -53,7 +62,7 @@ ball-words-requires-2 c κs = search needs
 
 add-round : tie.Need-add-round
 add-round c =
-    let k = c .before .before .before .before .before .before .before .before .before .before .args in
+    let k = c .before .before .before .before .before .before .before .before .before .before .before .args in
     let one = count-words-most firstBall mostBalls (k .first .now) in
     let two = count-words-most firstBall mostBalls (k .second .now) in
     record { fits = omega (arith, c .before .ball-words .ensures, c .ball-words2 .ensures, one, two) }
@@ -61,21 +70,8 @@ add-round c =
 room-requires : tie.Need-room-requires
 room-requires c κs = search needs
 
-pruned-of-two-requires-2 : tie.Need-pruned-of-two-requires-2
-pruned-of-two-requires-2 c κs = let h = c .before .before .before .before .before .before .before .before .before .if1 .left in (
-  h,
-  c .before .before
-      .before .before .before .before .before .before .before .before .nodes-of .ensures h,
-)
-
-same-length-3 : tie.Need-same-length-3
-same-length-3 c = search needs
-
-returns-3 : tie.Need-returns-3
-returns-3 c = search needs
-
-pruned-of-two-requires-3 : tie.Need-pruned-of-two-requires-3
-pruned-of-two-requires-3 c κs = let h = c .before .before .before .before .before .before .before .before .before .before .if1 .left in (h, c .before .before .before .before .before .before .before .before .before .before .before .nodes-of .ensures h)
+left-of-two-requires-3 : tie.Need-left-of-two-requires-3
+left-of-two-requires-3 c κs = search needs
 
 same-length-4 : tie.Need-same-length-4
 same-length-4 c = search needs
@@ -96,14 +92,17 @@ pub raw-of-two-spec : {M : Type 1} → statement M
 raw-of-two-spec =
     tie.close
     (tie.spec
-    add-nodes-of
-    nodes-of-requires
+    add-is-small
+    is-small-requires
     raw-of-two-requires
     same-length
     returns
-    pruned-of-two-requires
+    left-of-two-requires
     same-length-2
     returns-2
+    left-of-two-requires-2
+    same-length-3
+    returns-3
     halfspace-words-requires
     halfspace-words-requires-2
     add-leaves
@@ -111,10 +110,7 @@ raw-of-two-spec =
     ball-words-requires-2
     add-round
     room-requires
-    pruned-of-two-requires-2
-    same-length-3
-    returns-3
-    pruned-of-two-requires-3
+    left-of-two-requires-3
     same-length-4
     returns-4
     raw-of-two-requires-2

@@ -1,47 +1,21 @@
--- `pruned_of_one`: each work room is taken only where the nodes that are needed are no more.
-use native.Mathlib.Omega.{arith}
-use Rattle.local.proofs.Rooms.{more-suffice}
+-- `pruned_of_one`: no word stands in a second tree.
+use Rattle.local.proofs.Rooms.{none-besides}
 use borrow.Author.Needs.{needs}
 use Rattle.local.proofs.work.pruned_of_one.Statement.{statement}
 use Rattle.local.proofs.work.pruned_of_one.Tie as tie
 
-few-of-one-requires : tie.Need-few-of-one-requires
-few-of-one-requires c κs = more-suffice (c .before .before .before .before .pre .1) (omega (arith, c .before .if1 .taken))
+slice-aggregate-pruned-of : tie.Need-slice-aggregate-pruned-of
+slice-aggregate-pruned-of c = search needs
+
+pruned-of-requires : tie.Need-pruned-of-requires
+pruned-of-requires c κs = let k = c .before .before .before .before .pre in (k .0, none-besides (k .1))
 
 same-length : tie.Need-same-length
 same-length c = search needs
 
 returns : tie.Need-returns
-returns c = search needs
-
-some-of-one-requires : tie.Need-some-of-one-requires
-some-of-one-requires c κs = more-suffice (c .before .before .before .before .before .pre .1) (omega (arith, c .before .if2 .taken))
-
-same-length-2 : tie.Need-same-length-2
-same-length-2 c = search needs
-
-returns-2 : tie.Need-returns-2
-returns-2 c = search needs
-
-many-of-one-requires : tie.Need-many-of-one-requires
-many-of-one-requires c κs = let k = c .before .before .before .before .before .pre in more-suffice (k .1) (k .0)
-
-same-length-3 : tie.Need-same-length-3
-same-length-3 c = search needs
-
-returns-3 : tie.Need-returns-3
-returns-3 c = search needs
+returns c = c .before .before .pruned-of .ensures
 
 pub pruned-of-one-spec : {M : Type 1} → statement M
 pruned-of-one-spec =
-    tie.close
-    (tie.spec
-    few-of-one-requires
-    same-length
-    returns
-    some-of-one-requires
-    same-length-2
-    returns-2
-    many-of-one-requires
-    same-length-3
-    returns-3)
+    tie.close (tie.spec slice-aggregate-pruned-of pruned-of-requires same-length returns)

@@ -1,4 +1,4 @@
--- `written_of_two` loads the words of both trees, the second behind the first, asks for the formula's room, and writes the universe.
+-- `written_of_two` loads the words of both trees, the second behind the first, asks for room that suffices, and writes the universe.
 use borrow.Author.Needs.{needs}
 use native.Mathlib.Omega.{arith}
 use mathlib.Core.Path.{refl, _∙_}
@@ -38,6 +38,11 @@ add-round c =
     let b = accepted-length _ _ (k .pre .accepted-second) in
     omega (arith, c .before .ball-words .ensures, c .ball-words2 .ensures, f, s, a, b)
 
+room-for-requires : tie.Need-room-for-requires
+room-for-requires c κs =
+    c .before .before .before .before .before .before .before .before .before .before .before .before .before .before .before .before .before .before .pre .scene
+    .accepted-universe
+
 add-write-whole : tie.Need-add-write-whole
 add-write-whole c =
     let k = c .before .before .before .before .before .before .before .before .before .before .before .before .before .before .before .before .before .before
@@ -58,7 +63,7 @@ write-whole-requires c κs =
     (c .before .before .before .before .before .before .before .before .halfspace-words .ensures)
     (c .before .before .before .before .before .before .before .halfspace-words2 .ensures)
     (c .before .before .before .before .before .before .ball-words .ensures)
-    (c .before .before .before .before .before .ball-words2 .ensures) (c .before .before .before .before .room .ensures)
+    (c .before .before .before .before .before .ball-words2 .ensures) (c .before .before .before .before .room-for .ensures)
 
 same-length : tie.Need-same-length
 same-length c = c .before .before .before .write-whole .kept .1 .1 .1 .1 .1 .0
@@ -83,7 +88,7 @@ returns c =
     let p₂ = c .before .before .before .before .before .before .before .before .before .before .before .halfspace-words2 .ensures in
     let q = c .before .before .before .before .before .before .before .before .before .before .ball-words .ensures in
     let q₂ = c .before .before .before .before .before .before .before .before .before .ball-words2 .ensures in
-    let a = c .before .before .before .before .before .before .before .before .room .ensures in
+    let a = c .before .before .before .before .before .before .before .before .room-for .ensures in
     two-ended r e _ refl d f p p₂ q q₂ a _ _ (c .before .before .before .write-whole .ensures (two-whole r e _ refl d f p p₂ q q₂ a))
 
 pub written-of-two-spec : {M : Type 1} → statement M
@@ -99,7 +104,7 @@ written-of-two-spec =
     (λ c κs. search needs)
     (λ c κs. search needs)
     add-round
-    (λ c κs. search needs)
+    room-for-requires
     add-write-whole
     write-whole-requires
     same-length
