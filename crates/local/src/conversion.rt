@@ -17,8 +17,17 @@ const FEW_BITS: u64 = 3;
 
 const FEW_WORDS: usize = 40;
 
-// Whether next to nothing would be pruned, so that the first conversion is the faster one.
-fn is_small(universe: Universe, words: usize) -> bool {
+// Of so few words with a ball among the surfaces pruning takes longer in any universe: a ball that is left alone is
+// judged like a tree.
+const FEW_WITH_BALLS: usize = 8;
+
+// Whether next to nothing would be gained by pruning, so that the first conversion is the faster one.
+fn is_small(universe: Universe, words: usize, balls: usize) -> bool {
+    if words <= FEW_WITH_BALLS {
+        if 0 < balls {
+            return true;
+        }
+    }
     if universe.axes < 3 {
         return false;
     }
@@ -83,7 +92,7 @@ pub fn raw_of_one(
     ensures { λ _. let surfaces = surfacesOf (now (rows .entry)) (now (balls .entry)) in
         ⌜ now (out .exit) ≡ rawOfOneBuffer universe surfaces (now (words .entry)) (now (out .entry)) ⌝ }
 {
-    if is_small(universe, words.len()) {
+    if is_small(universe, words.len(), balls.len()) {
         return convert::raw_of_one(universe, rows, balls, words, out);
     }
     if out.len() <= pruned::MOST_SCRATCH {
@@ -114,7 +123,7 @@ pub fn raw_of_two(
         ⌜ now (out .exit)
         ≡ rawOfTwoBuffer universe surfaces (now (first .entry)) (now (second .entry)) (now (out .entry)) ⌝ }
 {
-    if is_small(universe, first.len() + second.len()) {
+    if is_small(universe, first.len() + second.len(), balls.len()) {
         return convert::raw_of_two(universe, rows, balls, first, second, out);
     }
     if out.len() <= pruned::MOST_SCRATCH {
