@@ -1,7 +1,7 @@
 // The raw conversions by what is left of the trees: as nodes where work room of the call's own suffices, else as codes.
-// Where the first conversion lays an expression once, and this would twice, that one is taken, and in universes so
-// small that next to nothing is pruned. What is left is asked for in several places, so that the compiler keeps its
-// frames apart from the first conversion's.
+// Where the first conversion lays an expression once, and this would twice, that one is taken, and where pruning gains
+// little. What is left is asked for in several places, so that the compiler keeps its frames apart from the first
+// conversion's.
 use crate::work::MANY;
 use crate::work::nodes_of;
 use crate::work::pruned_of_one;
@@ -21,8 +21,8 @@ const FEW_WORDS: usize = 40;
 // judged like a tree.
 const FEW_WITH_BALLS: usize = 8;
 
-// Whether next to nothing would be gained by pruning, so that the first conversion is the faster one.
-fn is_small(universe: Universe, words: usize, balls: usize) -> bool {
+// Whether pruning gains so little that the first conversion is the faster one. Answers do not depend on it.
+fn gains_little(universe: Universe, words: usize, balls: usize) -> bool {
     if words <= FEW_WITH_BALLS {
         if 0 < balls {
             return true;
@@ -92,7 +92,7 @@ pub fn raw_of_one(
     ensures { λ _. let surfaces = surfacesOf (now (rows .entry)) (now (balls .entry)) in
         ⌜ now (out .exit) ≡ rawOfOneBuffer universe surfaces (now (words .entry)) (now (out .entry)) ⌝ }
 {
-    if is_small(universe, words.len(), balls.len()) {
+    if gains_little(universe, words.len(), balls.len()) {
         return convert::raw_of_one(universe, rows, balls, words, out);
     }
     if out.len() <= pruned::MOST_SCRATCH {
@@ -123,7 +123,7 @@ pub fn raw_of_two(
         ⌜ now (out .exit)
         ≡ rawOfTwoBuffer universe surfaces (now (first .entry)) (now (second .entry)) (now (out .entry)) ⌝ }
 {
-    if is_small(universe, first.len() + second.len(), balls.len()) {
+    if gains_little(universe, first.len() + second.len(), balls.len()) {
         return convert::raw_of_two(universe, rows, balls, first, second, out);
     }
     if out.len() <= pruned::MOST_SCRATCH {

@@ -8,11 +8,11 @@ use borrow.Author.Needs.{needs}
 use Rattle.local.proofs.conversion.raw_of_two.Statement.{statement}
 use Rattle.local.proofs.conversion.raw_of_two.Tie as tie
 
-add-is-small : tie.Need-add-is-small
-add-is-small c = search needs
+add-gains-little : tie.Need-add-gains-little
+add-gains-little c = search needs
 
-is-small-requires : tie.Need-is-small-requires
-is-small-requires c κs = search needs
+gains-little-requires : tie.Need-gains-little-requires
+gains-little-requires c κs = search needs
 
 raw-of-two-requires : tie.Need-raw-of-two-requires
 raw-of-two-requires c κs = search needs
@@ -92,8 +92,8 @@ pub raw-of-two-spec : {M : Type 1} → statement M
 raw-of-two-spec =
     tie.close
     (tie.spec
-    add-is-small
-    is-small-requires
+    add-gains-little
+    gains-little-requires
     raw-of-two-requires
     same-length
     returns
