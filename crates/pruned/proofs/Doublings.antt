@@ -29,6 +29,11 @@ doubled-none {times} h =
 pub doubled-few : {times : ℕ} → times < 64 → doubled times ≡ 2 ^ times
 doubled-few {times} h = mod-eq-of-lt (pow-lt {i = times} {j = 64} h)
 
+-- where there is a half, no centre is asked of a block that is none
+pub no-centre : {times : ℕ} {centre : Bool} → times < 64 → (centre ≡ true → doubled times ≡ 0) → centre ≡ false
+no-centre {times = times} {centre = true} h f = absurd (omega (arith, f refl, doubled-few h, pow-pos times))
+no-centre {times = times} {centre = false} h f = refl
+
 -- ---- which sides of halfspaces move
 module _ (times code : ℕ) {below : ℕ} (is : below ≡ movingBelow times) where
   below-is : {b : Bool} → ltb times 64 ≡ b → below ≡ cond b firstBallSide 512

@@ -163,6 +163,7 @@ module _ {surfaces : Surfaces} {axes : ℕ} {table low side : List ℕ} {axis ha
         apart = job .apart;
         inside = job .inside;
         room = omega (arith, job .room);
+        rests = λ e. job .rests (eqb-true left 0 e);
       }
 
   nodes-are : allNodes (job .trees) ≡ count
@@ -388,16 +389,16 @@ module _ (m : Bool) (out : List ℕ) (at : ℕ) {whole lowest highest : Shape} (
 
 module _ {surfaces : Surfaces} {axes : ℕ} {table low side : List ℕ} {left : ℕ} {work : List ℤ} {from count : ℕ}
     {looked : List ℕ} {at : ℕ} (job : HalvesJob surfaces axes table low side left work from count looked at) where
-  abbrev u : Universe
+  abbrev pub u : Universe
   u = job .universe
 
-  abbrev P : Block
+  abbrev pub P : Block
   P = blockLeft u left low
 
-  abbrev axis : ℕ
+  abbrev pub axis : ℕ
   axis = getD table (left - 1) 0
 
-  abbrev half : ℕ
+  abbrev pub half : ℕ
   half = getD side axis 0 / 2
 
   left-suc : left ≡ suc (left - 1)
@@ -406,13 +407,13 @@ module _ {surfaces : Surfaces} {axes : ℕ} {table low side : List ℕ} {left : 
   abbrev Q : Block
   Q = blockLeft u (suc (left - 1)) low
 
-  same-block : P ≡ Q
+  pub same-block : P ≡ Q
   same-block = ap (λ (k : ℕ). blockLeft u k low) left-suc
 
-  standing′ : Standing u (suc (left - 1)) low side
+  pub standing′ : Standing u (suc (left - 1)) low side
   standing′ = subst (λ (k : ℕ). Standing u k low side) left-suc (job .standing)
 
-  at-level : axis ≡ axisAt u (levels u - suc (left - 1))
+  pub at-level : axis ≡ axisAt u (levels u - suc (left - 1))
   at-level = axis-is u (job .scene .accepted-universe) (job .table-is) (left - 1) (omega (arith, job .standing .above, job .some))
 
   last : eqb (left - 1) 0 ≡ true → left - 1 ≡ 0
@@ -431,10 +432,10 @@ module _ {surfaces : Surfaces} {axes : ℕ} {table low side : List ℕ} {left : 
       Stepping surfaces axes (highLows low side axis) (halvedSides side axis) axis (doubled times) true (eqb (left - 1) 0)
   step₂ told = step-high (job .scene) (job .axes-are) standing′ at-level last (length-is told)
 
-  lower-block : blockLeft u (left - 1) low ≡ Block·low P
+  pub lower-block : blockLeft u (left - 1) low ≡ Block·low P
   lower-block = sym (lower-is u (job .scene .accepted-universe) (left - 1) low side standing′ axis at-level) ∙ ap Block·low (sym same-block)
 
-  upper-block : blockLeft u (left - 1) (highLows low side axis) ≡ Block·high P
+  pub upper-block : blockLeft u (left - 1) (highLows low side axis) ≡ Block·high P
   upper-block = sym (upper-is u (job .scene .accepted-universe) (left - 1) low side standing′ axis at-level) ∙ ap Block·high (sym same-block)
 
   pub axis-within : axis < mostAxes
@@ -449,13 +450,13 @@ module _ {surfaces : Surfaces} {axes : ℕ} {table low side : List ℕ} {left : 
   room-same : 3 * (from + count + (left - 1 + 1) * count) ≤ length work
   room-same = let e : left - 1 + 1 ≡ left = omega (arith, job .some) in rw e (omega (arith, job .room))
 
-  inside-same : 3 * (from + count) ≤ length work
+  pub inside-same : 3 * (from + count) ≤ length work
   inside-same = omega (arith, room-same)
 
-  pub lower-job : {times : ℕ} → times ≡ trailingZeros 64 half →
+  pub lower-job : {times : ℕ} → times ≡ trailingZeros 64 half → (left ≡ 1 → ⊥) →
       BlockJob surfaces axes table low (set side axis half) axis (doubled times) false (left - 1) work from count (from + count) looked (at + 1)
   unfolding step₁ step-low stepping
-  lower-job told =
+  lower-job told more =
       record {
         step = step₁ told;
         scene = job .scene;
@@ -472,11 +473,13 @@ module _ {surfaces : Surfaces} {axes : ℕ} {table low side : List ℕ} {left : 
         fits = omega (arith, job .fits, ap (λ (x : Block). size (examineAll surfaces (job .trees) (left - 1) x)) lower-block);
         tallied = job .tallied;
         counts = omega (arith, job .counts, ap (lookedFrom surfaces (job .trees) (left - 1)) lower-block);
+        rests = λ e. absurd (more (omega (arith, job .some)));
       }
 
   -- the low half is laid
-  module _ (m : Bool) (out : List ℕ) {times : ℕ} (told : times ≡ trailingZeros 64 half) {packed₁ : ℕ} {out₁ looked₁ low₁ side₁ : List ℕ} {work₁ : List ℤ}
-      (laid₁ : BlockLaid (lower-job told) m out packed₁ out₁ looked₁ low₁ side₁ work₁) where
+  module _ (m : Bool) (out : List ℕ) {times : ℕ} (told : times ≡ trailingZeros 64 half) (more : left ≡ 1 → ⊥)
+      {packed₁ : ℕ} {out₁ looked₁ low₁ side₁ : List ℕ} {work₁ : List ℤ}
+      (laid₁ : BlockLaid (lower-job told more) m out packed₁ out₁ looked₁ low₁ side₁ work₁) where
     abbrev lowest : Shape
     lowest = examineAll surfaces (job .trees) (left - 1) (blockLeft u (left - 1) low)
 
@@ -541,6 +544,7 @@ module _ {surfaces : Surfaces} {axes : ℕ} {table low side : List ℕ} {left : 
           fits = omega (arith, job .fits, lowest-size, highest-size, middle-is, shaped-size m lowest);
           tallied = ap length counted₁;
           counts = omega (arith, job .counts, lowest-looked, highest-looked, ap (λ (l : List ℕ). getD l 0 0) counted₁);
+          rests = λ e. absurd (more (omega (arith, job .some)));
         }
 
     pub upper-job : UpperJob low₂ side₁

@@ -5,7 +5,7 @@ use mathlib.Core.Path.{_≡_, refl, sym, ap, ap₂, _∙_}
 use mathlib.Core.Bool.{Bool, true, false, cond}
 use mathlib.Core.List.{List}
 use native.Mathlib.Omega.{arith}
-use lib.Dec.{eqb}
+use lib.Dec.{eqb, leb}
 use lib.IntN.{ℤ, pos, natAbs, _+ℤ_}
 use lib.Signed.{leZ}
 use lib.ListN.{length, getD}
@@ -16,12 +16,12 @@ use Rattle.universe.proofs.Universes.{side-last}
 use Rattle.bintree.specs.declared.Colour.{Colour}
 use Rattle.bintree.specs.declared.Colour.the-variants.{White, Black}
 use Rattle.csg.specs.Halfspace.{Halfspace, Mark, decided, undecided, mostRows, rowAt, rowCount, least, greatest, markOver, centreValue, colourAtCentre}
-use Rattle.csg.specs.Ball.{mostPlaces, ballAt, ballCount, placeAxes, ballMark, ballColour}
+use Rattle.csg.specs.Ball.{Ball, mostPlaces, radiusSquared, ballAt, ballCount, placeAxes, ballMark, ballColour}
 use Rattle.csg.specs.Surfaces.{Surfaces, Surface, halfspace, ball, Named, named, IsNamed, halfspace-named, ball-named}
 use Rattle.csg.specs.Tree.{Plain, colour, side}
 use Rattle.csg.specs.Marks.{oppositeColour, oppositeMark, surfaceMark, surfaceColour, sideMark, sideColour}
 use Rattle.csg.proofs.Halfspace.{voxel-sum}
-use Rattle.convert.specs.Codes.{whiteBit, bitsOf, testedCode}
+use Rattle.convert.specs.Codes.{whiteBit, bitsOf, testedCode, offOver, ballCodeAt}
 use Rattle.convert.specs.Small.{SmallCoefficient, SmallPlace, SmallPlaces, BallReady}
 use Rattle.convert.specs.Blocks.{Standing, blockLeft}
 use Rattle.convert.proofs.Blocks.{low-small, side-small}
@@ -31,6 +31,7 @@ use Rattle.pruned.specs.Nodes.{Node, ofColour, ofSide, wordOf, bitOf, no
 use Rattle.pruned.specs.Nodes.{SmallExtreme}
 use Rattle.pruned.specs.Nodes.{Stepping, judgedMarks, blockOf, marksOf, leftBits, valueCode, ballCode, turnedCode, LeafOf, colour-leaf, side-leaf}
 use Rattle.pruned.specs.Nodes.{LeafJob, LeafJudged}
+use Rattle.pruned.specs.Pair.{isBlack}
 use Rattle.lemmas.proofs.Machine.{near}
 use Rattle.pruned.proofs.Moving.{held, extreme-near}
 
@@ -51,6 +52,21 @@ turned-bits false m = refl
 colours : (turned : Bool) (c : Colour) → cond turned (oppositeMark (decided c)) (decided c) ≡ decided (cond turned (oppositeColour c) c)
 colours true c = refl
 colours false c = refl
+
+-- whether it is BLACK at a centre, where one test decides
+abbrev pub turnedBlack : Bool → Bool → Bool
+turnedBlack true p = cond p false true
+turnedBlack false p = p
+
+black-turned : (turned p : Bool) → isBlack (turnedCode turned (testedCode p true)) ≡ turnedBlack turned p
+black-turned true true = refl
+black-turned true false = refl
+black-turned false true = refl
+black-turned false false = refl
+
+black-tested : (p : Bool) → isBlack (testedCode p true) ≡ p
+black-tested true = refl
+black-tested false = refl
 
 -- the mark, or the colour as a mark, of the surface itself
 abbrev pub ownMark : Bool → Surfaces → Block → Surface → Mark
@@ -251,6 +267,20 @@ module _ {surfaces : Surfaces} {axes : ℕ} {low side : List ℕ} {axis half : �
             (v′ ≡ held v) × (w′ ≡ held w) → Told judged v′ w′
         side-told q r s = let t = row-told refl q r in (t .0, s .0 ∙ t .1, s .1 ∙ t .2)
 
+        -- over a block that is no centre by their signs
+        pub over-told : {judged : ℕ} {v′ w′ : ℤ} → centre ≡ false → judged ≡ turnedCode (eqb (code % 2) 1) (valueCode false (held v) (held w)) →
+            (v′ ≡ held v) × (w′ ≡ held w) → Told judged v′ w′
+        over-told z r s = side-told refl (r ∙ ap (λ (k : Bool). turnedCode (eqb (code % 2) 1) (valueCode k (held v) (held w))) (sym z)) s
+
+        -- at a centre by the sign of their sum
+        pub centre-black : centre ≡ true → isBlack (leftBits (leftBy (marksOf step) t)) ≡ turnedBlack (eqb (code % 2) 1) (leZ (pos 0) (v +ℤ w))
+        centre-black z =
+            let r = row-told {bits = valueCode centre (held v) (held w)} refl refl refl .0 in
+            let k : valueCode centre (held v) (held w) ≡ testedCode (leZ (pos 0) (v +ℤ w)) true =
+            rw (z, extreme-near (moved-small .0) .same, extreme-near (moved-small .1) .same) in
+            ap isBlack (sym r) ∙ ap (λ (x : ℕ). isBlack (turnedCode (eqb (code % 2) 1) x)) k
+            ∙ black-turned (eqb (code % 2) 1) (leZ (pos 0) (v +ℤ w))
+
       -- the values where none moves
       pub stays : ((a : ℤ) (z : ℤ) → (z ≡ movedLeast high a half z) × (z ≡ movedGreatest high a half z)) →
           (x ≡ movedLeast high (held coefficient) half (held x)) × (y ≡ movedGreatest high (held coefficient) half (held y))
@@ -295,6 +325,16 @@ module _ {surfaces : Surfaces} {axes : ℕ} {low side : List ℕ} {axis half : �
             extreme-near (values-small .1) .same ∙ y-is ∙ ap (greatestOf surfaces (step .parent)) (ball-found .4)
                 ∙ ap (greatestOf surfaces b) (sym (ball-found .4)),
           )
+
+      -- at a centre
+      pub ball-black : centre ≡ true → isBlack (leftBits (leftBy (marksOf step) t))
+          ≡ turnedBlack (eqb (code % 2) 1) (isBlack (ballCodeAt (axes - 1) (ballAt (surfaces .balls) ((code - firstBallSide) / 2)) low))
+      ball-black z =
+          let b : Ball = ballAt (surfaces .balls) ((code - firstBallSide) / 2) in
+          let r = ball-told {bits = ballCode centre (axes - 1) b low side} refl refl refl .0 in
+          let p : Bool = leb (offOver (axes - 1) b low) (4 * radiusSquared b) in
+          ap isBlack (sym r) ∙ ap (λ (c : Bool). isBlack (turnedCode (eqb (code % 2) 1) (ballCode c (axes - 1) b low side))) z
+          ∙ black-turned (eqb (code % 2) 1) p ∙ ap (turnedBlack (eqb (code % 2) 1)) (sym (black-tested p))
 
 -- ---- the same of a job
 module _ {surfaces : Surfaces} {axes : ℕ} {low side : List ℕ} {axis half : ℕ} {high centre : Bool} {code : ℕ} {x y : ℤ}

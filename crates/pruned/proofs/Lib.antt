@@ -8,9 +8,12 @@ pub mod Leaves
 pub mod Memory
 pub mod Reading
 pub mod Stacks
+pub mod Nexts
 pub mod Pruning
 pub mod Steps
+pub mod Pairs
 pub mod Laying
+pub mod Voxels
 pub mod Amounts
 pub mod Alone
 pub mod Handed

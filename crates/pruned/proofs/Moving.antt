@@ -9,14 +9,14 @@ use lib.IntN.{ℤ, pos, natAbs, _+ℤ_, _-ℤ_, _*ℤ_}
 use lib.Signed.{leZ}
 use mir.Syntax.{w64}
 use mir.Val.{SFits, toZ, ofZ}
-use Rattle.lemmas.proofs.Machine.{Near, near, near-cast, near-add, near-sub, near-mul, near-back, near-fits}
+use Rattle.lemmas.proofs.Machine.{Near, near, near-cast, near-lit, near-add, near-sub, near-mul, near-back, near-fits}
 use Rattle.lemmas.proofs.Whole.{up, dn, one-part, Is, is-nat, is-self, is-add, is-sub, is-mul, is-eq, le-is, lt-is, leZ-true, leZ-false}
 use Rattle.universe.specs.Universe.{coefficientLimit, longestSide}
-use Rattle.csg.specs.Halfspace.{lesser, greater}
+use Rattle.csg.specs.Halfspace.{lesser}
 use Rattle.csg.proofs.Extremes.{above-is, below-is}
 use Rattle.convert.specs.Codes.{testedCode}
 use Rattle.convert.specs.Small.{SmallCoefficient, SmallPlace}
-use Rattle.pruned.specs.Nodes.{rises, falls, movedLeast, movedGreatest, extremeLimit, SmallExtreme, amountLimit, SmallAmount, MovedBy}
+use Rattle.pruned.specs.Nodes.{rises, falls, movedLeast, movedGreatest, extremeLimit, SmallExtreme, amountLimit, SmallAmount, MovedBy, movedTowards}
 use Rattle.pruned.specs.Nodes.{doubled, valueCode}
 use Rattle.pruned.proofs.Doublings.{doubled-none, doubled-few}
 
@@ -137,33 +137,43 @@ pub unmoved : (a : ℤ) {times : ℕ} (high : Bool) (x y : ℤ) → 64 ≤ times
     (x ≡ movedLeast high a (doubled times) x) × (y ≡ movedGreatest high a (doubled times) y)
 unmoved a {times} high x y h = rw (doubled-none h) (least-none high a x, greatest-none high a y)
 
--- ---- the parts of an amount that rise and that fall, as the machine tells them
-greater-rises : (a : ℤ) (half : ℕ) → greater (pos 0) (a *ℤ pos half) ≡ rises a half
-greater-rises a half = by (leZ (pos 0) (a *ℤ pos half)) refl
-  where
-    by : (t : Bool) → leZ (pos 0) (a *ℤ pos half) ≡ t → cond t (a *ℤ pos half) (pos 0) ≡ rises a half
-    by true e = sym (rises-all a half e .0)
-    by false e = sym (falls-all a half e .0)
+-- ---- the amount towards a half: its two parts, and the values moved by what falls of it and by what is left
+two-parts : {z : ℤ} {p n : ℕ} → Is z p n → ((P : Type 0) → (p ≡ 0 → P) → (n ≡ 0 → P) → P) → (up z ≡ p) × (dn z ≡ n)
+two-parts {z} i one =
+    let e = i .is in
+    one _
+    (λ k. one-part z _ (λ d. (omega arith, omega arith)) (λ u. (omega arith, omega arith)))
+    (λ k. one-part z _ (λ d. (omega arith, omega arith)) (λ u. (omega arith, omega arith)))
 
-pub lesser-falls : (a : ℤ) (half : ℕ) → lesser (pos 0) (a *ℤ pos half) ≡ falls a half
-lesser-falls a half = by (leZ (pos 0) (a *ℤ pos half)) refl
-  where
-    by : (t : Bool) → leZ (pos 0) (a *ℤ pos half) ≡ t → cond t (pos 0) (a *ℤ pos half) ≡ falls a half
-    by true e = sym (rises-all a half e .1)
-    by false e = sym (falls-all a half e .1)
+module _ (a : ℤ) (half : ℕ) where
+  abbrev toward : Bool → ℤ
+  toward high = movedTowards high (a *ℤ pos half)
 
+  high-parts : (up (toward true) ≡ up a * half) × (dn (toward true) ≡ dn a * half)
+  high-parts = two-parts (amount-is a half) (parts a half)
+
+  low-parts : (up (toward false) ≡ dn a * half) × (dn (toward false) ≡ up a * half)
+  low-parts = two-parts (record { is = omega (arith, is-sub (is-nat 0) (amount-is a half) .is) }) (λ P f g. parts a half P g f)
+
+  toward-least : (high : Bool) (x : ℤ) → x +ℤ (toward high -ℤ lesser (pos 0) (toward high)) ≡ movedLeast high a half x
+  toward-least true x =
+      is-eq (is-add (is-self x) (is-sub (is-self (toward true)) (below-is (toward true)))) (is-add (is-self x) (rise-is a half))
+      (omega (arith, high-parts .0))
+  toward-least false x =
+      is-eq (is-add (is-self x) (is-sub (is-self (toward false)) (below-is (toward false)))) (is-sub (is-self x) (fall-is a half))
+      (omega (arith, low-parts .0))
+
+  toward-greatest : (high : Bool) (y : ℤ) → y +ℤ lesser (pos 0) (toward high) ≡ movedGreatest high a half y
+  toward-greatest true y = is-eq (is-add (is-self y) (below-is (toward true))) (is-add (is-self y) (fall-is a half)) (omega (arith, high-parts .1))
+  toward-greatest false y = is-eq (is-add (is-self y) (below-is (toward false))) (is-sub (is-self y) (rise-is a half)) (omega (arith, low-parts .1))
+
+-- as the machine tells them
 module _ {m : ℤ} (sm : SmallAmount m) where
   by-near : Near (held m) m amountLimit
   by-near = near (record { most = sm .most }) tt
 
   test-is : {t : Bool} → leZ (pos 0) (held m) ≡ t → leZ (pos 0) m ≡ t
   test-is e = rw (by-near .same) at e
-
-  pub rises-whole : leZ (pos 0) (held m) ≡ true → held m ≡ greater (pos 0) m
-  rises-whole t = rw (test-is t) (by-near .same)
-
-  pub rises-nothing : leZ (pos 0) (held m) ≡ false → pos 0 ≡ greater (pos 0) m
-  rises-nothing t = rw (test-is t)
 
   pub falls-nothing : leZ (pos 0) (held m) ≡ true → pos 0 ≡ lesser (pos 0) m
   falls-nothing t = rw (test-is t)
@@ -174,64 +184,75 @@ module _ {m : ℤ} (sm : SmallAmount m) where
   pub held-small : SmallAmount (held m)
   held-small = rw (by-near .same) sm
 
-  part-small : (t : Bool) → natAbs (cond t m (pos 0)) ≤ amountLimit
-  part-small true = sm .most
-  part-small false = omega arith
+  opposite-near : Near (pos 0 -ℤ held m) (pos 0 -ℤ m) amountLimit
+  opposite-near = near-sub {x = pos 0} {y = m} (near-lit (pos 0)) by-near
 
-  rest-small : (t : Bool) → natAbs (cond t (pos 0) m) ≤ amountLimit
-  rest-small true = omega arith
-  rest-small false = sm .most
+  pub opposite-fits : SFits w64 (pos 0 -ℤ held m)
+  opposite-fits = near-fits {x = pos 0 -ℤ m} opposite-near tt
 
-  rise-near : {r : ℤ} → r ≡ greater (pos 0) (held m) → Near (held r) (greater (pos 0) m) amountLimit
-  rise-near e = rw (e, by-near .same) (near (record { most = part-small (leZ (pos 0) m) }) tt)
+  pub towards-high : {high : Bool} → high ≡ true → held m ≡ movedTowards high m
+  towards-high h = rw h (by-near .same)
 
-  fall-near : {r : ℤ} → r ≡ lesser (pos 0) (held m) → Near (held r) (lesser (pos 0) m) amountLimit
-  fall-near e = rw (e, by-near .same) (near (record { most = rest-small (leZ (pos 0) m) }) tt)
+  pub towards-low : {high : Bool} → high ≡ false → held (pos 0 -ℤ held m) ≡ movedTowards high m
+  towards-low h = rw h (near-back {x = pos 0 -ℤ m} opposite-near tt .same)
 
--- the values moved by both
-module _ {m x y r f : ℤ} (sm : SmallAmount m) (sx : SmallExtreme x) (sy : SmallExtreme y)
-    (re : r ≡ greater (pos 0) (held m)) (fe : f ≡ lesser (pos 0) (held m)) where
-  least-up : Near (held x +ℤ held r) (x +ℤ greater (pos 0) m) (extremeLimit + amountLimit)
-  least-up = near-add {x = x} {y = greater (pos 0) m} (extreme-near sx) (rise-near sm re)
+  towards-size : (high : Bool) → natAbs (movedTowards high m) ≤ amountLimit
+  towards-size true = sm .most
+  towards-size false = opposite-near .size
 
-  greatest-up : Near (held y +ℤ held f) (y +ℤ lesser (pos 0) m) (extremeLimit + amountLimit)
-  greatest-up = near-add {x = y} {y = lesser (pos 0) m} (extreme-near sy) (fall-near sm fe)
+  fall-size : natAbs (lesser (pos 0) m) ≤ amountLimit
+  fall-size = by (leZ (pos 0) m)
+    where
+      by : (t : Bool) → natAbs (cond t (pos 0) m) ≤ amountLimit
+      by true = omega arith
+      by false = sm .most
 
-  least-down : Near (held x -ℤ held f) (x -ℤ lesser (pos 0) m) (extremeLimit + amountLimit)
-  least-down = near-sub {x = x} {y = lesser (pos 0) m} (extreme-near sx) (fall-near sm fe)
+-- the values moved
+module _ {m x y s : ℤ} (high : Bool) (sm : SmallAmount m) (sx : SmallExtreme x) (sy : SmallExtreme y) (se : s ≡ movedTowards high (held m)) where
+  abbrev step : ℤ
+  step = movedTowards high m
 
-  greatest-down : Near (held y -ℤ held r) (y -ℤ greater (pos 0) m) (extremeLimit + amountLimit)
-  greatest-down = near-sub {x = y} {y = greater (pos 0) m} (extreme-near sy) (rise-near sm re)
+  step-small : SmallAmount step
+  step-small = record { most = towards-size sm high }
 
-  pub high-fits : SFits w64 (held x +ℤ held r) × SFits w64 (held y +ℤ held f)
-  high-fits = (near-fits {x = x +ℤ greater (pos 0) m} least-up tt, near-fits {x = y +ℤ lesser (pos 0) m} greatest-up tt)
+  step-near : Near (held s) step amountLimit
+  step-near = rw (se, by-near sm .same) (by-near step-small)
 
-  pub low-fits : SFits w64 (held x -ℤ held f) × SFits w64 (held y -ℤ held r)
-  low-fits = (near-fits {x = x -ℤ lesser (pos 0) m} least-down tt, near-fits {x = y -ℤ greater (pos 0) m} greatest-down tt)
+  pub step-asks : SmallAmount (held s)
+  step-asks = rw (step-near .same) step-small
 
-  rise-is-part : (a : ℤ) (half : ℕ) → m ≡ a *ℤ pos half → greater (pos 0) m ≡ rises a half
-  rise-is-part a half e = ap (greater (pos 0)) e ∙ greater-rises a half
+  module _ {f : ℤ} (fe : f ≡ lesser (pos 0) (held s)) where
+    fall-near : Near (held f) (lesser (pos 0) step) amountLimit
+    fall-near = rw (fe, step-near .same) (near (record { most = fall-size step-small }) tt)
 
-  fall-is-part : (a : ℤ) (half : ℕ) → m ≡ a *ℤ pos half → lesser (pos 0) m ≡ falls a half
-  fall-is-part a half e = ap (lesser (pos 0)) e ∙ lesser-falls a half
+    rest-near : Near (held s -ℤ held f) (step -ℤ lesser (pos 0) step) (amountLimit + amountLimit)
+    rest-near = near-sub {x = step} {y = lesser (pos 0) step} step-near fall-near
 
-  pub high-moves : {high : Bool} → high ≡ true → MovedBy m high x y (held (held x +ℤ held r)) (held (held y +ℤ held f))
-  high-moves h =
-      record {
-        over = λ a half e. rw h (
-          near-back {x = x +ℤ greater (pos 0) m} least-up tt .same ∙ ap (λ (z : ℤ). x +ℤ z) (rise-is-part a half e),
-          near-back {x = y +ℤ lesser (pos 0) m} greatest-up tt .same ∙ ap (λ (z : ℤ). y +ℤ z) (fall-is-part a half e),
-        );
-      }
+    least-near : Near (held x +ℤ held (held s -ℤ held f)) (x +ℤ (step -ℤ lesser (pos 0) step)) (extremeLimit + (amountLimit + amountLimit))
+    least-near = near-add {x = x} {y = step -ℤ lesser (pos 0) step} (extreme-near sx) (near-back {x = step -ℤ lesser (pos 0) step} rest-near tt)
 
-  pub low-moves : {high : Bool} → high ≡ false → MovedBy m high x y (held (held x -ℤ held f)) (held (held y -ℤ held r))
-  low-moves h =
-      record {
-        over = λ a half e. rw h (
-          near-back {x = x -ℤ lesser (pos 0) m} least-down tt .same ∙ ap (λ (z : ℤ). x -ℤ z) (fall-is-part a half e),
-          near-back {x = y -ℤ greater (pos 0) m} greatest-down tt .same ∙ ap (λ (z : ℤ). y -ℤ z) (rise-is-part a half e),
-        );
-      }
+    greatest-near : Near (held y +ℤ held f) (y +ℤ lesser (pos 0) step) (extremeLimit + amountLimit)
+    greatest-near = near-add {x = y} {y = lesser (pos 0) step} (extreme-near sy) fall-near
+
+    pub moved-fits : SFits w64 (held s -ℤ held f) × (SFits w64 (held x +ℤ held (held s -ℤ held f)) × SFits w64 (held y +ℤ held f))
+    moved-fits = (
+      near-fits {x = step -ℤ lesser (pos 0) step} rest-near tt,
+      (
+        near-fits {x = x +ℤ (step -ℤ lesser (pos 0) step)} least-near tt,
+        near-fits {x = y +ℤ lesser (pos 0) step} greatest-near tt,
+      ),
+    )
+
+    pub moves : MovedBy m high x y (held (held x +ℤ held (held s -ℤ held f))) (held (held y +ℤ held f))
+    moves =
+        record {
+          over = λ a half e. (
+            near-back {x = x +ℤ (step -ℤ lesser (pos 0) step)} least-near tt .same
+                ∙ ap (λ (n : ℤ). x +ℤ (movedTowards high n -ℤ lesser (pos 0) (movedTowards high n))) e ∙ toward-least a half high x,
+            near-back {x = y +ℤ lesser (pos 0) step} greatest-near tt .same ∙ ap (λ (n : ℤ). y +ℤ lesser (pos 0) (movedTowards high n)) e
+                ∙ toward-greatest a half high y,
+          );
+        }
 
 -- ---- the code by the two values
 module _ {x y : ℤ} (sx : SmallExtreme x) (sy : SmallExtreme y) where

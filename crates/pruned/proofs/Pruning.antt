@@ -30,6 +30,7 @@ use Rattle.pruned.proofs.Moving.{held, extreme-near}
 use Rattle.pruned.proofs.Leaves.{values-small}
 use Rattle.pruned.proofs.Memory.{code-held, stored-long, stored-below, stored-above, holds-same, holds-front, holds-more}
 use Rattle.pruned.proofs.Reading.{Reads, ended, pushed, joined, leaf-code, join-code, lastFirst, reads-all}
+use Rattle.pruned.proofs.Nexts.{LeafNext, leaf-next, JoinNext, join-next, small-code, code-next, all-read}
 use Rattle.pruned.proofs.Stacks.{stackOf, length-stack, stack-push, stack-last, stack-two, stack-joined}
 
 -- ---- a node is stored at the end: the end falls back, stays, or grows
@@ -269,96 +270,14 @@ module _ {surfaces : Surfaces} {axes : ℕ} {low side : List ℕ} {axis half : �
             (λ behind. holds-same {after = stored now end c l u} (λ k p q. stored-below now end c l u k (omega (arith, g .end-is))) hs)
             (job .apart)
 
-        -- what stands next: a leaf, or an operator
-        small-code : {t : Plain} {n : Node} → LeafOf (named surfaces) t n → nodeCode n < 2048
-        small-code (colour-leaf {c = White}) = omega arith
-        small-code (colour-leaf {c = Black}) = omega arith
-        small-code (side-leaf {turned = true} {s = halfspace k} (halfspace-named m)) = omega (arith, m, job .step .few-rows)
-        small-code (side-leaf {turned = false} {s = halfspace k} (halfspace-named m)) = omega (arith, m, job .step .few-rows)
-        small-code (side-leaf {turned = true} {s = ball k} (ball-named m)) = omega (arith, m, job .step .few-balls)
-        small-code (side-leaf {turned = false} {s = ball k} (ball-named m)) = omega (arith, m, job .step .few-balls)
-
         pub code-ready : CodeAt now i
-        code-ready = by (g .reads) (g .coming) (g .onward)
-          where
-            by : {ns : List Node} {ps fs : List Plain} → Reads (named surfaces) ns ps fs → Holds surfaces (job .step .parent) now i ns →
-                i + length ns ≡ from + count → CodeAt now i
-            by ended c e = absurd (omega arith)
-            by (pushed {n = n} l f r) (node x hs) e = record { code = nodeCode n; small = small-code l; inside = read-in; is = x .code }
-            by (joined {meet = meet} r) (node x hs) e =
-                record { code = nodeCode (joining meet); small = join-code meet .2; inside = read-in; is = x .code }
+        code-ready = code-next (g .reads) (g .coming) (g .onward) h (job .step .few-rows) (job .step .few-balls) read-in
 
         module _ {code : ℕ} (read : code ≡ natAbs (numberAt now (3 * i))) where
-          pub record LeafNext : Type 0 where
-            pub tree : Plain
-            pub leaf : Node
-            pub later : List Node
-            pub stands : LeafOf (named surfaces) tree leaf
-            pub room : length (g .shapes) < mostShapes
-            pub at : NodeAt surfaces (job .step .parent) now i leaf
-            pub reads : Reads (named surfaces) later (tree ∷ g .shapes) (lastFirst (job .trees))
-            pub coming : Holds surfaces (job .step .parent) now (suc i) later
-            pub onward : suc i + length later ≡ from + count
-
-          pub leaf-next : isJoin code ≡ false → LeafNext
-          leaf-next o = by (g .reads) (g .coming) (g .onward) refl
-            where
-              by : {ns : List Node} {ps : List Plain} → Reads (named surfaces) ns ps (lastFirst (job .trees)) → Holds surfaces (job .step .parent) now i ns →
-                  i + length ns ≡ from + count → g .shapes ≡ ps → LeafNext
-              by ended c e s = absurd (omega arith)
-              by (pushed {t = t} {n = n} {ns = ns} l f r) (node x hs) e s =
-                  record {
-                    tree = t;
-                    leaf = n;
-                    later = ns;
-                    stands = l;
-                    room = rw s f;
-                    at = x;
-                    reads = rw s r;
-                    coming = hs;
-                    onward = omega arith;
-                  }
-              by (joined {meet = meet} r) (node x hs) e s = absurd (false≢true (sym o ∙ ap isJoin read ∙ ap (λ (z : ℤ). isJoin (natAbs z)) (x .code)
-                  ∙ join-code meet .0))
-
-          pub record JoinNext : Type 0 where
-            pub meet : Bool
-            pub first : Plain
-            pub second : Plain
-            pub under : List Plain
-            pub later : List Node
-            pub shapes-are : g .shapes ≡ second ∷ first ∷ under
-            pub at : NodeAt surfaces (job .step .parent) now i (joining meet)
-            pub reads : Reads (named surfaces) later (joinPlain meet first second ∷ under) (lastFirst (job .trees))
-            pub coming : Holds surfaces (job .step .parent) now (suc i) later
-            pub onward : suc i + length later ≡ from + count
-
-          pub join-next : isJoin code ≡ true → JoinNext
-          join-next o = by (g .reads) (g .coming) (g .onward) refl
-            where
-              by : {ns : List Node} {ps : List Plain} → Reads (named surfaces) ns ps (lastFirst (job .trees)) → Holds surfaces (job .step .parent) now i ns →
-                  i + length ns ≡ from + count → g .shapes ≡ ps → JoinNext
-              by ended c e s = absurd (omega arith)
-              by (pushed l f r) (node x hs) e s = absurd (false≢true (sym (leaf-code l) ∙ sym (ap isJoin read ∙ ap (λ (z : ℤ). isJoin (natAbs z)) (x .code))
-                  ∙ o))
-              by (joined {meet = meet} {ns = ns} {p = p} {q = q} {ps = ps} r) (node x hs) e s =
-                  record {
-                    meet = meet;
-                    first = p;
-                    second = q;
-                    under = ps;
-                    later = ns;
-                    shapes-are = s;
-                    at = x;
-                    reads = r;
-                    coming = hs;
-                    onward = omega arith;
-                  }
-
           -- ---- a leaf
           module _ (o : isJoin code ≡ false) where
-            abbrev next : LeafNext
-            next = leaf-next o
+            abbrev next : LeafNext surfaces (job .step .parent) now i (from + count) (g .shapes) (lastFirst (job .trees))
+            next = leaf-next (g .reads) (g .coming) (g .onward) h read o
 
             code-is : code ≡ nodeCode (next .leaf)
             code-is = read ∙ ap natAbs (next .at .code)
@@ -379,6 +298,7 @@ module _ {surfaces : Surfaces} {axes : ℕ} {low side : List ℕ} {axis half : �
                   code-is = code-is;
                   least-is = extreme-near (values .0) .same ∙ next .at .low;
                   greatest-is = extreme-near (values .1) .same ∙ next .at .high;
+                  rests = job .rests;
                 }
 
             -- its values over the block are small
@@ -401,7 +321,7 @@ module _ {surfaces : Surfaces} {axes : ℕ} {low side : List ℕ} {axis half : �
               leaf-storable =
                   record {
                     inside = store-in;
-                    small = rw code-is (small-code (next .stands));
+                    small = rw code-is (small-code surfaces (job .step .few-rows) (job .step .few-balls) (next .stands));
                     small-low = rw (extreme-near (smalls .0) .same) (smalls .0);
                     small-high = rw (extreme-near (smalls .1) .same) (smalls .1);
                   }
@@ -449,8 +369,8 @@ module _ {surfaces : Surfaces} {axes : ℕ} {low side : List ℕ} {axis half : �
 
           -- ---- an operator
           module _ (o : isJoin code ≡ true) where
-            abbrev next-join : JoinNext
-            next-join = join-next o
+            abbrev next-join : JoinNext surfaces (job .step .parent) now i (from + count) (g .shapes) (lastFirst (job .trees))
+            next-join = join-next (g .reads) (g .coming) (g .onward) h read o
 
             abbrev x : Left
             x = leftBy marks (next-join .first)
@@ -578,12 +498,7 @@ module _ {surfaces : Surfaces} {axes : ℕ} {low side : List ℕ} {axis half : �
       -- ---- the end: the trees themselves are pending
       module _ (h : from + count ≤ i) where
         shapes-end : g .shapes ≡ lastFirst (job .trees)
-        shapes-end = by (g .reads) (g .onward)
-          where
-            by : {ns : List Node} {ps fs : List Plain} → Reads (named surfaces) ns ps fs → i + length ns ≡ from + count → ps ≡ fs
-            by ended e = refl
-            by (pushed l f r) e = absurd (omega arith)
-            by (joined r) e = absurd (omega arith)
+        shapes-end = all-read (g .reads) (g .onward) h
 
         pub end-past : to ≤ end
         end-past = omega (arith, g .end-is)

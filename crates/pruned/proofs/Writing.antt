@@ -237,6 +237,7 @@ module _ {u : Universe} {surfaces : Surfaces} {side : List ℕ} {work : List ℤ
           fits = rw left-is (omega (arith, raw-small));
           tallied = refl;
           counts = rw left-is (omega (arith, looked-small));
+          rests = λ e. refl;
         }
 
     -- the block that is judged

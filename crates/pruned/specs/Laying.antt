@@ -59,7 +59,8 @@ pub record SoundScene (u : Universe) (surfaces : Surfaces) : Type 0 where
   pub accepted-balls : ballsRefusal u (surfaces .balls) ≡ 0
 
 -- what laying a block from a place on asks: the nodes that are carried into it stand with their values over its parent,
--- and from `to` on there is room for what is left of them over the block and at every level below
+-- and from `to` on there is room for what is left of them over the block and at every level below; a voxel is no half,
+-- since two are laid at once
 pub record BlockJob (surfaces : Surfaces) (axes : ℕ) (table low side : List ℕ) (axis half : ℕ) (high : Bool) (left : ℕ)
     (work : List ℤ) (from count to : ℕ) (looked : List ℕ) (at : ℕ) : Type 0 where
   pub step : Stepping surfaces axes low side axis half high (eqb left 0)
@@ -77,6 +78,7 @@ pub record BlockJob (surfaces : Surfaces) (axes : ℕ) (table low side : List �
   pub fits : at + size (examineAll surfaces trees left (blockLeft (step .universe) left low)) < endLimit
   pub tallied : length looked ≡ 1
   pub counts : getD looked 0 0 + lookedFrom surfaces trees left (blockLeft (step .universe) left low) < 2 ^ 64
+  pub rests : left ≡ 0 → half ≡ 0
 
 pub record BlockLaid {surfaces : Surfaces} {axes : ℕ} {table low side : List ℕ} {axis half : ℕ} {high : Bool} {left : ℕ}
     {work : List ℤ} {from count to : ℕ} {looked : List ℕ} {at : ℕ}

@@ -4,6 +4,7 @@ pub mod Left
 pub mod Looked
 pub mod Nodes
 pub mod Laying
+pub mod Pair
 pub mod Loading
 pub mod Alone
 pub mod Answers

@@ -169,6 +169,11 @@ amountLimit = coefficientLimit * longestSide
 pub record SmallAmount (x : ℤ) : Type 0 where
   pub most : natAbs x ≤ amountLimit
 
+-- the amount towards a half, for the low one the other way round
+abbrev pub movedTowards : Bool → ℤ → ℤ
+movedTowards true amount = amount
+movedTowards false amount = pos 0 -ℤ amount
+
 pub record MovedBy (amount : ℤ) (high : Bool) (least greatest x y : ℤ) : Type 0 where
   pub over : (a : ℤ) (half : ℕ) → amount ≡ a *ℤ pos half →
       (x ≡ movedLeast high a half least) × (y ≡ movedGreatest high a half greatest)
@@ -235,7 +240,7 @@ allLeftBy marks [] = []
 allLeftBy marks (p ∷ ps) = kept (leftBy marks p) (allLeftBy marks ps)
 
 -- what pruning the nodes from a place on asks: they are those of one tree or two, with their values over the parent;
--- what is left is written from `to` on, behind them or from before them on
+-- what is left is written from `to` on, behind them or from before them on; at a centre only a block itself is judged
 pub record Pruning (surfaces : Surfaces) (axes : ℕ) (low side : List ℕ) (axis half : ℕ) (high centre : Bool)
     (work : List ℤ) (from count to : ℕ) : Type 0 where
   pub step : Stepping surfaces axes low side axis half high centre
@@ -246,6 +251,7 @@ pub record Pruning (surfaces : Surfaces) (axes : ℕ) (low side : List ℕ) (axi
   pub apart : (to ≤ from) ⊎ (from + count ≤ to)
   pub inside : nodeLength * (from + count) ≤ length work
   pub room : nodeLength * (to + count) ≤ length work
+  pub rests : centre ≡ true → half ≡ 0
 
 -- where the nodes end after an operator that is stored at `end`: back at the start of its first son where it is
 -- settled, one further where it stays
@@ -288,6 +294,7 @@ pub record LeafJob (surfaces : Surfaces) (axes : ℕ) (low side : List ℕ) (axi
   pub code-is : code ≡ nodeCode leaf
   pub least-is : least ≡ leastOf surfaces (step .parent) leaf
   pub greatest-is : greatest ≡ greatestOf surfaces (step .parent) leaf
+  pub rests : centre ≡ true → half ≡ 0
 
 pub record LeafJudged {surfaces : Surfaces} {axes : ℕ} {low side : List ℕ} {axis half : ℕ} {high centre : Bool}
     {code : ℕ} {least greatest : ℤ} (job : LeafJob surfaces axes low side axis half high centre code least greatest)

@@ -98,7 +98,7 @@ fn code_over_block(
 }
 
 // The code of ball i at the centre of the voxel with these low places.
-fn code_at_voxel(
+pub(crate) fn code_at_voxel(
     places: usize,
     balls: &[i64],
     i: usize,

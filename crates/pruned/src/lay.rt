@@ -3,6 +3,7 @@ use crate::leaf::doublings;
 use crate::lone::is_lone;
 use crate::lone::lay_lone;
 use crate::marks::BLACK_BIT;
+use crate::pair::lay_pair;
 use crate::prune::MOST_SHAPES;
 use crate::prune::prune;
 use universe::Universe;
@@ -151,8 +152,8 @@ fn lay_block(
     )
 }
 
-// The same of a block that is undecided: both halves are laid, and joined. What is left of the trees over the block
-// stands from `from` on, with the values over the block.
+// The same of a block that is undecided: both halves are laid, and joined, two voxels at once. What is left of the
+// trees over the block stands from `from` on, with the values over the block.
 pub(crate) fn lay_halves(
     axes: usize,
     rows: &[i64],
@@ -185,6 +186,23 @@ pub(crate) fn lay_halves(
     ensures { λ _. ⌜ Shelves (now (starts .exit)) (now (codes .exit)) ⌝ }
 {
     let axis = table[(left - 1) as usize];
+    if left == 1 {
+        return lay_pair(
+            axes,
+            rows,
+            balls,
+            low,
+            axis,
+            merging,
+            work,
+            from,
+            count,
+            codes,
+            looked,
+            out,
+            at,
+        );
+    }
     let near = low[axis];
     let whole = side[axis];
     let half = whole / 2;

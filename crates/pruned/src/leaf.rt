@@ -3,15 +3,17 @@
 use crate::ball::code_of_ball;
 use crate::marks::BLACK_BIT;
 use crate::marks::WHITE_BIT;
+use crate::marks::side_code;
 use crate::marks::tested_code;
 use crate::marks::turned_code;
 use universe::Universe;
 ghost use mathlib.Core.Path.{_≡_};
+ghost use mathlib.Core.Bool.{false};
 ghost use Prim.Native.Nat.{_%_, _^_, _<_};
 ghost use lib.Count.{trailingZeros};
 ghost use lib.Dec.{eqb};
 ghost use lib.IntN.{pos, _*ℤ_};
-ghost use Rattle.csg.specs.Halfspace.{rowAt, lesser, greater};
+ghost use Rattle.csg.specs.Halfspace.{rowAt, lesser};
 ghost use Rattle.pruned.specs.Loading.{widened, wholeExtremes, WholeReady};
 ghost use Rattle.csg.specs.Surfaces.{surfacesOf};
 ghost use Rattle.convert.specs.Small.{SmallCoefficient, SmallPlace};
@@ -19,6 +21,7 @@ ghost use Rattle.pruned.specs.Nodes.{
   SmallExtreme,
   SmallAmount,
   MovedBy,
+  movedTowards,
   doubled,
   movingBelow,
   movedLeast,
@@ -35,18 +38,18 @@ pub(crate) struct Extremes {
     pub greatest: i64,
 }
 
-// What rises by an amount: all of it where it is not negative, else nothing.
-fn rising(amount: i64) -> i64
+// What the values move by towards a half: the amount, for the low half the other way round.
+fn towards(high: bool, amount: i64) -> i64
     requires { ⌜ SmallAmount amount ⌝ }
-    ensures { λ r. ⌜ r ≡ greater (pos 0) amount ⌝ }
+    ensures { λ r. ⌜ r ≡ movedTowards high amount ⌝ }
 {
-    if 0 <= amount {
+    if high {
         return amount;
     }
-    0
+    0 - amount
 }
 
-// What falls by it: all of it where it is negative.
+// What falls by an amount: all of it where it is negative, else nothing.
 fn falling(amount: i64) -> i64
     requires { ⌜ SmallAmount amount ⌝ }
     ensures { λ r. ⌜ r ≡ lesser (pos 0) amount ⌝ }
@@ -58,24 +61,18 @@ fn falling(amount: i64) -> i64
 }
 
 // What the values come to over a half, which moves one of them by this amount: that of the coefficient and half the
-// length. Nothing rises or nothing falls, so that both are added and no sign is a branch.
+// length. What falls is added to the greatest and what is left of the amount to the least, so that no sign is a branch.
 pub(crate) fn moved_by(amount: i64, high: bool, least: i64, greatest: i64) -> Extremes
     requires { ⌜ SmallAmount amount ⌝ }
     requires { ⌜ SmallExtreme least ⌝ }
     requires { ⌜ SmallExtreme greatest ⌝ }
     ensures { λ r. ⌜ MovedBy amount high least greatest (r .least) (r .greatest) ⌝ }
 {
-    let rise = rising(amount);
-    let fall = falling(amount);
-    if high {
-        return Extremes {
-            least: least + rise,
-            greatest: greatest + fall,
-        };
-    }
+    let step = towards(high, amount);
+    let fall = falling(step);
     Extremes {
-        least: least - fall,
-        greatest: greatest - rise,
+        least: least + (step - fall),
+        greatest: greatest + fall,
     }
 }
 
@@ -153,7 +150,21 @@ fn moving_below(times: u64) -> u64
     FIRST_SIDE
 }
 
-// A halfspace's side with these values over the block, judged.
+// The side of a halfspace with this code and these values over a block, judged by their signs.
+fn judge_over(code: u64, least: i64, greatest: i64) -> Judged
+    requires { ⌜ SmallExtreme least ⌝ }
+    requires { ⌜ SmallExtreme greatest ⌝ }
+    ensures { λ r. ⌜ r .code ≡ turnedCode (eqb (code % 2) 1) (valueCode false least greatest) ⌝ }
+    ensures { λ r. ⌜ (r .least ≡ least) × (r .greatest ≡ greatest) ⌝ }
+{
+    Judged {
+        code: side_code(code, 0 <= least, greatest <= 0),
+        least: least,
+        greatest: greatest,
+    }
+}
+
+// A halfspace's side with these values over the block, or at the centre of the voxel that it is, judged.
 fn judge_side(turned: bool, centre: bool, least: i64, greatest: i64) -> Judged
     requires { ⌜ SmallExtreme least ⌝ }
     requires { ⌜ SmallExtreme greatest ⌝ }
@@ -169,7 +180,8 @@ fn judge_side(turned: bool, centre: bool, least: i64, greatest: i64) -> Judged
     }
 }
 
-// Judges the node of a leaf over a half of the block whose values it holds.
+// Judges the node of a leaf over a half of the block whose values it holds, or over that block itself, of which alone
+// the colour at its centre may be asked.
 pub(crate) fn judge_leaf(
     axes: usize,
     rows: &[i64],
@@ -199,13 +211,13 @@ pub(crate) fn judge_leaf(
             greatest: greatest,
         };
     }
-    let turned = is_turned(code);
     if code < moving_below(times) {
         let row = ((code - FIRST_SIDE) / 2) as usize;
         let coefficient = rows[csg::ROW_LENGTH * row + 1 + axis];
         let values = moved(coefficient, times, high, least, greatest);
-        return judge_side(turned, centre, values.least, values.greatest);
+        return judge_over(code, values.least, values.greatest);
     }
+    let turned = is_turned(code);
     if code < FIRST_BALL_SIDE {
         return judge_side(turned, centre, least, greatest);
     }

@@ -8,6 +8,7 @@ mod leaf;
 mod load;
 mod lone;
 mod marks;
+mod pair;
 mod prune;
 mod scratch;
 mod whole;

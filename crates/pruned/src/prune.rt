@@ -58,7 +58,7 @@ pub(crate) fn store_node(work: &mut [i64], at: usize, code: u64, least: i64, gre
 }
 
 // Whether a code is an operator's.
-fn is_join(code: u64) -> bool
+pub(crate) fn is_join(code: u64) -> bool
     ensures { λ r. ⌜ r ≡ isJoin code ⌝ }
 {
     if code < UNION_NODE {
@@ -85,8 +85,8 @@ pub(crate) struct Kept {
 
 // Reads the nodes work[from..from + count], which hold their values over a block, and writes what is left of their
 // trees over one of its halves from `to` on, with the values over that half: 1 is doubled to its length along the axis
-// so often. At level L the colour at its centre is judged, and nothing is left. Every node is stored at the end, and
-// the end moves only where the node is kept.
+// so often; or over the block itself, where there is no half. Of a universe of one voxel the colour at its centre is
+// judged, and nothing is left. Every node is stored at the end, and the end moves only where the node is kept.
 pub(crate) fn prune(
     axes: usize,
     rows: &[i64],

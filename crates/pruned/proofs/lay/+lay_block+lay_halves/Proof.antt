@@ -4,9 +4,10 @@
 use Prim.Native.Nat.{_+_, _*_}
 use native.Mathlib.Omega.{arith}
 use borrow.Author.Needs.{needs}
-use mathlib.Core.Path.{_∙_}
+use mathlib.Core.Path.{refl, _∙_}
 use Rattle.pruned.proofs.Laying.{block-pruning, tally-fits, at-fits, symbol-few, block-closed, block-halves, block-done}
 use Rattle.pruned.proofs.Laying.{axis-within, place-in, near-fits, lower-job, upper-job, join-asks, halves-done}
+use Rattle.pruned.proofs.Voxels.{pair-job, pair-tally, pair-fits, pair-done}
 use Rattle.pruned.proofs.Handed.{lone-code, lone-job, lone-back}
 use Prim.Native.Nat.{ℕ, _<_}
 use borrow.Fn.Kinds.{In}
@@ -22,6 +23,7 @@ use Rattle.pruned.proofs.leaf.doublings.Reads as doublings-reads
 use Rattle.pruned.proofs.lay.symbol_of.Reads as symbol-of-reads
 use Rattle.pruned.proofs.lone.is_lone.Reads as is-lone-reads
 use Rattle.pruned.proofs.lone.lay_lone.Reads as lay-lone-reads
+use Rattle.pruned.proofs.pair.lay_pair.Reads as lay-pair-reads
 use Rattle.pruned.proofs.prune.prune.Reads as prune-reads
 use Rattle.pruned.proofs.lay.+lay_block+lay_halves.{statement}
 use Rattle.pruned.proofs.lay.+lay_block+lay_halves.Tie.{close}
@@ -383,6 +385,8 @@ lay-block-returns-3 t c = let l = c .before .before .before .lay-halves .ensures
 )
 
 lay-halves-sub-axis : (t : ℕ) → lay-halves-lts.Need-sub-axis (
+  lay-pair-reads.Asked,
+  lay-pair-reads.Learnt,
   doublings-reads.Asked,
   doublings-reads.Learnt,
   lay-block-below t,
@@ -393,6 +397,8 @@ lay-halves-sub-axis : (t : ℕ) → lay-halves-lts.Need-sub-axis (
 lay-halves-sub-axis t c = let k = c .before in let j = k .pre .1 .0 in j .some
 
 lay-halves-mul-axis : (t : ℕ) → lay-halves-lts.Need-mul-axis (
+  lay-pair-reads.Asked,
+  lay-pair-reads.Learnt,
   doublings-reads.Asked,
   doublings-reads.Learnt,
   lay-block-below t,
@@ -403,6 +409,8 @@ lay-halves-mul-axis : (t : ℕ) → lay-halves-lts.Need-mul-axis (
 lay-halves-mul-axis t c = let k = c .before in let j = k .pre .1 .0 in omega (arith, place-in j)
 
 lay-halves-element-copy-out-axis : (t : ℕ) → lay-halves-lts.Need-element-copy-out-axis (
+  lay-pair-reads.Asked,
+  lay-pair-reads.Learnt,
   doublings-reads.Asked,
   doublings-reads.Learnt,
   lay-block-below t,
@@ -412,7 +420,9 @@ lay-halves-element-copy-out-axis : (t : ℕ) → lay-halves-lts.Need-element-cop
 ) (lay-halves-at t) lay-halves.Post
 lay-halves-element-copy-out-axis t c = let k = c .before in let j = k .pre .1 .0 in omega (arith, place-in j)
 
-lay-halves-mul-near : (t : ℕ) → lay-halves-lts.Need-mul-near (
+lay-halves-lay-pair-requires : (t : ℕ) → lay-halves-lts.Need-lay-pair-requires (
+  lay-pair-reads.Asked,
+  lay-pair-reads.Learnt,
   doublings-reads.Asked,
   doublings-reads.Learnt,
   lay-block-below t,
@@ -420,9 +430,69 @@ lay-halves-mul-near : (t : ℕ) → lay-halves-lts.Need-mul-near (
   join-reads.Asked,
   join-reads.Learnt,
 ) (lay-halves-at t) lay-halves.Post
-lay-halves-mul-near t c = let k = c .before .before in let j = k .pre .1 .0 in omega (arith, axis-within j)
+lay-halves-lay-pair-requires t c κs =
+    let z = c .before .before .before .before .before .if1 .taken in
+    let k = c .before .before .before .before .before .before .before .before in
+    let j = k .pre .1 .0 in
+    (pair-job j z, (k .pre .1 .1 .codes-long, (pair-tally j z, pair-fits j z)))
+
+lay-halves-same-length : (t : ℕ) → lay-halves-lts.Need-same-length (
+  lay-pair-reads.Asked,
+  lay-pair-reads.Learnt,
+  doublings-reads.Asked,
+  doublings-reads.Learnt,
+  lay-block-below t,
+  lay-block.Post,
+  join-reads.Asked,
+  join-reads.Learnt,
+) (lay-halves-at t) lay-halves.Post
+lay-halves-same-length t c = refl
+
+lay-halves-same-length-2 : (t : ℕ) → lay-halves-lts.Need-same-length-2 (
+  lay-pair-reads.Asked,
+  lay-pair-reads.Learnt,
+  doublings-reads.Asked,
+  doublings-reads.Learnt,
+  lay-block-below t,
+  lay-block.Post,
+  join-reads.Asked,
+  join-reads.Learnt,
+) (lay-halves-at t) lay-halves.Post
+lay-halves-same-length-2 t c = c .before .before .lay-pair .kept .1 .1 .1 .1 .1 .1 .1 .1 .1 .1 .1 .0
+
+lay-halves-returns : (t : ℕ) → lay-halves-lts.Need-returns (
+  lay-pair-reads.Asked,
+  lay-pair-reads.Learnt,
+  doublings-reads.Asked,
+  doublings-reads.Learnt,
+  lay-block-below t,
+  lay-block.Post,
+  join-reads.Asked,
+  join-reads.Learnt,
+) (lay-halves-at t) lay-halves.Post
+lay-halves-returns t c =
+    let z = c .before .before .before .before .before .before .before .before .if1 .taken in
+    let k = c .before .before .before .before .before .before .before .before .before .before .before in
+    let l = c .before .before .lay-pair .ensures in (
+      λ job. pair-done job z _ _ (l .0 (pair-job job z)) (l .1 .0 (pair-job job z)) (l .1 .1 .0),
+      record { starts-long = k .pre .1 .1 .starts-long; codes-long = l .1 .1 .1 },
+    )
+
+lay-halves-mul-near : (t : ℕ) → lay-halves-lts.Need-mul-near (
+  lay-pair-reads.Asked,
+  lay-pair-reads.Learnt,
+  doublings-reads.Asked,
+  doublings-reads.Learnt,
+  lay-block-below t,
+  lay-block.Post,
+  join-reads.Asked,
+  join-reads.Learnt,
+) (lay-halves-at t) lay-halves.Post
+lay-halves-mul-near t c = let k = c .before .before .before in let j = k .pre .1 .0 in omega (arith, axis-within j)
 
 lay-halves-element-copy-out-near : (t : ℕ) → lay-halves-lts.Need-element-copy-out-near (
+  lay-pair-reads.Asked,
+  lay-pair-reads.Learnt,
   doublings-reads.Asked,
   doublings-reads.Learnt,
   lay-block-below t,
@@ -430,9 +500,11 @@ lay-halves-element-copy-out-near : (t : ℕ) → lay-halves-lts.Need-element-cop
   join-reads.Asked,
   join-reads.Learnt,
 ) (lay-halves-at t) lay-halves.Post
-lay-halves-element-copy-out-near t c = let k = c .before .before in let j = k .pre .1 .0 in omega (arith, axis-within j)
+lay-halves-element-copy-out-near t c = let k = c .before .before .before in let j = k .pre .1 .0 in omega (arith, axis-within j)
 
 lay-halves-mul-whole : (t : ℕ) → lay-halves-lts.Need-mul-whole (
+  lay-pair-reads.Asked,
+  lay-pair-reads.Learnt,
   doublings-reads.Asked,
   doublings-reads.Learnt,
   lay-block-below t,
@@ -440,9 +512,11 @@ lay-halves-mul-whole : (t : ℕ) → lay-halves-lts.Need-mul-whole (
   join-reads.Asked,
   join-reads.Learnt,
 ) (lay-halves-at t) lay-halves.Post
-lay-halves-mul-whole t c = let k = c .before .before .before in let j = k .pre .1 .0 in omega (arith, axis-within j)
+lay-halves-mul-whole t c = let k = c .before .before .before .before in let j = k .pre .1 .0 in omega (arith, axis-within j)
 
 lay-halves-element-copy-out-whole : (t : ℕ) → lay-halves-lts.Need-element-copy-out-whole (
+  lay-pair-reads.Asked,
+  lay-pair-reads.Learnt,
   doublings-reads.Asked,
   doublings-reads.Learnt,
   lay-block-below t,
@@ -450,9 +524,11 @@ lay-halves-element-copy-out-whole : (t : ℕ) → lay-halves-lts.Need-element-co
   join-reads.Asked,
   join-reads.Learnt,
 ) (lay-halves-at t) lay-halves.Post
-lay-halves-element-copy-out-whole t c = let k = c .before .before .before in let j = k .pre .1 .0 in omega (arith, axis-within j)
+lay-halves-element-copy-out-whole t c = let k = c .before .before .before .before in let j = k .pre .1 .0 in omega (arith, axis-within j)
 
 lay-halves-doublings-requires : (t : ℕ) → lay-halves-lts.Need-doublings-requires (
+  lay-pair-reads.Asked,
+  lay-pair-reads.Learnt,
   doublings-reads.Asked,
   doublings-reads.Learnt,
   lay-block-below t,
@@ -463,6 +539,8 @@ lay-halves-doublings-requires : (t : ℕ) → lay-halves-lts.Need-doublings-requ
 lay-halves-doublings-requires t c κs = tt
 
 lay-halves-mul-side : (t : ℕ) → lay-halves-lts.Need-mul-side (
+  lay-pair-reads.Asked,
+  lay-pair-reads.Learnt,
   doublings-reads.Asked,
   doublings-reads.Learnt,
   lay-block-below t,
@@ -470,9 +548,11 @@ lay-halves-mul-side : (t : ℕ) → lay-halves-lts.Need-mul-side (
   join-reads.Asked,
   join-reads.Learnt,
 ) (lay-halves-at t) lay-halves.Post
-lay-halves-mul-side t c = let k = c .before .before .before .before .before in let j = k .pre .1 .0 in omega (arith, axis-within j)
+lay-halves-mul-side t c = let k = c .before .before .before .before .before .before in let j = k .pre .1 .0 in omega (arith, axis-within j)
 
 lay-halves-element-write-side : (t : ℕ) → lay-halves-lts.Need-element-write-side (
+  lay-pair-reads.Asked,
+  lay-pair-reads.Learnt,
   doublings-reads.Asked,
   doublings-reads.Learnt,
   lay-block-below t,
@@ -480,9 +560,11 @@ lay-halves-element-write-side : (t : ℕ) → lay-halves-lts.Need-element-write-
   join-reads.Asked,
   join-reads.Learnt,
 ) (lay-halves-at t) lay-halves.Post
-lay-halves-element-write-side t c = let k = c .before .before .before .before .before in let j = k .pre .1 .0 in omega (arith, axis-within j)
+lay-halves-element-write-side t c = let k = c .before .before .before .before .before .before in let j = k .pre .1 .0 in omega (arith, axis-within j)
 
 lay-halves-sub-lay-block : (t : ℕ) → lay-halves-lts.Need-sub-lay-block (
+  lay-pair-reads.Asked,
+  lay-pair-reads.Learnt,
   doublings-reads.Asked,
   doublings-reads.Learnt,
   lay-block-below t,
@@ -490,9 +572,11 @@ lay-halves-sub-lay-block : (t : ℕ) → lay-halves-lts.Need-sub-lay-block (
   join-reads.Asked,
   join-reads.Learnt,
 ) (lay-halves-at t) lay-halves.Post
-lay-halves-sub-lay-block t c = let k = c .before .before .before .before .before .before .before in let j = k .pre .1 .0 in j .some
+lay-halves-sub-lay-block t c = let k = c .before .before .before .before .before .before .before .before in let j = k .pre .1 .0 in j .some
 
 lay-halves-add-lay-block : (t : ℕ) → lay-halves-lts.Need-add-lay-block (
+  lay-pair-reads.Asked,
+  lay-pair-reads.Learnt,
   doublings-reads.Asked,
   doublings-reads.Learnt,
   lay-block-below t,
@@ -500,10 +584,12 @@ lay-halves-add-lay-block : (t : ℕ) → lay-halves-lts.Need-add-lay-block (
   join-reads.Asked,
   join-reads.Learnt,
 ) (lay-halves-at t) lay-halves.Post
-lay-halves-add-lay-block t c = let k = c .before .before .before .before .before .before .before .before .before .before .before .before in
+lay-halves-add-lay-block t c = let k = c .before .before .before .before .before .before .before .before .before .before .before .before .before in
     let j = k .pre .1 .0 in omega (arith, j .fits)
 
 lay-halves-lay-block-requires : (t : ℕ) → lay-halves-lts.Need-lay-block-requires (
+  lay-pair-reads.Asked,
+  lay-pair-reads.Learnt,
   doublings-reads.Asked,
   doublings-reads.Learnt,
   lay-block-below t,
@@ -511,16 +597,19 @@ lay-halves-lay-block-requires : (t : ℕ) → lay-halves-lts.Need-lay-block-requ
   join-reads.Asked,
   join-reads.Learnt,
 ) (lay-halves-at t) lay-halves.Post
-lay-halves-lay-block-requires t c κs = let k = c .before .before .before .before .before .before .before .before .before .before .before .before in
+lay-halves-lay-block-requires t c κs = let k = c .before .before .before .before .before .before .before .before .before .before .before .before .before in
     let j = k .pre .1 .0 in (
       omega (arith, k .pre .0, j .some),
       (
-        lower-job j (c .before .before .before .before .before .before .before .doublings .ensures),
+        lower-job j (c .before .before .before .before .before .before .before .doublings .ensures)
+            (c .before .before .before .before .before .before .before .before .before .before .if1 .left),
         k .pre .1 .1,
       ),
     )
 
 lay-halves-add-low : (t : ℕ) → lay-halves-lts.Need-add-low (
+  lay-pair-reads.Asked,
+  lay-pair-reads.Learnt,
   doublings-reads.Asked,
   doublings-reads.Learnt,
   lay-block-below t,
@@ -528,11 +617,14 @@ lay-halves-add-low : (t : ℕ) → lay-halves-lts.Need-add-low (
   join-reads.Asked,
   join-reads.Learnt,
 ) (lay-halves-at t) lay-halves.Post
-lay-halves-add-low t c = let k = c .before .before .before .before .before .before .before .before .before .before .before .before .before .before .before
+lay-halves-add-low t c =
+    let k = c .before .before .before .before .before .before .before .before .before .before .before .before .before .before .before .before
     .before in
     let j = k .pre .1 .0 in omega (arith, near-fits j)
 
 lay-halves-mul-low : (t : ℕ) → lay-halves-lts.Need-mul-low (
+  lay-pair-reads.Asked,
+  lay-pair-reads.Learnt,
   doublings-reads.Asked,
   doublings-reads.Learnt,
   lay-block-below t,
@@ -540,11 +632,14 @@ lay-halves-mul-low : (t : ℕ) → lay-halves-lts.Need-mul-low (
   join-reads.Asked,
   join-reads.Learnt,
 ) (lay-halves-at t) lay-halves.Post
-lay-halves-mul-low t c = let k = c .before .before .before .before .before .before .before .before .before .before .before .before .before .before .before
+lay-halves-mul-low t c =
+    let k = c .before .before .before .before .before .before .before .before .before .before .before .before .before .before .before .before
     .before in
     let j = k .pre .1 .0 in omega (arith, axis-within j)
 
 lay-halves-element-write-low : (t : ℕ) → lay-halves-lts.Need-element-write-low (
+  lay-pair-reads.Asked,
+  lay-pair-reads.Learnt,
   doublings-reads.Asked,
   doublings-reads.Learnt,
   lay-block-below t,
@@ -552,11 +647,14 @@ lay-halves-element-write-low : (t : ℕ) → lay-halves-lts.Need-element-write-l
   join-reads.Asked,
   join-reads.Learnt,
 ) (lay-halves-at t) lay-halves.Post
-lay-halves-element-write-low t c = let k = c .before .before .before .before .before .before .before .before .before .before .before .before .before .before
+lay-halves-element-write-low t c =
+    let k = c .before .before .before .before .before .before .before .before .before .before .before .before .before .before .before
     .before
     .before in let j = k .pre .1 .0 in omega (arith, axis-within j)
 
 lay-halves-sub-lay-block-2 : (t : ℕ) → lay-halves-lts.Need-sub-lay-block-2 (
+  lay-pair-reads.Asked,
+  lay-pair-reads.Learnt,
   doublings-reads.Asked,
   doublings-reads.Learnt,
   lay-block-below t,
@@ -564,11 +662,14 @@ lay-halves-sub-lay-block-2 : (t : ℕ) → lay-halves-lts.Need-sub-lay-block-2 (
   join-reads.Asked,
   join-reads.Learnt,
 ) (lay-halves-at t) lay-halves.Post
-lay-halves-sub-lay-block-2 t c = let k = c .before .before .before .before .before .before .before .before .before .before .before .before .before .before
+lay-halves-sub-lay-block-2 t c =
+    let k = c .before .before .before .before .before .before .before .before .before .before .before .before .before .before .before
     .before
     .before .before .before in let j = k .pre .1 .0 in j .some
 
 lay-halves-lay-block-requires-2 : (t : ℕ) → lay-halves-lts.Need-lay-block-requires-2 (
+  lay-pair-reads.Asked,
+  lay-pair-reads.Learnt,
   doublings-reads.Asked,
   doublings-reads.Learnt,
   lay-block-below t,
@@ -576,17 +677,22 @@ lay-halves-lay-block-requires-2 : (t : ℕ) → lay-halves-lts.Need-lay-block-re
   join-reads.Asked,
   join-reads.Learnt,
 ) (lay-halves-at t) lay-halves.Post
-lay-halves-lay-block-requires-2 t c κs = let k = c .before .before .before .before .before .before .before .before .before .before .before .before .before
+lay-halves-lay-block-requires-2 t c κs =
+    let y = c .before .before .before .before .before .before .before .before .before .before .before .before .before .before .before in
+    let z = y .before .before .before .before .before .before .if1 .left in
+    let k = c .before .before .before .before .before .before .before .before .before .before .before .before .before .before
     .before
     .before .before .before .before .before .before .before .before .before in let j = k .pre .1 .0 in
     let d = c .before .before .before .before .before .before .before .before .before .before .before .before .before .before .before .before .before .before
     .doublings .ensures in
     let e = c .before .before .before .before .before .before .before .before .before .before .lay-block .ensures in (
       omega (arith, k .pre .0, j .some),
-      (upper-job j _ _ d (e .0 (lower-job j d)), e .1),
+      (upper-job j _ _ d z (e .0 (lower-job j d z)), e .1),
     )
 
 lay-halves-mul-low-2 : (t : ℕ) → lay-halves-lts.Need-mul-low-2 (
+  lay-pair-reads.Asked,
+  lay-pair-reads.Learnt,
   doublings-reads.Asked,
   doublings-reads.Learnt,
   lay-block-below t,
@@ -594,11 +700,14 @@ lay-halves-mul-low-2 : (t : ℕ) → lay-halves-lts.Need-mul-low-2 (
   join-reads.Asked,
   join-reads.Learnt,
 ) (lay-halves-at t) lay-halves.Post
-lay-halves-mul-low-2 t c = let k = c .before .before .before .before .before .before .before .before .before .before .before .before .before .before .before
+lay-halves-mul-low-2 t c =
+    let k = c .before .before .before .before .before .before .before .before .before .before .before .before .before .before .before .before
     .before
     .before .before .before .before .before .before .before .before .before .before .before in let j = k .pre .1 .0 in omega (arith, axis-within j)
 
 lay-halves-element-write-low-2 : (t : ℕ) → lay-halves-lts.Need-element-write-low-2 (
+  lay-pair-reads.Asked,
+  lay-pair-reads.Learnt,
   doublings-reads.Asked,
   doublings-reads.Learnt,
   lay-block-below t,
@@ -606,11 +715,13 @@ lay-halves-element-write-low-2 : (t : ℕ) → lay-halves-lts.Need-element-write
   join-reads.Asked,
   join-reads.Learnt,
 ) (lay-halves-at t) lay-halves.Post
-lay-halves-element-write-low-2 t c = let k = c .before .before .before .before .before .before .before .before .before .before .before .before .before
+lay-halves-element-write-low-2 t c = let k = c .before .before .before .before .before .before .before .before .before .before .before .before .before .before
     .before .before
     .before .before .before .before .before .before .before .before .before .before .before .before in let j = k .pre .1 .0 in omega (arith, axis-within j)
 
 lay-halves-mul-side-2 : (t : ℕ) → lay-halves-lts.Need-mul-side-2 (
+  lay-pair-reads.Asked,
+  lay-pair-reads.Learnt,
   doublings-reads.Asked,
   doublings-reads.Learnt,
   lay-block-below t,
@@ -618,11 +729,14 @@ lay-halves-mul-side-2 : (t : ℕ) → lay-halves-lts.Need-mul-side-2 (
   join-reads.Asked,
   join-reads.Learnt,
 ) (lay-halves-at t) lay-halves.Post
-lay-halves-mul-side-2 t c = let k = c .before .before .before .before .before .before .before .before .before .before .before .before .before .before .before
+lay-halves-mul-side-2 t c =
+    let k = c .before .before .before .before .before .before .before .before .before .before .before .before .before .before .before .before
     .before
     .before .before .before .before .before .before .before .before .before .before .before in let j = k .pre .1 .0 in omega (arith, axis-within j)
 
 lay-halves-element-write-side-2 : (t : ℕ) → lay-halves-lts.Need-element-write-side-2 (
+  lay-pair-reads.Asked,
+  lay-pair-reads.Learnt,
   doublings-reads.Asked,
   doublings-reads.Learnt,
   lay-block-below t,
@@ -630,11 +744,13 @@ lay-halves-element-write-side-2 : (t : ℕ) → lay-halves-lts.Need-element-writ
   join-reads.Asked,
   join-reads.Learnt,
 ) (lay-halves-at t) lay-halves.Post
-lay-halves-element-write-side-2 t c = let k = c .before .before .before .before .before .before .before .before .before .before .before .before .before
+lay-halves-element-write-side-2 t c = let k = c .before .before .before .before .before .before .before .before .before .before .before .before .before .before
     .before .before
     .before .before .before .before .before .before .before .before .before .before .before .before in let j = k .pre .1 .0 in omega (arith, axis-within j)
 
 lay-halves-cast-join : (t : ℕ) → lay-halves-lts.Need-cast-join (
+  lay-pair-reads.Asked,
+  lay-pair-reads.Learnt,
   doublings-reads.Asked,
   doublings-reads.Learnt,
   lay-block-below t,
@@ -645,6 +761,8 @@ lay-halves-cast-join : (t : ℕ) → lay-halves-lts.Need-cast-join (
 lay-halves-cast-join t c = omega arith
 
 lay-halves-cast-join-2 : (t : ℕ) → lay-halves-lts.Need-cast-join-2 (
+  lay-pair-reads.Asked,
+  lay-pair-reads.Learnt,
   doublings-reads.Asked,
   doublings-reads.Learnt,
   lay-block-below t,
@@ -655,6 +773,8 @@ lay-halves-cast-join-2 : (t : ℕ) → lay-halves-lts.Need-cast-join-2 (
 lay-halves-cast-join-2 t c = omega arith
 
 lay-halves-join-requires : (t : ℕ) → lay-halves-lts.Need-join-requires (
+  lay-pair-reads.Asked,
+  lay-pair-reads.Learnt,
   doublings-reads.Asked,
   doublings-reads.Learnt,
   lay-block-below t,
@@ -662,15 +782,20 @@ lay-halves-join-requires : (t : ℕ) → lay-halves-lts.Need-join-requires (
   join-reads.Asked,
   join-reads.Learnt,
 ) (lay-halves-at t) lay-halves.Post
-lay-halves-join-requires t c κs = let k = c .before .before .before .before .before .before .before .before .before .before .before .before .before .before
+lay-halves-join-requires t c κs =
+    let y = c .before .before .before .before .before .before .before .before .before .before .before .before .before .before .before in
+    let z = y .before .before .before .before .before .before .before .before .before .before .before .if1 .left in
+    let k = c .before .before .before .before .before .before .before .before .before .before .before .before .before .before .before
     .before
     .before .before .before .before .before .before .before .before .before .before .before .before .before in let j = k .pre .1 .0 in
     let e = c .before .before .before .before .before .before .before .before .before .before .before .before .before .before .before .lay-block .ensures
     in let d = c .before .before .before .before .before .before .before .before .before .before .before .before .before .before .before .before .before
-    .before .before .before .before .before .before .doublings .ensures in join-asks j _ _ d (e .0 (lower-job j d)) (c .before .before .before .before
+    .before .before .before .before .before .before .doublings .ensures in join-asks j _ _ d z (e .0 (lower-job j d z)) (c .before .before .before .before
     .lay-block2 .ensures .0)
 
-lay-halves-same-length : (t : ℕ) → lay-halves-lts.Need-same-length (
+lay-halves-same-length-3 : (t : ℕ) → lay-halves-lts.Need-same-length-3 (
+  lay-pair-reads.Asked,
+  lay-pair-reads.Learnt,
   doublings-reads.Asked,
   doublings-reads.Learnt,
   lay-block-below t,
@@ -678,11 +803,13 @@ lay-halves-same-length : (t : ℕ) → lay-halves-lts.Need-same-length (
   join-reads.Asked,
   join-reads.Learnt,
 ) (lay-halves-at t) lay-halves.Post
-lay-halves-same-length t c = c .before .before .before .before .before .before .before .lay-block2 .kept .1 .1 .1 .1 .1 .1 .1 .1 .1 .1 .1 .0
+lay-halves-same-length-3 t c = c .before .before .before .before .before .before .before .lay-block2 .kept .1 .1 .1 .1 .1 .1 .1 .1 .1 .1 .1 .0
     ∙ c .before .before .before .before .before .before .before .before .before .before .before .before .before .before .before .before .before .before
     .lay-block .kept .1 .1 .1 .1 .1 .1 .1 .1 .1 .1 .1 .0
 
-lay-halves-same-length-2 : (t : ℕ) → lay-halves-lts.Need-same-length-2 (
+lay-halves-same-length-4 : (t : ℕ) → lay-halves-lts.Need-same-length-4 (
+  lay-pair-reads.Asked,
+  lay-pair-reads.Learnt,
   doublings-reads.Asked,
   doublings-reads.Learnt,
   lay-block-below t,
@@ -690,12 +817,14 @@ lay-halves-same-length-2 : (t : ℕ) → lay-halves-lts.Need-same-length-2 (
   join-reads.Asked,
   join-reads.Learnt,
 ) (lay-halves-at t) lay-halves.Post
-lay-halves-same-length-2 t c = c .before .before .join .kept .1 .0
+lay-halves-same-length-4 t c = c .before .before .join .kept .1 .0
     ∙ c .before .before .before .before .before .before .before .lay-block2 .kept .1 .1 .1 .1 .1 .1 .1 .1 .1 .1 .1 .1 .1 .1 .1 .1 .1 .0
     ∙ c .before .before .before .before .before .before .before .before .before .before .before .before .before .before .before .before .before .before
     .lay-block .kept .1 .1 .1 .1 .1 .1 .1 .1 .1 .1 .1 .1 .1 .1 .1 .1 .1 .0
 
-lay-halves-returns : (t : ℕ) → lay-halves-lts.Need-returns (
+lay-halves-returns-2 : (t : ℕ) → lay-halves-lts.Need-returns-2 (
+  lay-pair-reads.Asked,
+  lay-pair-reads.Learnt,
   doublings-reads.Asked,
   doublings-reads.Learnt,
   lay-block-below t,
@@ -703,11 +832,14 @@ lay-halves-returns : (t : ℕ) → lay-halves-lts.Need-returns (
   join-reads.Asked,
   join-reads.Learnt,
 ) (lay-halves-at t) lay-halves.Post
-lay-halves-returns t c = let e = c .before .before .before .before .before .before .before .before .before .before .before .before .before .before .before
+lay-halves-returns-2 t c =
+    let y = c .before .before .before .before .before .before .before .before .before .before .before .before .before .before .before in
+    let z = y .before .before .before .before .before .before .before .before .before .before .before .before .before .before .if1 .left in
+    let e = c .before .before .before .before .before .before .before .before .before .before .before .before .before .before .before
     .before .before .before .lay-block .ensures in let f = c .before .before .before .before .before .before .before .lay-block2 .ensures in
     let o = c .before .before .join .ensures in let d = c .before .before .before .before .before .before .before .before .before .before .before .before
     .before .before .before .before .before .before .before .before .before .before .before .before .before .before .doublings .ensures in
-    (λ job. halves-done job _ _ d (e .0 (lower-job job d)) (f .0) (o .0) (o .1), f .1)
+    (λ job. halves-done job _ _ d z (e .0 (lower-job job d z)) (f .0) (o .0) (o .1), f .1)
 
 pub +lay-block+lay-halves-spec : {M : Type 1} → statement M
 +lay-block+lay-halves-spec = close μ-lay-block μ-lay-halves (λ t. lay-block-lts.spec (
@@ -745,13 +877,25 @@ pub +lay-block+lay-halves-spec : {M : Type 1} → statement M
     (lay-block-same-length-4 t)
     (lay-block-same-length-5 t)
     (lay-block-returns-3 t))
-    λ t. lay-halves-lts.spec
-    (doublings-reads.Asked, doublings-reads.Learnt, lay-block-below t, lay-block.Post, join-reads.Asked, join-reads.Learnt)
+    λ t. lay-halves-lts.spec (
+      lay-pair-reads.Asked,
+      lay-pair-reads.Learnt,
+      doublings-reads.Asked,
+      doublings-reads.Learnt,
+      lay-block-below t,
+      lay-block.Post,
+      join-reads.Asked,
+      join-reads.Learnt,
+    )
     (lay-halves-at t)
     lay-halves.Post
     (lay-halves-sub-axis t)
     (lay-halves-mul-axis t)
     (lay-halves-element-copy-out-axis t)
+    (lay-halves-lay-pair-requires t)
+    (lay-halves-same-length t)
+    (lay-halves-same-length-2 t)
+    (lay-halves-returns t)
     (lay-halves-mul-near t)
     (lay-halves-element-copy-out-near t)
     (lay-halves-mul-whole t)
@@ -774,6 +918,6 @@ pub +lay-block+lay-halves-spec : {M : Type 1} → statement M
     (lay-halves-cast-join t)
     (lay-halves-cast-join-2 t)
     (lay-halves-join-requires t)
-    (lay-halves-same-length t)
-    (lay-halves-same-length-2 t)
-    (lay-halves-returns t)
+    (lay-halves-same-length-3 t)
+    (lay-halves-same-length-4 t)
+    (lay-halves-returns-2 t)
