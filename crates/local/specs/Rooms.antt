@@ -22,7 +22,7 @@ abbrev pub some : ℕ
 some = 512
 
 abbrev pub many : ℕ
-many = 1280
+many = 1248
 
 -- room for so many nodes suffices for trees with so many words; of a refused universe no room is asked for
 pub record Suffices (u : Universe) (words nodes : ℕ) : Type 0 where

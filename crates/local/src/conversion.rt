@@ -17,17 +17,8 @@ const FEW_BITS: u64 = 3;
 
 const FEW_WORDS: usize = 40;
 
-// Of so few words with a ball among the surfaces pruning takes longer in any universe: a ball that is left alone is
-// judged like a tree.
-const FEW_WITH_BALLS: usize = 8;
-
 // Whether pruning gains so little that the first conversion is the faster one. Answers do not depend on it.
-fn gains_little(universe: Universe, words: usize, balls: usize) -> bool {
-    if words <= FEW_WITH_BALLS {
-        if 0 < balls {
-            return true;
-        }
-    }
+fn gains_little(universe: Universe, words: usize) -> bool {
     if universe.axes < 3 {
         return false;
     }
@@ -92,7 +83,7 @@ pub fn raw_of_one(
     ensures { λ _. let surfaces = surfacesOf (now (rows .entry)) (now (balls .entry)) in
         ⌜ now (out .exit) ≡ rawOfOneBuffer universe surfaces (now (words .entry)) (now (out .entry)) ⌝ }
 {
-    if gains_little(universe, words.len(), balls.len()) {
+    if gains_little(universe, words.len()) {
         return convert::raw_of_one(universe, rows, balls, words, out);
     }
     if out.len() <= pruned::MOST_SCRATCH {
@@ -123,7 +114,7 @@ pub fn raw_of_two(
         ⌜ now (out .exit)
         ≡ rawOfTwoBuffer universe surfaces (now (first .entry)) (now (second .entry)) (now (out .entry)) ⌝ }
 {
-    if gains_little(universe, first.len() + second.len(), balls.len()) {
+    if gains_little(universe, first.len() + second.len()) {
         return convert::raw_of_two(universe, rows, balls, first, second, out);
     }
     if out.len() <= pruned::MOST_SCRATCH {

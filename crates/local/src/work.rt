@@ -22,7 +22,7 @@ const FEW: usize = 128;
 const SOME: usize = 512;
 
 // Those of the largest: beside its recursion the stack has room for no more.
-pub(crate) const MANY: usize = 1_280;
+pub(crate) const MANY: usize = 1_248;
 
 // The nodes of work room that trees with so many words need (rule 16.4), where they are no more than MANY.
 pub(crate) fn nodes_of(universe: Universe, words: usize) -> u64

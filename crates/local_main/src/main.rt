@@ -201,7 +201,8 @@ fn tell_scene(label: &[u8], universe: Universe, words: usize, symbols: u64) {
     say(b" symbols");
 }
 
-// One tree, with room exact, a symbol short, as the formula says, and at both sides of what scratch room holds.
+// One tree, with room exact, a symbol short, as the formula says, and at both sides of what little scratch room and
+// the most of it holds.
 fn one(label: &[u8], universe: Universe, rows: &[i64], balls: &[i64], words: &[u16]) {
     let asked = convert::raw_of_one(universe, rows, balls, words, &mut [b'.'; 0]);
     let need = asked.length as usize;
@@ -213,6 +214,8 @@ fn one(label: &[u8], universe: Universe, rows: &[i64], balls: &[i64], words: &[u
     let room = universe.room(csg::halfspace_words(words), csg::ball_words(words));
     let all = room.symbols as usize;
     one_in(b"formula", universe, rows, balls, words, all);
+    one_in(b"little", universe, rows, balls, words, 768);
+    one_in(b"past it", universe, rows, balls, words, 769);
     one_in(b"scratch", universe, rows, balls, words, 4_096);
     one_in(b"more", universe, rows, balls, words, 4_097);
     say(b"\n");
@@ -385,14 +388,14 @@ fn some() {
     );
 }
 
-// At both sides of the largest: 1,275 and 1,281 nodes of one tree, 1,280 and 1,284 of two.
+// At both sides of the largest: 1,245 and 1,251 nodes of one tree, 1,248 and 1,250 of two.
 fn many() {
     let rows = [-5i64, 2, 1, 0, 0, 9, -1, -1, 0, 0];
-    unions(b"one of many", universe(2, 2, 2), &rows, 127);
-    unions(b"one past many", universe(3, 4, 12), &[-9, 1, 0, 0, 0], 30);
-    pairs(b"two past many", universe(2, 2, 3), &rows, 53, 53, 108, 7);
-    let walls = [-256i64, 1, 0, 0, 0, -128, 0, 1, 0, 0];
-    pairs(b"two of many", universe(4, 9, 12), &walls, 8, 7, 17, 2_000);
+    unions(b"one of many", universe(2, 2, 2), &rows, 124);
+    unions(b"one past many", universe(2, 4, 4), &rows, 69);
+    pairs(b"two of many", universe(2, 2, 3), &rows, 52, 51, 105, 7);
+    let walls = [-16i64, 1, 0, 0, 0, -8, 0, 1, 0, 0];
+    pairs(b"two past many", universe(4, 5, 9), &walls, 12, 12, 26, 400);
 }
 
 // Balls, and a tree that is decided at once.

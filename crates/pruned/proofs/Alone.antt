@@ -1,54 +1,33 @@
--- One side of a halfspace left alone over a block: it is judged by its two values, and these move to either half by the level's amount. Judged BLACK or WHITE
--- the block is one leaf, undecided it is halved, and the same side is left over it.
-use Prim.Native.Nat.{ℕ, zero, suc, _+_, _*_, _-_, _/_, _%_, _^_, _≤_, _<_}
-use mathlib.Core.Path.{_≡_, refl, sym, ap, ap₂, _∙_, subst}
+-- One side of a halfspace left alone over a block: it is judged by its two values, and these move to either half by the level's amount.
+use Prim.Native.Nat.{ℕ, suc, _+_, _*_, _-_, _/_, _%_, _^_, _<_}
+use mathlib.Core.Path.{_≡_, refl, sym, ap, ap₂, _∙_}
 use mathlib.Core.Bool.{Bool, true, false}
-use mathlib.Core.List.{List, [], _∷_, _++_}
+use mathlib.Core.List.{List}
 use native.Mathlib.Omega.{arith}
-use borrow.Author.Tests.{eqb-true, eq-eqb, ne-eqb, ltb-true}
-use lib.Dec.{eqb, ltb}
-use lib.IntN.{ℤ, pos, natAbs, _+ℤ_, _*ℤ_}
+use borrow.Author.Tests.{eqb-true, eq-eqb, ne-eqb}
+use lib.Dec.{eqb}
+use lib.IntN.{ℤ, pos, _+ℤ_, _*ℤ_}
 use lib.Signed.{leZ}
-use lib.ListN.{length, getD, set}
+use lib.ListN.{getD, set}
 use Rattle.lemmas.proofs.Machine.{near}
 use Rattle.universe.specs.declared.Universe.{Universe}
-use Rattle.universe.specs.declared.Block.{Block}
-use Rattle.universe.specs.Universe.{mostLevels, levels, axisAt, longestSide}
-use Rattle.universe.proofs.Universes.{accepted, levels-few}
-use Rattle.universe.specs.Block.{low, high}
-use Rattle.bintree.specs.declared.Colour.the-variants.{White, Black}
-use Rattle.bintree.specs.Shape.{Shape, leaf, halved, size}
-use Rattle.bintree.specs.Walks.{leafSymbol, laid}
-use Rattle.bintree.proofs.Shape.{size-positive}
-use Rattle.csg.specs.Halfspace.{Halfspace, Mark, decided, undecided, rowAt, rowCount, least, greatest}
-use Rattle.csg.specs.Surfaces.{Surfaces, Surface, halfspace, named}
-use Rattle.csg.specs.Tree.{Plain}
-use Rattle.csg.specs.Marks.{sideMark, intersectionMark}
-use Rattle.convert.specs.Codes.{bitsOf, testedCode}
-use Rattle.convert.specs.Small.{SmallHalfspace, SmallPlace}
+use Rattle.universe.specs.Universe.{mostLevels, levels, axisAt}
+use Rattle.csg.specs.Halfspace.{Halfspace, rowAt, least, greatest}
+use Rattle.csg.specs.Surfaces.{Surface, halfspace}
+use Rattle.convert.specs.Codes.{bitsOf}
+use Rattle.convert.specs.Small.{SmallHalfspace}
 use Rattle.convert.specs.Blocks.{Standing, blockLeft, halfSide, halvedSides, highLows}
-use Rattle.convert.proofs.Blocks.{half-is, axis-few, lower-standing, upper-standing, lower-is, upper-is}
-use Rattle.convert.specs.Shapes.{shaped, symbolOfBits, endLimit}
-use Rattle.convert.proofs.Shapes.{shaped-leaf, shaped-size}
-use Rattle.pruned.specs.Left.{asMark, sideLeft, leftBy, allMark, allLeft, allNodes, nodes, kept}
-use Rattle.pruned.specs.Looked.{examineAll, lookedFrom}
-use Rattle.pruned.specs.Nodes.{numberAt, movedLeast, movedGreatest, SmallExtreme, SmallAmount, MovedBy, Stepping, judgedMarks, allMarkBy, valueCode}
-use Rattle.pruned.specs.Nodes.{turnedCode}
-use Rattle.pruned.specs.Laying.{packedShape, joinedPacked, joinedOut, halvesShape, lookedInHalves}
-use Rattle.pruned.specs.Alone.{isSideCode, Steps, Lone, loneBlock, loneTree, loneShape, lookedBelow, loneParts, lookedInParts, LoneBlock, LoneBlockLaid}
-use Rattle.pruned.specs.Alone.{LoneHalves, LoneHalvesLaid}
-use Rattle.pruned.proofs.Looked.{looked-least, all-undecided, looked-undecided}
+use Rattle.convert.proofs.Blocks.{half-is, axis-few}
+use Rattle.convert.specs.Shapes.{symbolOfBits, endLimit}
+use Rattle.pruned.specs.Nodes.{numberAt, movedLeast, movedGreatest, SmallExtreme, SmallAmount, MovedBy, Stepping, valueCode, turnedCode}
+use Rattle.pruned.specs.Laying.{joinedPacked, joinedOut}
+use Rattle.pruned.specs.Single.{SingleBlockLaid}
+use Rattle.pruned.specs.Alone.{Steps, Lone, loneBlock, LoneBlock, LoneBlockLaid, LoneHalves, LoneHalvesLaid}
 use Rattle.pruned.proofs.Moving.{held, extreme-near, amount-small}
-use Rattle.pruned.proofs.Leaves.{ownMark, row-own, own-turned}
+use Rattle.pruned.proofs.Leaves.{ownMark, row-own}
 use Rattle.pruned.proofs.Steps.{ok, rows-small, standing-small, stepping, step-low, step-high, step-same}
-use Rattle.pruned.proofs.Laying.{Judgement, one-leaf, unsettled, judgement, judged-over, symbol-few, tally-set, unpacked, halves-size, joined}
-
--- ---- tests
-pub not-so : _≡_ {A = Bool} false true → ⊥
-not-so e = let z : _≡_ {A = ℕ} 0 1 = cc in absurd (omega arith)
-
-pub side-code : {code n : ℕ} → code ≡ n → 512 ≤ code → ltb code 1024 ≡ true → isSideCode n
-side-code {code} e f t = rw (← e) (record { from = f; upto = ltb-true code 1024 t })
+use Rattle.pruned.proofs.Singles.{tested-decided, single-closed, single-halves, single-opened, standing-suc, block-suc, level-in, lower-stands}
+use Rattle.pruned.proofs.Singles.{not-so, upper-stands, two-fit, lower-asked, upper-asked, both-asked, both-done}
 
 -- ---- the code by the tests one after the other
 module _ (left : ℕ) (x y : ℤ) where
@@ -63,53 +42,6 @@ module _ (left : ℕ) (x y : ℤ) where
 
   open-bits : (left ≡ 0 → ⊥) → leZ (pos 0) x ≡ false → leZ y (pos 0) ≡ false → 0 ≡ valueCode (eqb left 0) x y
   open-bits n t f = rw (ne-eqb left 0 n, t, f) refl
-
--- at the centre of a voxel it is decided
-tested-decided : (turned t : Bool) → turnedCode turned (testedCode t true) ≡ 0 → ⊥
-tested-decided true true z = absurd (omega arith)
-tested-decided true false z = absurd (omega arith)
-tested-decided false true z = absurd (omega arith)
-tested-decided false false z = absurd (omega arith)
-
-black-decided : (turned : Bool) → turnedCode turned 1 ≡ 0 → ⊥
-black-decided true z = absurd (omega arith)
-black-decided false z = absurd (omega arith)
-
-white-decided : (turned : Bool) → turnedCode turned 2 ≡ 0 → ⊥
-white-decided true z = absurd (omega arith)
-white-decided false z = absurd (omega arith)
-
-open-turned : (turned : Bool) → turnedCode turned 0 ≡ 0
-open-turned true = refl
-open-turned false = refl
-
--- ---- the mark of one side alone
-side-alone : (turned : Bool) (s : Surface) (m : Mark) → intersectionMark (asMark (sideLeft turned s m)) (decided Black) ≡ m
-unfolding intersectionMark
-side-alone turned s (decided White) = refl
-side-alone turned s (decided Black) = refl
-side-alone turned s undecided = refl
-
-alone-mark : (marks : Bool → Surface → Mark) (turned : Bool) (s : Surface) → allMarkBy marks (Plain.side turned s ∷ []) ≡ marks turned s
-unfolding allMarkBy leftBy
-alone-mark marks turned s = side-alone turned s (marks turned s)
-
--- undecided, it is left as it is
-alone-left : (surfaces : Surfaces) (b : Block) (turned : Bool) (s : Surface) → allMark surfaces (Plain.side turned s ∷ []) b ≡ undecided →
-    allLeft surfaces (Plain.side turned s ∷ []) b ≡ Plain.side turned s ∷ []
-unfolding allLeft leftBy
-alone-left surfaces b turned s e =
-    let f : sideMark surfaces turned s b ≡ undecided =
-    sym (alone-mark (judgedMarks false surfaces b) turned s) ∙ judged-over surfaces b (Plain.side turned s ∷ []) ∙ e in rw f
-
-alone-nodes : (turned : Bool) (s : Surface) → _≡_ {A = ℕ} (allNodes (Plain.side turned s ∷ [])) 1
-unfolding allNodes nodes
-alone-nodes turned s = refl
-
-front : (l : List ℕ) → length l ≡ 1 → l ≡ getD l 0 0 ∷ []
-front [] f = absurd (omega arith)
-front (x ∷ []) f = refl
-front (x ∷ y ∷ l) f = absurd (omega arith)
 
 -- ---- the values are small
 module _ {steps : List ℤ} {left : ℕ} {x y : ℤ} (l : Lone steps left x y) where
@@ -156,124 +88,47 @@ module _ {steps : List ℤ} {turned : Bool} {left : ℕ} {x y : ℤ} {looked : L
   abbrev s : Surface
   s = halfspace (l .row)
 
-  abbrev b : Block
-  b = loneBlock l
-
-  abbrev ps : List Plain
-  ps = loneTree turned l
-
   step : Stepping (l .surfaces) (l .universe .axes) (l .low) (l .side) 0 0 false (eqb left 0)
   step = step-same (l .scene) refl (l .standing) (λ e. eqb-true left 0 e)
 
-  own : valueCode (eqb left 0) x y ≡ bitsOf (ownMark (eqb left 0) (l .surfaces) b s)
+  own : valueCode (eqb left 0) (held x) (held y) ≡ bitsOf (ownMark (eqb left 0) (l .surfaces) (loneBlock l) s)
   unfolding step step-same stepping
-  own = ap₂ (valueCode (eqb left 0)) (l .least-is) (l .greatest-is) ∙ row-own step (eqb left 0) (λ e. eqb-true left 0 e) (l .row)
-
-  pub place-fits : at + 1 < endLimit
-  place-fits = omega (arith, job .fits, size-positive (loneShape turned l))
-
-  -- its mark is that of the tree
-  module _ {bits mark : ℕ} (e : bits ≡ valueCode (eqb left 0) (held x) (held y)) (f : mark ≡ turnedCode turned bits) where
-    mark-is : mark ≡ bitsOf (allMarkBy (judgedMarks (eqb left 0) (l .surfaces) b) ps)
-    mark-is =
-        f ∙ ap (turnedCode turned) (e ∙ ap₂ (valueCode (eqb left 0)) (least-held l) (greatest-held l) ∙ own)
-        ∙ own-turned (eqb left 0) (l .surfaces) b turned s
-        ∙ ap bitsOf (sym (alone-mark (judgedMarks (eqb left 0) (l .surfaces) b) turned s))
-
-    how : Judgement (l .surfaces) ps b left mark
-    how = judgement (l .surfaces) ps b left mark mark-is
-
-    lone-closed : (m : Bool) (out : List ℕ) {symbol : ℕ} → (mark ≡ 0 → ⊥) → symbol ≡ symbolOfBits mark →
-        LoneBlockLaid job m out ((at + 1) * 256 + symbol) out looked
-    unfolding leafSymbol size laid
-    lone-closed m out {symbol} n q = by how
-      where
-        by : Judgement (l .surfaces) ps b left mark → LoneBlockLaid job m out ((at + 1) * 256 + symbol) out looked
-        by (unsettled k z p u v) = absurd (n z)
-        by (one-leaf c k p shape-is g) =
-            let shape : shaped m (loneShape turned l) ≡ leaf c = ap (shaped m) shape-is ∙ shaped-leaf m c in
-            record {
-              piece = rw (shape, q, p) refl;
-              room = rw shape refl;
-              counted = front looked (job .tallied)
-                  ∙ ap (λ (k : ℕ). k ∷ []) (omega (arith, g, alone-nodes turned s));
-            }
-
-    -- undecided, it is halved
-    module _ (z : mark ≡ 0) where
-      pub record Opened : Type 0 where
-        pub some : 1 ≤ left
-        pub shape-is : loneShape turned l ≡ loneParts turned l
-        pub looked-is : lookedFrom (l .surfaces) ps left b ≡ 1 + lookedInParts turned l
-
-      opened : Opened
-      opened = by how
-        where
-          by : Judgement (l .surfaces) ps b left mark → Opened
-          by (one-leaf c k p q g) = absurd (k z)
-          by (unsettled n y p u v) =
-              let n-is : left - 1 ≡ n = omega arith in
-              record {
-                some = omega arith;
-                shape-is = ap (λ (k : ℕ). examineAll (l .surfaces) ps k b) p ∙ all-undecided (l .surfaces) ps n b u
-                    ∙ ap (λ (k : ℕ). halvesShape (l .surfaces) ps k b) (sym n-is);
-                looked-is = ap (λ (k : ℕ). lookedFrom (l .surfaces) ps k b) p ∙ looked-undecided (l .surfaces) ps n b u
-                    ∙ ap₂ _+_ (alone-nodes turned s)
-                    (ap (λ (qs : List Plain). lookedInHalves (l .surfaces) qs n b) (alone-left (l .surfaces) b turned s u)
-                    ∙ ap (λ (k : ℕ). lookedInHalves (l .surfaces) ps k b) (sym n-is));
-              }
-
-      lone-halves-asked : LoneHalves steps turned left (held x) (held y) looked at
-      unfolding lone-held
-      lone-halves-asked =
-          record {
-            lone = lone-held l;
-            some = opened .some;
-            fits = rw (← opened .shape-is) (job .fits);
-            tallied = job .tallied;
-            counts = omega (arith, job .counts, opened .looked-is);
-          }
-
-      lone-done : (m : Bool) (out : List ℕ) {packed : ℕ} {out′ looked′ : List ℕ} →
-          LoneHalvesLaid lone-halves-asked m out packed out′ looked′ → LoneBlockLaid job m out packed out′ looked′
-      unfolding lone-halves-asked lone-held
-      lone-done m out d =
-          record {
-            piece = d .piece ∙ ap (λ (k : Shape). packedShape at (shaped m k)) (sym (opened .shape-is));
-            room = d .room ∙ ap (λ (k : Shape). laid out at (shaped m k)) (sym (opened .shape-is));
-            counted = d .counted ∙ ap (λ (k : ℕ). k ∷ []) (omega (arith, opened .looked-is));
-          }
+  own =
+      ap₂ (valueCode (eqb left 0)) (least-held l ∙ l .least-is) (greatest-held l ∙ l .greatest-is)
+      ∙ row-own step (eqb left 0) (λ e. eqb-true left 0 e) (l .row)
 
   -- by the tests one after the other
   abbrev Leaf : ℕ → ℕ → Type 0
   Leaf packed bits = packed ≡ (at + 1) * 256 + symbolOfBits (turnedCode turned bits)
 
-  closed-by : {packed bits : ℕ} → bits ≡ valueCode (eqb left 0) (held x) (held y) → (turnedCode turned bits ≡ 0 → ⊥) → Leaf packed bits → (m : Bool)
+  closed-by : {bits : ℕ} → bits ≡ valueCode (eqb left 0) (held x) (held y) → (bits ≡ 0 → ⊥) → {packed : ℕ} → Leaf packed bits → (m : Bool)
       (out : List ℕ) → LoneBlockLaid job m out packed out looked
-  closed-by e n p m out = subst (λ (k : ℕ). LoneBlockLaid job m out k out looked) (sym p) (lone-closed e refl m out n refl)
+  closed-by e = single-closed (job .asked) (e ∙ own)
 
   pub centre-closed : left ≡ 0 → {bits packed : ℕ} → bits ≡ valueCode true (held x) (held y) → Leaf packed bits → (m : Bool) (out : List ℕ) →
       LoneBlockLaid job m out packed out looked
-  centre-closed z e =
-      closed-by (centre-bits left (held x) (held y) z e)
-      (λ f. tested-decided turned (leZ (pos 0) (held x +ℤ held y)) (ap (turnedCode turned) (sym e) ∙ f))
+  centre-closed z e = closed-by (centre-bits left (held x) (held y) z e) (λ f. tested-decided (leZ (pos 0) (held x +ℤ held y)) (sym e ∙ f))
 
   pub black-closed : (left ≡ 0 → ⊥) → leZ (pos 0) (held x) ≡ true → {packed : ℕ} → Leaf packed 1 → (m : Bool) (out : List ℕ) →
       LoneBlockLaid job m out packed out looked
-  black-closed n t = closed-by (black-bits left (held x) (held y) n t) (black-decided turned)
+  black-closed n t = closed-by (black-bits left (held x) (held y) n t) (λ z. absurd (omega arith))
 
   pub white-closed : (left ≡ 0 → ⊥) → leZ (pos 0) (held x) ≡ false → leZ (held y) (pos 0) ≡ true → {packed : ℕ} → Leaf packed 2 → (m : Bool)
       (out : List ℕ) → LoneBlockLaid job m out packed out looked
-  white-closed n t f = closed-by (white-bits left (held x) (held y) n t f) (white-decided turned)
+  white-closed n t f = closed-by (white-bits left (held x) (held y) n t f) (λ z. absurd (omega arith))
 
   module _ (n : left ≡ 0 → ⊥) (t : leZ (pos 0) (held x) ≡ false) (f : leZ (held y) (pos 0) ≡ false) where
+    open-own : 0 ≡ bitsOf (ownMark (eqb left 0) (l .surfaces) (loneBlock l) s)
+    open-own = open-bits left (held x) (held y) n t f ∙ own
+
     pub open-asked : LoneHalves steps turned left (held x) (held y) looked at
-    open-asked = lone-halves-asked (open-bits left (held x) (held y) n t f) refl (open-turned turned)
+    unfolding lone-held
+    open-asked = record { lone = lone-held l; asked = single-halves (job .asked) open-own refl }
 
     pub open-done : (m : Bool) (out : List ℕ) {packed : ℕ} {out′ looked′ : List ℕ} →
         LoneHalvesLaid open-asked m out packed out′ looked′ → LoneBlockLaid job m out packed out′ looked′
-    unfolding open-asked
-    open-done m out d = lone-done (open-bits left (held x) (held y) n t f) refl (open-turned turned) m out d
+    unfolding open-asked lone-held
+    open-done m out d = single-opened (job .asked) open-own refl m out d
 
 -- ---- both halves
 module _ {steps : List ℤ} {turned : Bool} {left : ℕ} {x y : ℤ} {looked : List ℕ} {at : ℕ} (job : LoneHalves steps turned left x y looked at) where
@@ -292,23 +147,17 @@ module _ {steps : List ℤ} {turned : Bool} {left : ℕ} {x y : ℤ} {looked : L
   abbrev axis : ℕ
   axis = axisAt u (levels u - suc n)
 
-  abbrev P : Block
-  P = loneBlock l₀
-
-  abbrev trees : List Plain
-  trees = loneTree turned l₀
-
-  left-suc : left ≡ suc n
-  left-suc = omega (arith, job .some)
-
   standing′ : Standing u (suc n) (l₀ .low) (l₀ .side)
-  standing′ = subst (λ (k : ℕ). Standing u k (l₀ .low) (l₀ .side)) left-suc (l₀ .standing)
+  standing′ = standing-suc (l₀ .scene) (l₀ .standing) refl (job .asked)
 
-  same-block : P ≡ blockLeft u (suc n) (l₀ .low)
-  same-block = ap (λ (k : ℕ). blockLeft u k (l₀ .low)) left-suc
+  same-block : loneBlock l₀ ≡ blockLeft u (suc n) (l₀ .low)
+  same-block = block-suc (l₀ .scene) (l₀ .standing) refl (job .asked)
 
-  pub level-in : n < mostLevels
-  level-in = omega (arith, l₀ .standing .above, job .some, levels-few u (accepted u (l₀ .scene .accepted-universe)))
+  pub level-fits : n < mostLevels
+  level-fits = level-in (l₀ .scene) (l₀ .standing) refl (job .asked)
+
+  pub tally-fits : getD looked 0 0 + 2 < 2 ^ 64
+  tally-fits = two-fit (l₀ .scene) (l₀ .standing) refl (job .asked)
 
   -- the amount
   abbrev half : ℕ
@@ -316,7 +165,7 @@ module _ {steps : List ℤ} {turned : Bool} {left : ℕ} {x y : ℤ} {looked : L
 
   amount-is : numberAt steps n ≡ h .coefficient axis *ℤ pos half
   amount-is =
-      l₀ .moves .amount n (omega arith) (omega (arith, job .some))
+      l₀ .moves .amount n (omega arith) (omega (arith, job .asked .some))
       ∙ ap (λ (k : ℕ). h .coefficient axis *ℤ pos k) (sym (half-is u (l₀ .scene .accepted-universe) n (l₀ .low) (l₀ .side) standing′ axis refl))
 
   by-small : SmallAmount (numberAt steps n)
@@ -354,7 +203,7 @@ module _ {steps : List ℤ} {turned : Bool} {left : ℕ} {x y : ℤ} {looked : L
           scene = l₀ .scene;
           low = l₀ .low;
           side = halvedSides (l₀ .side) axis;
-          standing = lower-standing u (l₀ .scene .accepted-universe) n (l₀ .low) (l₀ .side) standing′ axis refl;
+          standing = lower-stands (l₀ .scene) (l₀ .standing) refl (job .asked);
           row = l₀ .row;
           named = l₀ .named;
           moves = fewer;
@@ -381,7 +230,7 @@ module _ {steps : List ℤ} {turned : Bool} {left : ℕ} {x y : ℤ} {looked : L
           scene = l₀ .scene;
           low = highLows (l₀ .low) (l₀ .side) axis;
           side = halvedSides (l₀ .side) axis;
-          standing = upper-standing u (l₀ .scene .accepted-universe) n (l₀ .low) (l₀ .side) standing′ axis refl;
+          standing = upper-stands (l₀ .scene) (l₀ .standing) refl (job .asked);
           row = l₀ .row;
           named = l₀ .named;
           moves = fewer;
@@ -389,128 +238,42 @@ module _ {steps : List ℤ} {turned : Bool} {left : ℕ} {x y : ℤ} {looked : L
           greatest-is = upper-values .1;
         }
 
-  -- the halves are those of the block
-  abbrev lowest : Shape
-  lowest = examineAll (l₀ .surfaces) trees n (blockLeft u n (l₀ .low))
-
-  abbrev highest : Shape
-  highest = examineAll (l₀ .surfaces) trees n (blockLeft u n (highLows (l₀ .low) (l₀ .side) axis))
-
-  lower-block : blockLeft u n (l₀ .low) ≡ low P
-  lower-block =
-      sym (lower-is u (l₀ .scene .accepted-universe) n (l₀ .low) (l₀ .side) standing′ axis refl) ∙ ap low (sym same-block)
-
-  upper-block : blockLeft u n (highLows (l₀ .low) (l₀ .side) axis) ≡ high P
-  upper-block =
-      sym (upper-is u (l₀ .scene .accepted-universe) n (l₀ .low) (l₀ .side) standing′ axis refl) ∙ ap high (sym same-block)
-
-  parts-are : loneParts turned l₀ ≡ halved lowest highest
-  parts-are = ap₂ halved (ap (examineAll (l₀ .surfaces) trees n) (sym lower-block)) (ap (examineAll (l₀ .surfaces) trees n) (sym upper-block))
-
-  abbrev lowerLooked : ℕ
-  lowerLooked = lookedFrom (l₀ .surfaces) trees n (blockLeft u n (l₀ .low))
-
-  abbrev upperLooked : ℕ
-  upperLooked = lookedFrom (l₀ .surfaces) trees n (blockLeft u n (highLows (l₀ .low) (l₀ .side) axis))
-
-  looked-are : lookedInParts turned l₀ ≡ lowerLooked + upperLooked
-  looked-are = ap₂ _+_ (ap (lookedFrom (l₀ .surfaces) trees n) (sym lower-block)) (ap (lookedFrom (l₀ .surfaces) trees n) (sym upper-block))
-
-  lower-some : 1 ≤ lowerLooked
-  lower-some = omega (arith, looked-least (l₀ .surfaces) trees n (blockLeft u n (l₀ .low)), alone-nodes turned (halfspace (l₀ .row)))
-
-  upper-some : 1 ≤ upperLooked
-  upper-some =
-      omega (
-        arith,
-        looked-least (l₀ .surfaces) trees n (blockLeft u n (highLows (l₀ .low) (l₀ .side) axis)),
-        alone-nodes turned (halfspace (l₀ .row)),
-      )
-
-  pub two-fit : getD looked 0 0 + 2 < 2 ^ 64
-  two-fit = omega (arith, job .counts, looked-are, lower-some, upper-some)
-
-  sizes : size (loneParts turned l₀) ≡ suc (size lowest + size highest)
-  sizes = ap size parts-are ∙ halves-size lowest highest
-
+  -- the halves, one behind the other
   abbrev looked₁ : List ℕ
   looked₁ = set looked 0 (getD looked 0 0 + 2)
-
-  tally : looked₁ ≡ (getD looked 0 0 + 2) ∷ []
-  tally = tally-set looked (getD looked 0 0 + 2) (job .tallied)
 
   module _ {v w : ℤ} (e : MovedBy (held (numberAt steps n)) false (held x) (held y) v w) where
     pub lower-part : LoneBlock steps turned n (held v) (held w) looked₁ (at + 1)
     unfolding lower-lone lone-held
-    lower-part =
-        record {
-          lone = lone-held (lower-lone e);
-          fits = omega (arith, job .fits, sizes);
-          tallied = ap length tally;
-          counts = omega (arith, job .counts, looked-are, lower-some, upper-some, ap (λ (k : List ℕ). getD k 0 0) tally);
-        }
+    lower-part = record { lone = lone-held (lower-lone e); asked = lower-asked (l₀ .scene) (l₀ .standing) refl (job .asked) }
 
     -- the low half is laid
     module _ (m : Bool) (out : List ℕ) {packed₁ : ℕ} {out₁ looked₂ : List ℕ} (laid₁ : LoneBlockLaid lower-part m out packed₁ out₁ looked₂) where
-      piece₁ : packed₁ ≡ packedShape (at + 1) (shaped m lowest)
-      unfolding lower-part lower-lone lone-held
-      piece₁ = laid₁ .piece
+      abbrev Lower : Type 0
+      Lower = SingleBlockLaid (l₀ .surfaces) turned (halfspace (l₀ .row)) n (blockLeft u n (l₀ .low)) looked₁ (at + 1) m out packed₁ out₁ looked₂
 
-      room₁ : out₁ ≡ laid out (at + 1) (shaped m lowest)
+      lower : Lower
       unfolding lower-part lower-lone lone-held
-      room₁ = laid₁ .room
-
-      counted₁ : looked₂ ≡ (getD looked 0 0 + 1 + lowerLooked) ∷ []
-      unfolding lower-part lower-lone lone-held
-      counted₁ =
-          laid₁ .counted ∙ ap (λ (k : ℕ). k ∷ []) (omega (arith, lower-some, ap (λ (k : List ℕ). getD k 0 0) tally))
-
-      middle-is : packed₁ / 256 ≡ at + 1 + size (shaped m lowest)
-      middle-is = unpacked (at + 1) (shaped m lowest) piece₁ .0
+      lower = laid₁
 
       module _ {v′ w′ : ℤ} (e′ : MovedBy (held (numberAt steps n)) true (held x) (held y) v′ w′) where
         pub upper-part : LoneBlock steps turned n (held v′) (held w′) looked₂ (packed₁ / 256)
         unfolding upper-lone lone-held
-        upper-part =
-            record {
-              lone = lone-held (upper-lone e′);
-              fits = omega (arith, job .fits, sizes, middle-is, shaped-size m lowest);
-              tallied = ap length counted₁;
-              counts = omega (arith, job .counts, looked-are, upper-some, ap (λ (k : List ℕ). getD k 0 0) counted₁);
-            }
+        upper-part = record { lone = lone-held (upper-lone e′); asked = upper-asked (l₀ .scene) (l₀ .standing) refl (job .asked) m out lower }
 
         -- the high half is laid too
         module _ {packed₂ : ℕ} {out₂ looked₃ : List ℕ} (laid₂ : LoneBlockLaid upper-part m out₁ packed₂ out₂ looked₃) where
-          piece₂ : packed₂ ≡ packedShape (packed₁ / 256) (shaped m highest)
-          unfolding upper-part upper-lone lone-held
-          piece₂ = laid₂ .piece
+          abbrev Upper : Type 0
+          Upper = SingleBlockLaid (l₀ .surfaces) turned (halfspace (l₀ .row)) n (blockLeft u n (highLows (l₀ .low) (l₀ .side) axis)) looked₂ (packed₁ / 256) m
+              out₁ packed₂ out₂ looked₃
 
-          room₂ : out₂ ≡ laid out₁ (packed₁ / 256) (shaped m highest)
+          upper : Upper
           unfolding upper-part upper-lone lone-held
-          room₂ = laid₂ .room
-
-          counted₂ : looked₃ ≡ (getD looked 0 0 + lookedInParts turned l₀) ∷ []
-          unfolding upper-part upper-lone lone-held
-          counted₂ =
-              laid₂ .counted
-              ∙ ap (λ (k : ℕ). k ∷ []) (omega (arith, upper-some, looked-are, ap (λ (k : List ℕ). getD k 0 0) counted₁))
+          upper = laid₂
 
           pub join-asked : (at + 1 < endLimit) × (packed₂ / 256 < endLimit)
-          join-asked = (
-            omega (arith, job .fits, sizes),
-            omega (
-              arith,
-              job .fits,
-              sizes,
-              middle-is,
-              unpacked (packed₁ / 256) (shaped m highest) piece₂ .0,
-              shaped-size m lowest,
-              shaped-size m highest,
-            ),
-          )
+          join-asked = both-asked (l₀ .scene) (l₀ .standing) refl (job .asked) m out lower upper
 
           pub parts-done : {packed : ℕ} {out₃ : List ℕ} → packed ≡ joinedPacked m at (packed₁ % 256) (packed₂ % 256) (packed₂ / 256) →
               out₃ ≡ joinedOut m out₂ at (packed₁ % 256) (packed₁ / 256) (packed₂ % 256) → LoneHalvesLaid job m out packed out₃ looked₃
-          parts-done p q =
-              let j = joined m out at parts-are piece₁ room₁ piece₂ room₂ p q in
-              record { piece = j .0; room = j .1; counted = counted₂ }
+          parts-done p q = both-done (l₀ .scene) (l₀ .standing) refl (job .asked) m out lower upper p q

@@ -152,7 +152,7 @@ module _ {surfaces : Surfaces} {axes : ℕ} {low side : List ℕ} {axis half : �
   row-own false l i = tested-mark (rowAt (surfaces .rows) i) b
   row-own true l i = centre-mark (rowAt (surfaces .rows) i) (l refl)
 
-  ball-own : (c : Bool) (i : ℕ) → ballCode c (axes - 1) (ballAt (surfaces .balls) i) low side ≡ bitsOf (ownMark c surfaces b (ball i))
+  pub ball-own : (c : Bool) (i : ℕ) → ballCode c (axes - 1) (ballAt (surfaces .balls) i) low side ≡ bitsOf (ownMark c surfaces b (ball i))
   unfolding surfaceMark surfaceColour
   ball-own false i = rw (step .axes-are) (ball-over (ballAt (surfaces .balls) i) b side (step .standing .along))
   ball-own true i = rw (step .axes-are) (ball-at (step .universe) (ballAt (surfaces .balls) i) low)

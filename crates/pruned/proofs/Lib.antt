@@ -15,7 +15,9 @@ pub mod Pairs
 pub mod Laying
 pub mod Voxels
 pub mod Amounts
+pub mod Singles
 pub mod Alone
+pub mod Rounds
 pub mod Handed
 pub mod Wholes
 pub mod Loadings

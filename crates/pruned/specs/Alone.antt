@@ -1,31 +1,26 @@
 -- One side of a halfspace that is left alone over a block: how its halves are laid by the halfspace's least and
 -- greatest value alone.
-use Prim.Native.Nat.{ℕ, suc, _+_, _*_, _-_, _^_, _≤_, _<_}
+use Prim.Native.Nat.{ℕ, suc, _*_, _-_, _≤_, _<_}
 use mathlib.Core.Path.{_≡_}
 use mathlib.Core.Bool.{Bool}
-use mathlib.Core.List.{List, [], _∷_}
+use mathlib.Core.List.{List}
 use lib.IntN.{ℤ, pos, natAbs, _*ℤ_}
-use lib.ListN.{length, getD}
+use lib.ListN.{length}
 use Rattle.universe.specs.declared.Universe.{Universe}
 use Rattle.universe.specs.declared.Block.{Block}
 use Rattle.universe.specs.Universe.{mostLevels, universeRefusal, levels, axisAt, blockSide}
 use Rattle.universe.specs.Questions.{axesLeft}
-use Rattle.bintree.specs.Shape.{Shape, size}
-use Rattle.bintree.specs.Walks.{laid}
 use Rattle.csg.specs.Halfspace.{Halfspace, mostRows, rowAt, rowCount, least, greatest}
 use Rattle.csg.specs.Surfaces.{Surfaces, halfspace, surfacesOf}
-use Rattle.csg.specs.Tree.{Plain}
-use Rattle.csg.specs.Words.{firstHalfspace}
 use Rattle.convert.specs.Small.{SmallHalfspace}
 use Rattle.convert.specs.Blocks.{Standing, blockLeft}
-use Rattle.convert.specs.Shapes.{shaped, endLimit}
-use Rattle.pruned.specs.Looked.{examineAll, lookedFrom}
 use Rattle.pruned.specs.Nodes.{nodeLength, numberAt, firstBallSide}
-use Rattle.pruned.specs.Laying.{packedShape, halvesShape, lookedInHalves, SoundScene, HalvesJob, HalvesLaid}
+use Rattle.pruned.specs.Laying.{SoundScene, HalvesJob, HalvesLaid}
+use Rattle.pruned.specs.Single.{firstSide, SingleBlock, SingleBlockLaid, SingleHalves, SingleHalvesLaid}
 
 -- a code is that of a halfspace's side
 pub record isSideCode (code : ℕ) : Type 0 where
-  pub from : 2 * firstHalfspace ≤ code
+  pub from : firstSide ≤ code
   pub upto : code < firstBallSide
 
 -- what the values of a halfspace move by from a block with n + 1 levels left to its halves: its coefficient along the
@@ -62,50 +57,25 @@ pub record Lone (steps : List ℤ) (left : ℕ) (x y : ℤ) : Type 0 where
 abbrev pub loneBlock : {steps : List ℤ} {left : ℕ} {x y : ℤ} → Lone steps left x y → Block
 loneBlock {left = left} l = blockLeft (l .universe) left (l .low)
 
-abbrev pub loneTree : Bool → {steps : List ℤ} {left : ℕ} {x y : ℤ} → Lone steps left x y → List Plain
-loneTree turned l = Plain.side turned (halfspace (l .row)) ∷ []
-
--- the shape of the block and the nodes looked at below it; and the same of its halves
-abbrev pub loneShape : Bool → {steps : List ℤ} {left : ℕ} {x y : ℤ} → Lone steps left x y → Shape
-loneShape turned {left = left} l = examineAll (l .surfaces) (loneTree turned l) left (loneBlock l)
-
-abbrev pub lookedBelow : Bool → {steps : List ℤ} {left : ℕ} {x y : ℤ} → Lone steps left x y → ℕ
-lookedBelow turned {left = left} l = lookedFrom (l .surfaces) (loneTree turned l) left (loneBlock l) - 1
-
-abbrev pub loneParts : Bool → {steps : List ℤ} {left : ℕ} {x y : ℤ} → Lone steps left x y → Shape
-loneParts turned {left = left} l = halvesShape (l .surfaces) (loneTree turned l) (left - 1) (loneBlock l)
-
-abbrev pub lookedInParts : Bool → {steps : List ℤ} {left : ℕ} {x y : ℤ} → Lone steps left x y → ℕ
-lookedInParts turned {left = left} l = lookedInHalves (l .surfaces) (loneTree turned l) (left - 1) (loneBlock l)
-
 -- what laying the block from a place on asks, and what it comes to
 pub record LoneBlock (steps : List ℤ) (turned : Bool) (left : ℕ) (x y : ℤ) (looked : List ℕ) (at : ℕ) : Type 0 where
   pub lone : Lone steps left x y
-  pub fits : at + size (loneShape turned lone) < endLimit
-  pub tallied : length looked ≡ 1
-  pub counts : getD looked 0 0 + lookedBelow turned lone < 2 ^ 64
+  pub asked : SingleBlock (lone .surfaces) turned (halfspace (lone .row)) left (loneBlock lone) looked at
 
-pub record LoneBlockLaid {steps : List ℤ} {turned : Bool} {left : ℕ} {x y : ℤ} {looked : List ℕ} {at : ℕ}
-    (job : LoneBlock steps turned left x y looked at) (merging : Bool) (out : List ℕ) (packed : ℕ)
-    (out′ looked′ : List ℕ) : Type 0 where
-  pub piece : packed ≡ packedShape at (shaped merging (loneShape turned (job .lone)))
-  pub room : out′ ≡ laid out at (shaped merging (loneShape turned (job .lone)))
-  pub counted : looked′ ≡ (getD looked 0 0 + lookedBelow turned (job .lone)) ∷ []
+abbrev pub LoneBlockLaid : {steps : List ℤ} {turned : Bool} {left : ℕ} {x y : ℤ} {looked : List ℕ} {at : ℕ} →
+    LoneBlock steps turned left x y looked at → Bool → List ℕ → ℕ → List ℕ → List ℕ → Type 0
+LoneBlockLaid {turned = turned} {left = left} {looked = looked} {at = at} job =
+    SingleBlockLaid (job .lone .surfaces) turned (halfspace (job .lone .row)) left (loneBlock (job .lone)) looked at
 
 -- the same of both halves of the block
 pub record LoneHalves (steps : List ℤ) (turned : Bool) (left : ℕ) (x y : ℤ) (looked : List ℕ) (at : ℕ) : Type 0 where
   pub lone : Lone steps left x y
-  pub some : 1 ≤ left
-  pub fits : at + size (loneParts turned lone) < endLimit
-  pub tallied : length looked ≡ 1
-  pub counts : getD looked 0 0 + lookedInParts turned lone < 2 ^ 64
+  pub asked : SingleHalves (lone .surfaces) turned (halfspace (lone .row)) left (loneBlock lone) looked at
 
-pub record LoneHalvesLaid {steps : List ℤ} {turned : Bool} {left : ℕ} {x y : ℤ} {looked : List ℕ} {at : ℕ}
-    (job : LoneHalves steps turned left x y looked at) (merging : Bool) (out : List ℕ) (packed : ℕ)
-    (out′ looked′ : List ℕ) : Type 0 where
-  pub piece : packed ≡ packedShape at (shaped merging (loneParts turned (job .lone)))
-  pub room : out′ ≡ laid out at (shaped merging (loneParts turned (job .lone)))
-  pub counted : looked′ ≡ (getD looked 0 0 + lookedInParts turned (job .lone)) ∷ []
+abbrev pub LoneHalvesLaid : {steps : List ℤ} {turned : Bool} {left : ℕ} {x y : ℤ} {looked : List ℕ} {at : ℕ} →
+    LoneHalves steps turned left x y looked at → Bool → List ℕ → ℕ → List ℕ → List ℕ → Type 0
+LoneHalvesLaid {turned = turned} {left = left} {looked = looked} {at = at} job =
+    SingleHalvesLaid (job .lone .surfaces) turned (halfspace (job .lone .row)) left (loneBlock (job .lone)) looked at
 
 -- what is asked where the one node stands in the work room, and that both halves are laid by it as by the trees
 pub record LoneJob (rows : List ℤ) (table side : List ℕ) (left : ℕ) (work : List ℤ) (from : ℕ) (looked : List ℕ)

@@ -6,6 +6,8 @@ pub mod Nodes
 pub mod Laying
 pub mod Pair
 pub mod Loading
+pub mod Single
 pub mod Alone
+pub mod Round
 pub mod Answers
 pub mod Whole

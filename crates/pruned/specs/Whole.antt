@@ -57,7 +57,7 @@ pub record OpenJob (surfaces : Surfaces) (axes : ℕ) (table low side : List ℕ
 
 -- the symbols that scratch room holds
 abbrev pub shortScratch : ℕ
-shortScratch = 512
+shortScratch = 768
 
 abbrev pub mostScratch : ℕ
 mostScratch = 4096

@@ -67,7 +67,7 @@ fn radius_squared(balls: &[i64], i: usize) -> u64
 }
 
 // The code of ball i over the block with these low places and sides, of which so many are along place axes.
-fn code_over_block(
+pub(crate) fn code_over_block(
     places: usize,
     balls: &[i64],
     i: usize,

@@ -1,11 +1,11 @@
 // The recursion over blocks, which lays the raw or the merged expression of what is carried.
 use crate::leaf::doublings;
-use crate::lone::is_lone;
-use crate::lone::lay_lone;
 use crate::marks::BLACK_BIT;
 use crate::pair::lay_pair;
 use crate::prune::MOST_SHAPES;
 use crate::prune::prune;
+use crate::single::is_single;
+use crate::single::lay_single;
 use universe::Universe;
 ghost use mathlib.Core.Path.{_≡_};
 ghost use Prim.Native.Nat.{_+_, _<_, _≤_};
@@ -118,10 +118,13 @@ fn lay_block(
     if mark != 0 {
         return (at + 1) * HELD_UNIT + symbol_of(mark) as usize;
     }
-    if is_lone(work, behind, nodes) {
-        return lay_lone(
+    if is_single(work, behind, nodes) {
+        return lay_single(
+            axes,
             rows,
+            balls,
             table,
+            low,
             side,
             left,
             merging,

@@ -10,7 +10,9 @@ mod lone;
 mod marks;
 mod pair;
 mod prune;
+mod round;
 mod scratch;
+mod single;
 mod whole;
 
 pub use answer::Conversion;

@@ -3,7 +3,6 @@
 use crate::lay::HELD_UNIT;
 use crate::lay::join;
 use crate::lay::symbol_of;
-use crate::leaf::FIRST_BALL_SIDE;
 use crate::leaf::FIRST_SIDE;
 use crate::leaf::amount;
 use crate::leaf::doublings;
@@ -17,13 +16,11 @@ use crate::prune::NODE_LENGTH;
 use crate::prune::code_at;
 use universe::Universe;
 ghost use mathlib.Core.Path.{_≡_};
-ghost use mathlib.Core.Bool.{true};
-ghost use Prim.Native.Nat.{_+_, _*_, _≤_, _<_};
-ghost use lib.IntN.{natAbs};
+ghost use Prim.Native.Nat.{_+_, _*_, _<_};
 ghost use lib.ListN.{length};
 ghost use Rattle.universe.specs.Universe.{mostLevels};
 ghost use Rattle.convert.specs.Shapes.{heldUnit, endLimit, symbolOfBits};
-ghost use Rattle.pruned.specs.Nodes.{nodeLength, numberAt, turnedCode, CodeAt};
+ghost use Rattle.pruned.specs.Nodes.{turnedCode};
 ghost use Rattle.csg.specs.Halfspace.{rowAt};
 ghost use Rattle.pruned.specs.Alone.{
   Steps,
@@ -34,24 +31,7 @@ ghost use Rattle.pruned.specs.Alone.{
   LoneHalvesLaid,
   LoneJob,
   LoneLaid,
-  isSideCode,
 };
-
-// Whether the nodes from a place on are one, and a side of a halfspace.
-pub(crate) fn is_lone(work: &[i64], from: usize, count: usize) -> bool
-    requires { ⌜ (count ≡ 1 → CodeAt (now work) from) ⌝ }
-    ensures { λ r. let code = natAbs (numberAt (now (work .entry)) (nodeLength * from)) in
-        ⌜ (r ≡ true → (count ≡ 1) × isSideCode code) ⌝ }
-{
-    if count != 1 {
-        return false;
-    }
-    let code = code_at(work, from);
-    if code < FIRST_SIDE {
-        return false;
-    }
-    code < FIRST_BALL_SIDE
-}
 
 // Sets what the values of a row move by from a block to its halves: for one with n + 1 levels left at place n, from the
 // block with these sides down.
@@ -81,8 +61,8 @@ fn set_steps(
     }
 }
 
-// The leaf of a block that is judged by a halfspace's side, held back.
-fn lone_leaf(turned: bool, bits: u8, at: usize) -> usize
+// The leaf of a block that is judged by one side alone, held back.
+pub(crate) fn lone_leaf(turned: bool, bits: u8, at: usize) -> usize
     requires { ⌜ at + 1 < endLimit ⌝ }
     ensures { λ r. ⌜ r ≡ (at + 1) * heldUnit + symbolOfBits (turnedCode turned bits) ⌝ }
 {

@@ -16,7 +16,7 @@ ghost use Rattle.pruned.specs.Laying.{HalvesJob};
 ghost use Rattle.pruned.specs.Whole.{halvesOf, lookedIn, Ended, shortScratch, mostScratch};
 
 // Scratch room for where no more than this is lent.
-pub(crate) const SHORT_SCRATCH: usize = 512;
+pub(crate) const SHORT_SCRATCH: usize = 768;
 
 // The same for where more is lent; where more than this is lent none is taken.
 pub const MOST_SCRATCH: usize = 4096;

@@ -8,7 +8,7 @@ use mathlib.Core.Path.{refl, _∙_}
 use Rattle.pruned.proofs.Laying.{block-pruning, tally-fits, at-fits, symbol-few, block-closed, block-halves, block-done}
 use Rattle.pruned.proofs.Laying.{axis-within, place-in, near-fits, lower-job, upper-job, join-asks, halves-done}
 use Rattle.pruned.proofs.Voxels.{pair-job, pair-tally, pair-fits, pair-done}
-use Rattle.pruned.proofs.Handed.{lone-code, lone-job, lone-back}
+use Rattle.pruned.proofs.Handed.{lone-code, single-job, single-done}
 use Prim.Native.Nat.{ℕ, _<_}
 use borrow.Fn.Kinds.{In}
 use borrow.Fn.PlainCycle.{Measures, is, falls, and}
@@ -21,8 +21,8 @@ use Rattle.pruned.proofs.lay.+lay_block+lay_halves.Lts-lay_halves as la
 use Rattle.pruned.proofs.lay.join.Reads as join-reads
 use Rattle.pruned.proofs.leaf.doublings.Reads as doublings-reads
 use Rattle.pruned.proofs.lay.symbol_of.Reads as symbol-of-reads
-use Rattle.pruned.proofs.lone.is_lone.Reads as is-lone-reads
-use Rattle.pruned.proofs.lone.lay_lone.Reads as lay-lone-reads
+use Rattle.pruned.proofs.single.is_single.Reads as is-single-reads
+use Rattle.pruned.proofs.single.lay_single.Reads as lay-single-reads
 use Rattle.pruned.proofs.pair.lay_pair.Reads as lay-pair-reads
 use Rattle.pruned.proofs.prune.prune.Reads as prune-reads
 use Rattle.pruned.proofs.lay.+lay_block+lay_halves.{statement}
@@ -54,10 +54,10 @@ lay-block-add-behind : (t : ℕ) → lay-block-lts.Need-add-behind (
   prune-reads.Learnt,
   symbol-of-reads.Asked,
   symbol-of-reads.Learnt,
-  is-lone-reads.Asked,
-  is-lone-reads.Learnt,
-  lay-lone-reads.Asked,
-  lay-lone-reads.Learnt,
+  is-single-reads.Asked,
+  is-single-reads.Learnt,
+  lay-single-reads.Asked,
+  lay-single-reads.Learnt,
   lay-halves-below t,
   lay-halves.Post,
 ) (lay-block-at t) lay-block.Post
@@ -68,10 +68,10 @@ lay-block-prune-requires : (t : ℕ) → lay-block-lts.Need-prune-requires (
   prune-reads.Learnt,
   symbol-of-reads.Asked,
   symbol-of-reads.Learnt,
-  is-lone-reads.Asked,
-  is-lone-reads.Learnt,
-  lay-lone-reads.Asked,
-  lay-lone-reads.Learnt,
+  is-single-reads.Asked,
+  is-single-reads.Learnt,
+  lay-single-reads.Asked,
+  lay-single-reads.Learnt,
   lay-halves-below t,
   lay-halves.Post,
 ) (lay-block-at t) lay-block.Post
@@ -82,10 +82,10 @@ lay-block-element-copy-out-looked : (t : ℕ) → lay-block-lts.Need-element-cop
   prune-reads.Learnt,
   symbol-of-reads.Asked,
   symbol-of-reads.Learnt,
-  is-lone-reads.Asked,
-  is-lone-reads.Learnt,
-  lay-lone-reads.Asked,
-  lay-lone-reads.Learnt,
+  is-single-reads.Asked,
+  is-single-reads.Learnt,
+  lay-single-reads.Asked,
+  lay-single-reads.Learnt,
   lay-halves-below t,
   lay-halves.Post,
 ) (lay-block-at t) lay-block.Post
@@ -96,10 +96,10 @@ lay-block-add-looked : (t : ℕ) → lay-block-lts.Need-add-looked (
   prune-reads.Learnt,
   symbol-of-reads.Asked,
   symbol-of-reads.Learnt,
-  is-lone-reads.Asked,
-  is-lone-reads.Learnt,
-  lay-lone-reads.Asked,
-  lay-lone-reads.Learnt,
+  is-single-reads.Asked,
+  is-single-reads.Learnt,
+  lay-single-reads.Asked,
+  lay-single-reads.Learnt,
   lay-halves-below t,
   lay-halves.Post,
 ) (lay-block-at t) lay-block.Post
@@ -111,10 +111,10 @@ lay-block-element-write-looked : (t : ℕ) → lay-block-lts.Need-element-write-
   prune-reads.Learnt,
   symbol-of-reads.Asked,
   symbol-of-reads.Learnt,
-  is-lone-reads.Asked,
-  is-lone-reads.Learnt,
-  lay-lone-reads.Asked,
-  lay-lone-reads.Learnt,
+  is-single-reads.Asked,
+  is-single-reads.Learnt,
+  lay-single-reads.Asked,
+  lay-single-reads.Learnt,
   lay-halves-below t,
   lay-halves.Post,
 ) (lay-block-at t) lay-block.Post
@@ -125,10 +125,10 @@ lay-block-add-result : (t : ℕ) → lay-block-lts.Need-add-result (
   prune-reads.Learnt,
   symbol-of-reads.Asked,
   symbol-of-reads.Learnt,
-  is-lone-reads.Asked,
-  is-lone-reads.Learnt,
-  lay-lone-reads.Asked,
-  lay-lone-reads.Learnt,
+  is-single-reads.Asked,
+  is-single-reads.Learnt,
+  lay-single-reads.Asked,
+  lay-single-reads.Learnt,
   lay-halves-below t,
   lay-halves.Post,
 ) (lay-block-at t) lay-block.Post
@@ -140,10 +140,10 @@ lay-block-mul-result : (t : ℕ) → lay-block-lts.Need-mul-result (
   prune-reads.Learnt,
   symbol-of-reads.Asked,
   symbol-of-reads.Learnt,
-  is-lone-reads.Asked,
-  is-lone-reads.Learnt,
-  lay-lone-reads.Asked,
-  lay-lone-reads.Learnt,
+  is-single-reads.Asked,
+  is-single-reads.Learnt,
+  lay-single-reads.Asked,
+  lay-single-reads.Learnt,
   lay-halves-below t,
   lay-halves.Post,
 ) (lay-block-at t) lay-block.Post
@@ -155,10 +155,10 @@ lay-block-symbol-of-requires : (t : ℕ) → lay-block-lts.Need-symbol-of-requir
   prune-reads.Learnt,
   symbol-of-reads.Asked,
   symbol-of-reads.Learnt,
-  is-lone-reads.Asked,
-  is-lone-reads.Learnt,
-  lay-lone-reads.Asked,
-  lay-lone-reads.Learnt,
+  is-single-reads.Asked,
+  is-single-reads.Learnt,
+  lay-single-reads.Asked,
+  lay-single-reads.Learnt,
   lay-halves-below t,
   lay-halves.Post,
 ) (lay-block-at t) lay-block.Post
@@ -169,10 +169,10 @@ lay-block-cast-result : (t : ℕ) → lay-block-lts.Need-cast-result (
   prune-reads.Learnt,
   symbol-of-reads.Asked,
   symbol-of-reads.Learnt,
-  is-lone-reads.Asked,
-  is-lone-reads.Learnt,
-  lay-lone-reads.Asked,
-  lay-lone-reads.Learnt,
+  is-single-reads.Asked,
+  is-single-reads.Learnt,
+  lay-single-reads.Asked,
+  lay-single-reads.Learnt,
   lay-halves-below t,
   lay-halves.Post,
 ) (lay-block-at t) lay-block.Post
@@ -183,10 +183,10 @@ lay-block-add-result-2 : (t : ℕ) → lay-block-lts.Need-add-result-2 (
   prune-reads.Learnt,
   symbol-of-reads.Asked,
   symbol-of-reads.Learnt,
-  is-lone-reads.Asked,
-  is-lone-reads.Learnt,
-  lay-lone-reads.Asked,
-  lay-lone-reads.Learnt,
+  is-single-reads.Asked,
+  is-single-reads.Learnt,
+  lay-single-reads.Asked,
+  lay-single-reads.Learnt,
   lay-halves-below t,
   lay-halves.Post,
 ) (lay-block-at t) lay-block.Post
@@ -198,10 +198,10 @@ lay-block-same-length : (t : ℕ) → lay-block-lts.Need-same-length (
   prune-reads.Learnt,
   symbol-of-reads.Asked,
   symbol-of-reads.Learnt,
-  is-lone-reads.Asked,
-  is-lone-reads.Learnt,
-  lay-lone-reads.Asked,
-  lay-lone-reads.Learnt,
+  is-single-reads.Asked,
+  is-single-reads.Learnt,
+  lay-single-reads.Asked,
+  lay-single-reads.Learnt,
   lay-halves-below t,
   lay-halves.Post,
 ) (lay-block-at t) lay-block.Post
@@ -213,10 +213,10 @@ lay-block-returns : (t : ℕ) → lay-block-lts.Need-returns (
   prune-reads.Learnt,
   symbol-of-reads.Asked,
   symbol-of-reads.Learnt,
-  is-lone-reads.Asked,
-  is-lone-reads.Learnt,
-  lay-lone-reads.Asked,
-  lay-lone-reads.Learnt,
+  is-single-reads.Asked,
+  is-single-reads.Learnt,
+  lay-single-reads.Asked,
+  lay-single-reads.Learnt,
   lay-halves-below t,
   lay-halves.Post,
 ) (lay-block-at t) lay-block.Post
@@ -226,89 +226,92 @@ lay-block-returns t c = let q = c .before .before .before .before in (
   q .prune .ensures .1,
 )
 
-lay-block-is-lone-requires : (t : ℕ) → lay-block-lts.Need-is-lone-requires (
+lay-block-is-single-requires : (t : ℕ) → lay-block-lts.Need-is-single-requires (
   prune-reads.Asked,
   prune-reads.Learnt,
   symbol-of-reads.Asked,
   symbol-of-reads.Learnt,
-  is-lone-reads.Asked,
-  is-lone-reads.Learnt,
-  lay-lone-reads.Asked,
-  lay-lone-reads.Learnt,
+  is-single-reads.Asked,
+  is-single-reads.Learnt,
+  lay-single-reads.Asked,
+  lay-single-reads.Learnt,
   lay-halves-below t,
   lay-halves.Post,
 ) (lay-block-at t) lay-block.Post
-lay-block-is-lone-requires t c κs = let j = c .before .before .before .before .before .before .before .before .before .before .before .pre .1 .0 in λ e.
+lay-block-is-single-requires t c κs = let j = c .before .before .before .before .before .before .before .before .before .before .before .pre .1 .0 in λ e.
     lone-code (block-halves j (c .before .before .before .before .prune .ensures .0 (block-pruning j)) (c .before .if1 .left)) e
 
-lay-block-lay-lone-requires : (t : ℕ) → lay-block-lts.Need-lay-lone-requires (
+lay-block-lay-single-requires : (t : ℕ) → lay-block-lts.Need-lay-single-requires (
   prune-reads.Asked,
   prune-reads.Learnt,
   symbol-of-reads.Asked,
   symbol-of-reads.Learnt,
-  is-lone-reads.Asked,
-  is-lone-reads.Learnt,
-  lay-lone-reads.Asked,
-  lay-lone-reads.Learnt,
+  is-single-reads.Asked,
+  is-single-reads.Learnt,
+  lay-single-reads.Asked,
+  lay-single-reads.Learnt,
   lay-halves-below t,
   lay-halves.Post,
 ) (lay-block-at t) lay-block.Post
-lay-block-lay-lone-requires t c κs = let j = c .before .before .before .before .before .before .before .before .before .before .before .before .before .before
-    .before .before .before .pre .1 .0 in let w = c .before .before .before .before .before .is-lone .ensures (c .before .before .before .before .if2 .taken) in
-    lone-job (block-halves j (c .before .before .before .before .before .before .before .before .before .before .prune .ensures .0 (block-pruning j)) (c
-    .before .before .before .before .before .before .before .if1 .left)) (w .0) (w .1)
+lay-block-lay-single-requires t c κs =
+    let k = c .before .before .before .before .before .before .before .before .before .before .before .before .before .before .before .before .before .before
+    in
+    let j = k .pre .1 .0 in
+    let w = c .before .before .before .before .before .before .is-single .ensures (c .before .before .before .before .before .if2 .taken) in
+    let q = c .before .before .before .before .before .before .before .before .before .before .before .prune .ensures .0 in
+    let z = c .before .before .before .before .before .before .before .before .if1 .left in
+    single-job (block-halves j (q (block-pruning j)) z) (w .0) (w .1)
 
 lay-block-same-length-2 : (t : ℕ) → lay-block-lts.Need-same-length-2 (
   prune-reads.Asked,
   prune-reads.Learnt,
   symbol-of-reads.Asked,
   symbol-of-reads.Learnt,
-  is-lone-reads.Asked,
-  is-lone-reads.Learnt,
-  lay-lone-reads.Asked,
-  lay-lone-reads.Learnt,
+  is-single-reads.Asked,
+  is-single-reads.Learnt,
+  lay-single-reads.Asked,
+  lay-single-reads.Learnt,
   lay-halves-below t,
   lay-halves.Post,
 ) (lay-block-at t) lay-block.Post
-lay-block-same-length-2 t c = c .before .before .before .before .before .before .before .before .before .before .before .before .before .prune .kept .1 .1 .1
-    .1 .1 .1 .1 .1 .1 .0
+lay-block-same-length-2 t c = c .before .before .before .before .before .before .before .before .before .before .before .before .before .before
+    .prune .kept .1 .1 .1 .1 .1 .1 .1 .1 .1 .0
 
 lay-block-same-length-3 : (t : ℕ) → lay-block-lts.Need-same-length-3 (
   prune-reads.Asked,
   prune-reads.Learnt,
   symbol-of-reads.Asked,
   symbol-of-reads.Learnt,
-  is-lone-reads.Asked,
-  is-lone-reads.Learnt,
-  lay-lone-reads.Asked,
-  lay-lone-reads.Learnt,
+  is-single-reads.Asked,
+  is-single-reads.Learnt,
+  lay-single-reads.Asked,
+  lay-single-reads.Learnt,
   lay-halves-below t,
   lay-halves.Post,
 ) (lay-block-at t) lay-block.Post
-lay-block-same-length-3 t c = c .before .before .lay-lone .kept .1 .1 .1 .1 .1 .1 .1 .1 .0
+lay-block-same-length-3 t c = c .before .before .lay-single .kept .1 .1 .1 .1 .1 .1 .1 .1 .1 .1 .1 .0
 
 lay-block-returns-2 : (t : ℕ) → lay-block-lts.Need-returns-2 (
   prune-reads.Asked,
   prune-reads.Learnt,
   symbol-of-reads.Asked,
   symbol-of-reads.Learnt,
-  is-lone-reads.Asked,
-  is-lone-reads.Learnt,
-  lay-lone-reads.Asked,
-  lay-lone-reads.Learnt,
+  is-single-reads.Asked,
+  is-single-reads.Learnt,
+  lay-single-reads.Asked,
+  lay-single-reads.Learnt,
   lay-halves-below t,
   lay-halves.Post,
 ) (lay-block-at t) lay-block.Post
-lay-block-returns-2 t c = let w = c .before .before .before .before .before .before .before .before .is-lone .ensures (c .before .before .before .before
-    .before .before .before .if2 .taken) in let l = c .before .before .lay-lone .ensures in (
-      λ job. block-done job (c .before .before .before .before .before .before .before .before .before .before .before .before .before .prune .ensures .0
-          (block-pruning job)) (c .before .before .before .before .before .before .before .before .before .before .if1 .left) _ _
-          (lone-back (block-halves job (c .before .before .before .before .before .before .before .before .before .before .before .before .before .prune
-          .ensures
-          .0 (block-pruning job)) (c .before .before .before .before .before .before .before .before .before .before .if1 .left)) (w .0) (w .1) _ _
-          (l (lone-job (block-halves job (c .before .before .before .before .before .before .before .before .before .before .before .before .before .prune
-          .ensures .0 (block-pruning job)) (c .before .before .before .before .before .before .before .before .before .before .if1 .left)) (w .0) (w .1)))),
-      c .before .before .before .before .before .before .before .before .before .before .before .before .before .prune .ensures .1,
+lay-block-returns-2 t c =
+    let w = c .before .before .before .before .before .before .before .before .before .is-single .ensures (c .before .before .before .before .before .before
+    .before .before .if2 .taken) in
+    let l = c .before .before .lay-single .ensures in
+    let q = c .before .before .before .before .before .before .before .before .before .before .before .before .before .before .prune .ensures in
+    let z = c .before .before .before .before .before .before .before .before .before .before .before .if1 .left in (
+      λ job. block-done job (q .0 (block-pruning job)) z _ _ (single-done (block-halves job (q .0 (block-pruning job)) z) (w .0) (w .1) _ _
+          (l (single-job (block-halves job (q .0 (block-pruning job)) z) (w .0) (w .1)))),
+      q .1,
     )
 
 lay-block-lay-halves-requires : (t : ℕ) → lay-block-lts.Need-lay-halves-requires (
@@ -316,10 +319,10 @@ lay-block-lay-halves-requires : (t : ℕ) → lay-block-lts.Need-lay-halves-requ
   prune-reads.Learnt,
   symbol-of-reads.Asked,
   symbol-of-reads.Learnt,
-  is-lone-reads.Asked,
-  is-lone-reads.Learnt,
-  lay-lone-reads.Asked,
-  lay-lone-reads.Learnt,
+  is-single-reads.Asked,
+  is-single-reads.Learnt,
+  lay-single-reads.Asked,
+  lay-single-reads.Learnt,
   lay-halves-below t,
   lay-halves.Post,
 ) (lay-block-at t) lay-block.Post
@@ -339,10 +342,10 @@ lay-block-same-length-4 : (t : ℕ) → lay-block-lts.Need-same-length-4 (
   prune-reads.Learnt,
   symbol-of-reads.Asked,
   symbol-of-reads.Learnt,
-  is-lone-reads.Asked,
-  is-lone-reads.Learnt,
-  lay-lone-reads.Asked,
-  lay-lone-reads.Learnt,
+  is-single-reads.Asked,
+  is-single-reads.Learnt,
+  lay-single-reads.Asked,
+  lay-single-reads.Learnt,
   lay-halves-below t,
   lay-halves.Post,
 ) (lay-block-at t) lay-block.Post
@@ -354,10 +357,10 @@ lay-block-same-length-5 : (t : ℕ) → lay-block-lts.Need-same-length-5 (
   prune-reads.Learnt,
   symbol-of-reads.Asked,
   symbol-of-reads.Learnt,
-  is-lone-reads.Asked,
-  is-lone-reads.Learnt,
-  lay-lone-reads.Asked,
-  lay-lone-reads.Learnt,
+  is-single-reads.Asked,
+  is-single-reads.Learnt,
+  lay-single-reads.Asked,
+  lay-single-reads.Learnt,
   lay-halves-below t,
   lay-halves.Post,
 ) (lay-block-at t) lay-block.Post
@@ -368,10 +371,10 @@ lay-block-returns-3 : (t : ℕ) → lay-block-lts.Need-returns-3 (
   prune-reads.Learnt,
   symbol-of-reads.Asked,
   symbol-of-reads.Learnt,
-  is-lone-reads.Asked,
-  is-lone-reads.Learnt,
-  lay-lone-reads.Asked,
-  lay-lone-reads.Learnt,
+  is-single-reads.Asked,
+  is-single-reads.Learnt,
+  lay-single-reads.Asked,
+  lay-single-reads.Learnt,
   lay-halves-below t,
   lay-halves.Post,
 ) (lay-block-at t) lay-block.Post
@@ -847,10 +850,10 @@ pub +lay-block+lay-halves-spec : {M : Type 1} → statement M
   prune-reads.Learnt,
   symbol-of-reads.Asked,
   symbol-of-reads.Learnt,
-  is-lone-reads.Asked,
-  is-lone-reads.Learnt,
-  lay-lone-reads.Asked,
-  lay-lone-reads.Learnt,
+  is-single-reads.Asked,
+  is-single-reads.Learnt,
+  lay-single-reads.Asked,
+  lay-single-reads.Learnt,
   lay-halves-below t,
   lay-halves.Post,
 )
@@ -868,8 +871,8 @@ pub +lay-block+lay-halves-spec : {M : Type 1} → statement M
     (lay-block-add-result-2 t)
     (lay-block-same-length t)
     (lay-block-returns t)
-    (lay-block-is-lone-requires t)
-    (lay-block-lay-lone-requires t)
+    (lay-block-is-single-requires t)
+    (lay-block-lay-single-requires t)
     (lay-block-same-length-2 t)
     (lay-block-same-length-3 t)
     (lay-block-returns-2 t)

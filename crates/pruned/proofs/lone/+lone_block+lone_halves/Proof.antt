@@ -3,8 +3,8 @@
 use Prim.Native.Nat.{_+_, _*_}
 use native.Mathlib.Omega.{arith}
 use mathlib.Core.Path.{_∙_}
-use Rattle.pruned.proofs.Alone.{values-small, place-fits, centre-closed, black-closed, white-closed, open-asked, open-done, level-in, two-fit}
-use Rattle.pruned.proofs.Alone.{moves-asked}
+use Rattle.pruned.proofs.Singles.{place-fits}
+use Rattle.pruned.proofs.Alone.{values-small, centre-closed, black-closed, white-closed, open-asked, open-done, level-fits, tally-fits, moves-asked}
 use Rattle.pruned.proofs.Alone.{lower-part, upper-part, join-asked, parts-done}
 use Prim.Native.Nat.{ℕ, _<_}
 use borrow.Fn.Kinds.{In}
@@ -62,7 +62,7 @@ lone-block-lone-leaf-requires : (t : ℕ) → lone-block-lts.Need-lone-leaf-requ
   lone-halves-below t,
   lone-halves.Post,
 ) (lone-block-at t) lone-block.Post
-lone-block-lone-leaf-requires t c κs = place-fits (c .before .before .before .pre .1)
+lone-block-lone-leaf-requires t c κs = place-fits (c .before .before .before .pre .1 .asked)
 
 lone-block-returns : (t : ℕ) → lone-block-lts.Need-returns (
   extremes-code-reads.Asked,
@@ -82,7 +82,7 @@ lone-block-lone-leaf-requires-2 : (t : ℕ) → lone-block-lts.Need-lone-leaf-re
   lone-halves-below t,
   lone-halves.Post,
 ) (lone-block-at t) lone-block.Post
-lone-block-lone-leaf-requires-2 t c κs = place-fits (c .before .before .before .pre .1)
+lone-block-lone-leaf-requires-2 t c κs = place-fits (c .before .before .before .pre .1 .asked)
 
 lone-block-returns-2 : (t : ℕ) → lone-block-lts.Need-returns-2 (
   extremes-code-reads.Asked,
@@ -102,7 +102,7 @@ lone-block-lone-leaf-requires-3 : (t : ℕ) → lone-block-lts.Need-lone-leaf-re
   lone-halves-below t,
   lone-halves.Post,
 ) (lone-block-at t) lone-block.Post
-lone-block-lone-leaf-requires-3 t c κs = place-fits (c .before .before .before .before .pre .1)
+lone-block-lone-leaf-requires-3 t c κs = place-fits (c .before .before .before .before .pre .1 .asked)
 
 lone-block-returns-3 : (t : ℕ) → lone-block-lts.Need-returns-3 (
   extremes-code-reads.Asked,
@@ -159,7 +159,7 @@ lone-halves-sub-step : (t : ℕ) → lone-halves-lts.Need-sub-step (
   join-reads.Asked,
   join-reads.Learnt,
 ) (lone-halves-at t) lone-halves.Post
-lone-halves-sub-step t c = c .before .pre .1 .some
+lone-halves-sub-step t c = c .before .pre .1 .asked .some
 
 lone-halves-mul-step : (t : ℕ) → lone-halves-lts.Need-mul-step (
   moved-by-reads.Asked,
@@ -169,7 +169,7 @@ lone-halves-mul-step : (t : ℕ) → lone-halves-lts.Need-mul-step (
   join-reads.Asked,
   join-reads.Learnt,
 ) (lone-halves-at t) lone-halves.Post
-lone-halves-mul-step t c = omega (arith, level-in (c .before .pre .1))
+lone-halves-mul-step t c = omega (arith, level-fits (c .before .pre .1))
 
 lone-halves-element-copy-out-step : (t : ℕ) → lone-halves-lts.Need-element-copy-out-step (
   moved-by-reads.Asked,
@@ -179,7 +179,7 @@ lone-halves-element-copy-out-step : (t : ℕ) → lone-halves-lts.Need-element-c
   join-reads.Asked,
   join-reads.Learnt,
 ) (lone-halves-at t) lone-halves.Post
-lone-halves-element-copy-out-step t c = level-in (c .before .pre .1)
+lone-halves-element-copy-out-step t c = level-fits (c .before .pre .1)
 
 lone-halves-element-copy-out-looked : (t : ℕ) → lone-halves-lts.Need-element-copy-out-looked (
   moved-by-reads.Asked,
@@ -199,7 +199,7 @@ lone-halves-add-looked : (t : ℕ) → lone-halves-lts.Need-add-looked (
   join-reads.Asked,
   join-reads.Learnt,
 ) (lone-halves-at t) lone-halves.Post
-lone-halves-add-looked t c = omega (arith, two-fit (c .before .before .before .pre .1))
+lone-halves-add-looked t c = omega (arith, tally-fits (c .before .before .before .pre .1))
 
 lone-halves-element-write-looked : (t : ℕ) → lone-halves-lts.Need-element-write-looked (
   moved-by-reads.Asked,
@@ -229,7 +229,7 @@ lone-halves-sub-lone-block : (t : ℕ) → lone-halves-lts.Need-sub-lone-block (
   join-reads.Asked,
   join-reads.Learnt,
 ) (lone-halves-at t) lone-halves.Post
-lone-halves-sub-lone-block t c = c .before .before .before .before .pre .1 .some
+lone-halves-sub-lone-block t c = c .before .before .before .before .pre .1 .asked .some
 
 lone-halves-add-lone-block : (t : ℕ) → lone-halves-lts.Need-add-lone-block (
   moved-by-reads.Asked,
@@ -239,7 +239,7 @@ lone-halves-add-lone-block : (t : ℕ) → lone-halves-lts.Need-add-lone-block (
   join-reads.Asked,
   join-reads.Learnt,
 ) (lone-halves-at t) lone-halves.Post
-lone-halves-add-lone-block t c = omega (arith, c .before .before .before .before .before .before .pre .1 .fits)
+lone-halves-add-lone-block t c = omega (arith, c .before .before .before .before .before .before .pre .1 .asked .fits)
 
 lone-halves-lone-block-requires : (t : ℕ) → lone-halves-lts.Need-lone-block-requires (
   moved-by-reads.Asked,
@@ -253,7 +253,7 @@ lone-halves-lone-block-requires t c κs = let k = c .before .before .before .bef
   omega (
     arith,
     k .pre .0,
-    k .pre .1
+    k .pre .1 .asked
         .some,
   ),
   lower-part (k .pre .1) (c .before .before .before .before .moved-by .ensures),
@@ -277,7 +277,7 @@ lone-halves-sub-lone-block-2 : (t : ℕ) → lone-halves-lts.Need-sub-lone-block
   join-reads.Asked,
   join-reads.Learnt,
 ) (lone-halves-at t) lone-halves.Post
-lone-halves-sub-lone-block-2 t c = c .before .before .before .before .before .before .before .before .before .before .before .before .pre .1 .some
+lone-halves-sub-lone-block-2 t c = c .before .before .before .before .before .before .before .before .before .before .before .before .pre .1 .asked .some
 
 lone-halves-lone-block-requires-2 : (t : ℕ) → lone-halves-lts.Need-lone-block-requires-2 (
   moved-by-reads.Asked,
@@ -289,7 +289,7 @@ lone-halves-lone-block-requires-2 : (t : ℕ) → lone-halves-lts.Need-lone-bloc
 ) (lone-halves-at t) lone-halves.Post
 lone-halves-lone-block-requires-2 t c κs = let k = c .before .before .before .before .before .before .before .before .before .before .before .before .before
     .before .before .before in let e = c .before .before .before .before .before .before .before .before .before .before .before .before .moved-by .ensures in (
-      omega (arith, k .pre .0, k .pre .1 .some),
+      omega (arith, k .pre .0, k .pre .1 .asked .some),
       upper-part (k .pre .1) e _ _ (c .before .before .before .before .before .before .before .lone-block .ensures
           (lower-part (k .pre .1) e)) (c .before .before .before .before .moved-by2 .ensures),
     )
