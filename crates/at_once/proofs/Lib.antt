@@ -17,6 +17,7 @@ pub mod Pairs
 pub mod WordBlocks
 pub mod LeafWords
 pub mod TreeWords
+pub mod BothWords
 pub mod BallValues
 pub mod BallWords
 pub mod OwnValues

@@ -6,6 +6,7 @@ pub mod Pruning
 pub mod Loading
 pub mod Words
 pub mod Own
+pub mod Both
 pub mod Counting
 pub mod Tallies
 pub mod Whole

@@ -91,6 +91,8 @@ fn write_block(
         → WrittenShape (writtenOver merging job) (now (out .entry)) 0 r (now (out .exit))) ⌝ }
 {
     if merging {
+        let mut belows = [0u64; MOST_SHAPES];
+        let mut aboves = [0u64; MOST_SHAPES];
         let packed = lay_block(
             axes,
             rows,
@@ -105,6 +107,8 @@ fn write_block(
             count,
             starts,
             marks,
+            &mut belows,
+            &mut aboves,
             out,
             0,
         );
@@ -280,7 +284,8 @@ fn in_scratch(
     )
 }
 
-// The same: written at once where as much room is lent as the room formula says.
+// The same: written at once where as much room is lent as the room formula says, which is not asked where so little is
+// lent that scratch room serves as well.
 fn in_codes(
     universe: Universe,
     rows: &[i64],
@@ -300,6 +305,9 @@ fn in_codes(
         let written = writtenOfTwo merging universe surfaces (now (first .entry)) (now (second .entry)) in
         ⌜ now (out .exit) ≡ writtenBuffer 0 (now (out .entry)) written ⌝ }
 {
+    if out.len() <= SHORT_SCRATCH {
+        return in_scratch(universe, rows, balls, first, second, merging, codes, out);
+    }
     if room_of(universe, first, second) <= out.len() as u64 {
         let length = write_whole(universe, rows, balls, first, second, merging, codes, out);
         return Written::done(length as u64);

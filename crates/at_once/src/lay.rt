@@ -1,4 +1,5 @@
 // The recursion over blocks that lays the merged expression of what is carried, by the colours of blocks.
+use crate::both::both_words;
 use crate::digits::WORD_LEVELS;
 use crate::marks::BLACK_BIT;
 use crate::prune::MOST_SHAPES;
@@ -14,6 +15,8 @@ ghost use Rattle.csg.specs.Surfaces.{surfacesOf};
 ghost use Rattle.convert.specs.Shapes.{symbolOfBits, endLimit};
 ghost use Rattle.pruned.specs.Nodes.{Shelves};
 ghost use Rattle.pruned.specs.Laying.{joinedPacked, joinedOut};
+ghost use Rattle.at_once.specs.Words.{wordLevels};
+ghost use Rattle.at_once.specs.Both.{BothShelves};
 ghost use Rattle.at_once.specs.Counting.{BlockJob, PutBack};
 ghost use Rattle.at_once.specs.Merged.{shapeOver, LaidShape, AtPlace};
 
@@ -39,6 +42,67 @@ fn join(out: &mut [u8], at: usize, below: u8, middle: usize, above: u8, end: usi
     end * HELD_UNIT
 }
 
+// Lays the merged shape of a block both of whose halves have the levels of a word: their words are made by one pass
+// over the codes, and their texts are joined.
+fn lay_words(
+    axes: usize,
+    rows: &[i64],
+    balls: &[i64],
+    table: &[usize; Universe::MOST_LEVELS as usize],
+    lengths: &[u64; WORD_LEVELS],
+    low: &[u64; Universe::MOST_AXES as usize],
+    side: &[u64; Universe::MOST_AXES as usize],
+    codes: &[u16],
+    from: usize,
+    count: usize,
+    belows: &mut [u64; MOST_SHAPES],
+    aboves: &mut [u64; MOST_SHAPES],
+    out: &mut [u8],
+    at: usize,
+) -> usize
+    requires { let surfaces = surfacesOf (now rows) (now balls) in
+        let left = wordLevels + 1 in
+        ⌜ BlockJob surfaces axes (now table) (now lengths) (now low) (now side) left (now codes) from count left ⌝ }
+    requires { ⌜ AtPlace (wordLevels + 1) at ⌝ }
+    requires { ⌜ BothShelves (now belows) (now aboves) ⌝ }
+    ensures { λ r. let surfaces = surfacesOf (now (rows .entry)) (now (balls .entry)) in
+        let left = wordLevels + 1 in
+        ⌜ ((job : BlockJob surfaces axes (now (table .entry)) (now (lengths .entry)) (now (low .entry))
+        (now (side .entry)) left (now (codes .entry)) from count left)
+        → LaidShape (shapeOver job) (now (out .entry)) at r (now (out .exit))) ⌝ }
+    ensures { λ _. ⌜ BothShelves (now (belows .exit)) (now (aboves .exit)) ⌝ }
+{
+    let left = WORD_LEVELS as u64;
+    let axis = table[WORD_LEVELS];
+    let half = side[axis] / 2;
+    let words = both_words(
+        axes,
+        rows,
+        balls,
+        table,
+        lengths,
+        low,
+        axis,
+        half,
+        codes,
+        from,
+        count,
+        belows,
+        aboves,
+    );
+    let below = lay_word(words.below, left, out, at + 1);
+    let middle = below / HELD_UNIT;
+    let above = lay_word(words.above, left, out, middle);
+    join(
+        out,
+        at,
+        (below % HELD_UNIT) as u8,
+        middle,
+        (above % HELD_UNIT) as u8,
+        above / HELD_UNIT,
+    )
+}
+
 // Lays the merged shape of a block from `at` on, as far as there is room; a leaf is held back. The codes of what is
 // carried into it stay.
 pub(crate) fn lay_block(
@@ -55,6 +119,8 @@ pub(crate) fn lay_block(
     count: usize,
     starts: &mut [usize; MOST_SHAPES],
     marks: &mut [u8; MOST_SHAPES],
+    belows: &mut [u64; MOST_SHAPES],
+    aboves: &mut [u64; MOST_SHAPES],
     out: &mut [u8],
     at: usize,
 ) -> usize
@@ -63,6 +129,7 @@ pub(crate) fn lay_block(
         (left + 1) ⌝ }
     requires { ⌜ Shelves (now starts) (now marks) ⌝ }
     requires { ⌜ AtPlace left at ⌝ }
+    requires { ⌜ BothShelves (now belows) (now aboves) ⌝ }
     ensures { λ r. let surfaces = surfacesOf (now (rows .entry)) (now (balls .entry)) in
         ⌜ ((job : BlockJob surfaces axes (now (table .entry)) (now (lengths .entry)) (now (low .entry))
         (now (side .entry)) left (now (codes .entry)) from count (left + 1))
@@ -70,6 +137,7 @@ pub(crate) fn lay_block(
     ensures { λ _. ⌜ PutBack (from + count) (now (low .entry)) (now (side .entry)) (now (codes .entry))
         (now (low .exit)) (now (side .exit)) (now (codes .exit)) ⌝ }
     ensures { λ _. ⌜ Shelves (now (starts .exit)) (now (marks .exit)) ⌝ }
+    ensures { λ _. ⌜ BothShelves (now (belows .exit)) (now (aboves .exit)) ⌝ }
 {
     if left <= WORD_LEVELS as u64 {
         let word = trees_word(
@@ -117,12 +185,14 @@ pub(crate) fn lay_block(
         nodes,
         starts,
         marks,
+        belows,
+        aboves,
         out,
         at,
     )
 }
 
-// The same of a block by both its halves, which are laid and joined.
+// The same of a block by both its halves, which are laid and joined; where they have the levels of a word, at once.
 fn lay_halves(
     axes: usize,
     rows: &[i64],
@@ -137,6 +207,8 @@ fn lay_halves(
     count: usize,
     starts: &mut [usize; MOST_SHAPES],
     marks: &mut [u8; MOST_SHAPES],
+    belows: &mut [u64; MOST_SHAPES],
+    aboves: &mut [u64; MOST_SHAPES],
     out: &mut [u8],
     at: usize,
 ) -> usize
@@ -145,6 +217,7 @@ fn lay_halves(
     requires { ⌜ 1 ≤ left ⌝ }
     requires { ⌜ Shelves (now starts) (now marks) ⌝ }
     requires { ⌜ AtPlace left at ⌝ }
+    requires { ⌜ BothShelves (now belows) (now aboves) ⌝ }
     ensures { λ r. let surfaces = surfacesOf (now (rows .entry)) (now (balls .entry)) in
         ⌜ ((job : BlockJob surfaces axes (now (table .entry)) (now (lengths .entry)) (now (low .entry))
         (now (side .entry)) left (now (codes .entry)) from count left)
@@ -152,7 +225,26 @@ fn lay_halves(
     ensures { λ _. ⌜ PutBack (from + count) (now (low .entry)) (now (side .entry)) (now (codes .entry))
         (now (low .exit)) (now (side .exit)) (now (codes .exit)) ⌝ }
     ensures { λ _. ⌜ Shelves (now (starts .exit)) (now (marks .exit)) ⌝ }
+    ensures { λ _. ⌜ BothShelves (now (belows .exit)) (now (aboves .exit)) ⌝ }
 {
+    if left == WORD_LEVELS as u64 + 1 {
+        return lay_words(
+            axes,
+            rows,
+            balls,
+            table,
+            lengths,
+            low,
+            side,
+            codes,
+            from,
+            count,
+            belows,
+            aboves,
+            out,
+            at,
+        );
+    }
     let axis = table[(left - 1) as usize];
     let near = low[axis];
     let whole = side[axis];
@@ -172,6 +264,8 @@ fn lay_halves(
         count,
         starts,
         marks,
+        belows,
+        aboves,
         out,
         at + 1,
     );
@@ -191,6 +285,8 @@ fn lay_halves(
         count,
         starts,
         marks,
+        belows,
+        aboves,
         out,
         middle,
     );

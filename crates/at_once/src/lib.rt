@@ -2,6 +2,7 @@
 // and the conversions over codes, merged by colours and raw by marks.
 mod answer;
 mod ball;
+mod both;
 mod conversion;
 mod count;
 mod digits;

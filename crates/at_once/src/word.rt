@@ -102,7 +102,7 @@ fn each_of_sixty_four(v: i64, steps: &[i64; WORD_LEVELS]) -> u64
 }
 
 // All ones where the least value is 0 or more, 0 where the greatest is less, and else digit by digit.
-fn sixty_four(v: i64, steps: &[i64; WORD_LEVELS]) -> u64
+pub(crate) fn sixty_four(v: i64, steps: &[i64; WORD_LEVELS]) -> u64
     requires { ⌜ RowReady 6 v (now steps) ⌝ }
     ensures { λ r. ⌜ r ≡ rowMask v (stepAt (now (steps .entry))) 6 ⌝ }
 {

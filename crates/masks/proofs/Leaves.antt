@@ -108,7 +108,7 @@ row-mask-cong v f g n h =
 
 -- ---- a sum of whole numbers of which one changes
 
-total-one : (d a : ℕ) (f g : ℕ → ℤ) (k : ℤ) → a < d → ((i : ℕ) → i < d → (a ≡ i → ⊥) → g i ≡ f i) → g a ≡ f a +ℤ k → total d g ≡ total d f +ℤ k
+pub total-one : (d a : ℕ) (f g : ℕ → ℤ) (k : ℤ) → a < d → ((i : ℕ) → i < d → (a ≡ i → ⊥) → g i ≡ f i) → g a ≡ f a +ℤ k → total d g ≡ total d f +ℤ k
 unfolding total
 total-one zero a f g k l same e = absurd (omega arith)
 total-one (suc d) a f g k l same e = go (ℕ-discrete a d) (λ h. total-one d a f g k h (λ i m. same i (omega arith)) e)
