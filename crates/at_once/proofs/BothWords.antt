@@ -1,25 +1,24 @@
 -- The words of both halves of a block at once: a row's value at the high half's first voxel is that at the low half's and what it is more half a side along the
 -- halved axis. The texts of both words, laid and joined, are the merged shape of the block.
 use mathlib.Core.Path.{_≡_, refl, sym, ap, _∙_, subst}
-use mathlib.Core.List.{List, [], _∷_}
+use mathlib.Core.List.{List}
 use mathlib.Core.Bool.{true}
-use Prim.Native.Nat.{ℕ, zero, suc, _+_, _*_, _/_, _%_, _^_, _≤_, _<_}
+use Prim.Native.Nat.{ℕ, _+_, _-_, _*_, _/_, _%_, _^_, _≤_, _<_}
 use native.Mathlib.Omega.{arith}
-use lib.Dec.{lit<}
-use lib.ListN.{length, getD, List·getD-eq-default}
+use lib.ListN.{length, getD}
 use lib.Seq.{getD-set-same, getD-set-other}
-use lib.IntN.{ℤ, pos, _+ℤ_, _*ℤ_}
+use lib.IntN.{ℤ, pos, natAbs, _+ℤ_, _*ℤ_}
 use mir.Syntax.{w64}
 use mir.Val.{SFits}
 use Rattle.lemmas.specs.Sums.{total}
-use Rattle.lemmas.proofs.Machine.{Near, near-add, near-call, near-fits}
+use Rattle.lemmas.proofs.Machine.{Near, near-lit, near-nat, near-add, near-mul, near-back, near-call, near-fits, near-size, near-as}
 use Rattle.lemmas.proofs.Whole.{ι, ν, _⊕_, _⊗_, eq-by}
-use Rattle.universe.specs.Universe.{mostAxes, longestSide}
+use Rattle.universe.specs.Universe.{mostAxes, longestSide, coefficientLimit}
 use Rattle.universe.proofs.Blocks.{given-length}
 use Rattle.csg.specs.Halfspace.{Halfspace, rowAt, rowCount, centreValue}
 use Rattle.csg.specs.Surfaces.{Surfaces, halfspace, ball}
 use Rattle.csg.specs.Marks.{surfaceColour}
-use Rattle.convert.specs.Small.{SmallPlace}
+use Rattle.convert.specs.Small.{SmallCoefficient, SmallPlace}
 use Rattle.pruned.proofs.Moving.{held}
 use Rattle.convert.specs.Blocks.{blockLeft, halvedSides, highLows}
 use Rattle.convert.specs.Shapes.{endLimit}
@@ -29,12 +28,13 @@ use Rattle.masks.proofs.Leaves.{total-one}
 use Rattle.masks.specs.Block.{blockMask}
 use Rattle.masks.specs.Shapes.{maskShape}
 use Rattle.masks.specs.Leaves.{valueLimit, stepLimit, rowMask}
-use Rattle.at_once.specs.Words.{wordLevels, WordBlock, wordBlock, stepAt, RowReady, termOf, firstValue, SmallTables, StepsOf, TreesWord}
+use Rattle.at_once.specs.Words.{wordLevels, doublingsOf, WordBlock, wordBlock, stepAt, RowReady, termOf, firstValue, RowNamed, StepsOf, TreesWord}
+use Rattle.at_once.specs.Moves.{PowerPlace, ValueOf, RightValues}
 use Rattle.at_once.specs.Both.{placesAlong}
 use Rattle.at_once.specs.Codes.{SameCodes}
 use Rattle.at_once.specs.Counting.{BlockJob, coloursOf}
 use Rattle.at_once.specs.Merged.{shapeOver, LaidShape, AtPlace, TextJob}
-use Rattle.at_once.proofs.RowValues.{step-small, first-centre}
+use Rattle.at_once.proofs.RowValues.{coefficient-near, first-centre}
 use Rattle.at_once.proofs.WordBlocks.{taken, low-small, row-named, within, value-near, row-ready, row-gives}
 use Rattle.at_once.proofs.Jobs.{put-same, trees-job, trees-are, axis-within, lower-job, upper-job}
 use Rattle.at_once.proofs.Layings.{word-text, word-laid, lower-place, upper-place, end-few, both-laid}
@@ -57,17 +57,59 @@ value-along h low axis half e l =
     around : (o t k : ℤ) → o +ℤ (t +ℤ k) ≡ o +ℤ t +ℤ k
     around o t k = eq-by (ι o ⊕ (ι t ⊕ ι k)) (ι o ⊕ ι t ⊕ ι k) (omega arith)
 
--- what it is more, as a step of tables that have one place
-pub one-table : {axis half : ℕ} → axis < mostAxes → SmallPlace half → SmallTables (axis ∷ []) (half ∷ [])
-one-table {axis} {half} l s = record { axis = axes; short = lengths }
-  where
-    axes : (j : ℕ) → j < wordLevels → getD (axis ∷ []) j 0 < mostAxes
-    axes zero m = l
-    axes (suc j) m = let e : length (axis ∷ []) ≤ suc j = omega arith in omega (arith, List·getD-eq-default (axis ∷ []) 0 e)
+-- ---- what it is more: twice the amount of its coefficient and the length
+module _ {rows : List ℤ} {i : ℕ} (row : RowNamed rows i) {axis half : ℕ} (l : axis < mostAxes) (short : SmallPlace half) where
+  abbrev coefficient : ℤ
+  coefficient = rowAt rows i .coefficient axis
 
-    lengths : (j : ℕ) → SmallPlace (getD (half ∷ []) j 0)
-    lengths zero = s
-    lengths (suc j) = let e : length (half ∷ []) ≤ suc j = omega arith in record { most = omega (arith, List·getD-eq-default (half ∷ []) 0 e) }
+  more-small : natAbs (pos 2 *ℤ coefficient *ℤ pos half) ≤ stepLimit
+  more-small =
+      near-mul {x = pos 2 *ℤ coefficient} {y = pos half}
+      (near-mul {x = pos 2} {y = coefficient} (near-lit (pos 2)) (record { same = refl; size = row .small .coefficient axis l .most }))
+      (near-nat half longestSide (short .most)) .size
+
+-- the amount, as the machine has it by the length's doublings, and twice it
+module _ {rows : List ℤ} {i : ℕ} (row : RowNamed rows i) {axis half : ℕ} (l : axis < mostAxes) (place : PowerPlace half) {times : ℕ}
+    (t : times ≡ doublingsOf half) where
+  abbrev read : ℤ
+  read = held (getD rows (5 * i + 1 + axis) (pos 0))
+
+  length-is : 2 ^ times ≡ half
+  length-is = ap (λ (n : ℕ). 2 ^ n) t ∙ sym (place .power)
+
+  pub amount-asks : SmallCoefficient read × ((times < 64) × SmallPlace (2 ^ times))
+  amount-asks =
+      let short : SmallPlace (2 ^ times) = record { most = omega (arith, length-is, place .short .most) } in
+      (record { most = near-size (coefficient-near row axis l) .most }, (omega (arith, t), short))
+
+  module _ {r : ℤ} (e : r ≡ read *ℤ pos (2 ^ times)) where
+    abbrev once : ℤ
+    once = rowAt rows i .coefficient axis *ℤ pos half
+
+    once-near : Near (held r) once (coefficientLimit * longestSide)
+    once-near =
+        near-call {x = once} (e ∙ ap (λ (n : ℕ). read *ℤ pos n) length-is)
+        (near-mul {x = rowAt rows i .coefficient axis} {y = pos half} (coefficient-near row axis l) (near-nat half longestSide (place .short .most))) tt
+
+    twice-near : Near (held r +ℤ held r) (pos 2 *ℤ rowAt rows i .coefficient axis *ℤ pos half) stepLimit
+    twice-near =
+        near-as {x = once +ℤ once} (near-add {x = once} {y = once} once-near once-near) (doubled (rowAt rows i .coefficient axis)) (omega arith)
+      where
+        doubled : (c : ℤ) → c *ℤ pos half +ℤ c *ℤ pos half ≡ pos 2 *ℤ c *ℤ pos half
+        doubled c = eq-by (ι c ⊗ ν half ⊕ ι c ⊗ ν half) (ν 2 ⊗ ι c ⊗ ν half) (omega arith)
+
+    pub twice-fits : SFits w64 (held r +ℤ held r)
+    twice-fits = near-fits {x = pos 2 *ℤ rowAt rows i .coefficient axis *ℤ pos half} twice-near tt
+
+    pub twice-is : held (held r +ℤ held r) ≡ pos 2 *ℤ rowAt rows i .coefficient axis *ℤ pos half
+    twice-is = near-back {x = pos 2 *ℤ rowAt rows i .coefficient axis *ℤ pos half} twice-near tt .same
+
+-- ---- the value of the code at a place
+pub value-here : {rows : List ℤ} {low codes : List ℕ} {from count : ℕ} {values : List ℤ} → RightValues rows low codes from count values →
+    {i : ℕ} → from ≤ i → i < from + count → ValueOf rows low values (getD codes i 0)
+value-here {rows} {low} {codes} {from} {count} {values} right {i} l m =
+    let e : from + (i - from) ≡ i = omega arith in
+    subst (λ (k : ℕ). ValueOf rows low values (getD codes k 0)) e (right .at-code (i - from) (omega arith))
 
 -- ---- both halves
 module _ {surfaces : Surfaces} {axes : ℕ} {table lengths low : List ℕ} {axis : ℕ} (half : ℕ)
@@ -87,7 +129,7 @@ module _ {surfaces : Surfaces} {axes : ℕ} {table lengths low : List ℕ} {axis
   pub along-fits : getD low axis 0 + half < 2 ^ 64
   along-fits = omega (arith, along-few)
 
-  pub half-small : SmallPlace half
+  half-small : SmallPlace half
   half-small = record { most = omega (arith, along-few) }
 
   -- a row's words
@@ -100,7 +142,7 @@ module _ {surfaces : Surfaces} {axes : ℕ} {table lengths low : List ℕ} {axis
 
     module _ {v : ℤ} (e : v ≡ firstValue h low) {steps : List ℤ} (s : StepsOf h table lengths steps) {m : ℤ} (f : m ≡ more) where
       more-near : Near (held m) more stepLimit
-      more-near = near-call {x = more} f (record { same = refl; size = step-small (row-named below i n) (one-table l half-small) 0 (lit< tt) }) tt
+      more-near = near-call {x = more} f (record { same = refl; size = more-small (row-named below i n) l half-small }) tt
 
       sum-near : Near (held v +ℤ held m) (centreValue (below .universe) h low +ℤ more) (valueLimit + stepLimit)
       sum-near = near-add {x = centreValue (below .universe) h low} {y = more} (value-near below i n e s) more-near

@@ -6,6 +6,7 @@ use mathlib.Core.Bool.{Bool, true, false}
 use mathlib.Core.List.{List}
 use native.Mathlib.Omega.{arith}
 use native.Mathlib.Nat.{mul-le-mul, mul-le-mul-right}
+use lib.IntN.{ℤ, pos}
 use lib.ListN.{length, replicate, length-replicate}
 use lib.Pow.{pow-mono}
 use lib.Seq.{sets}
@@ -20,13 +21,14 @@ use Rattle.bintree.specs.Shape.{Shape, symbols}
 use Rattle.bintree.specs.Walks.{noted}
 use Rattle.bintree.proofs.Shape.{length-symbols}
 use Rattle.bintree.proofs.Lays.{laid-noted}
+use Rattle.csg.specs.Halfspace.{mostRows}
 use Rattle.csg.specs.Surfaces.{Surfaces, named}
 use Rattle.csg.specs.Tree.{Tree, Plain}
 use Rattle.csg.specs.Words.{mostWords, treeOf}
 use Rattle.csg.specs.Marks.{treeColour}
 use Rattle.csg.specs.Raw.{raw, both}
 use Rattle.csg.proofs.Words.{accepted-length}
-use Rattle.convert.specs.Blocks.{Ready, treesOf, blockLeft, wholeSides}
+use Rattle.convert.specs.Blocks.{Ready, blockLeft, wholeSides}
 use Rattle.convert.specs.Shapes.{shaped}
 use Rattle.convert.specs.Answers.{twoTreesRefusal, writtenOfTwo}
 use Rattle.convert.proofs.Blocks.{whole-standing, whole-is}
@@ -36,12 +38,11 @@ use Rattle.masks.proofs.Block.{left-whole}
 use Rattle.masks.proofs.Shapes.{examined-voxels}
 use Rattle.pruned.specs.Left.{allColour}
 use Rattle.pruned.specs.Nodes.{two, mostShapes}
-use Rattle.pruned.specs.Laying.{SoundScene}
 use Rattle.pruned.proofs.Laying.{unpacked}
 use Rattle.pruned.specs.Looked.{examineAll}
 use Rattle.pruned.proofs.Looked.{two-stand, examine-all}
 use Rattle.pruned.proofs.Loads.{words-carried}
-use Rattle.pruned.proofs.Steps.{rows-few, balls-few}
+use Rattle.pruned.proofs.Steps.{rows-few, rows-small, balls-few}
 use Rattle.pruned.proofs.Conversions.{all-accepted}
 use Rattle.at_once.specs.Words.{Tabled}
 use Rattle.at_once.specs.Counting.{BlockJob}
@@ -49,6 +50,8 @@ use Rattle.at_once.specs.Whole.{mostCodes, bothTrees, BothJob, BothLoade
 use Rattle.at_once.specs.Merged.{shapeOver, LaidShape, AtPlace}
 use Rattle.at_once.specs.Raw.{rawOver, WrittenShape}
 use Rattle.at_once.specs.Conversions.{writtenOver, CodesReady, FewReady}
+use Rattle.at_once.specs.Moves.{ValuesAt}
+use Rattle.at_once.proofs.Moving.{begun-values}
 use Rattle.at_once.proofs.Layings.{shape-agree}
 
 -- ---- the checks, and local room for codes
@@ -116,16 +119,21 @@ module _ {u : Universe} {surfaces : Surfaces} {words₁ words₂ codes : List �
   once : total ≤ (levels u + 1) * total
   once = let h : 1 * total ≤ (levels u + 1) * total = mul-le-mul-right total (omega arith) in omega arith
 
-  pub both-job : {starts : List ℕ} → length starts ≡ mostShapes → BothJob words₁ words₂ codes starts
+  pub both-job : {starts : List ℕ} → length starts ≡ mostShapes →
+      BothJob (surfaces .rows) words₁ words₂ codes starts (replicate {A = ℤ} mostRows (pos 0))
   both-job shelf =
       record {
         names = named surfaces;
+        rows-are = refl;
+        small = rows-small {u = u} (record { accepted-universe = e; accepted-rows = m .ready .accepted-rows; accepted-balls = m .ready .accepted-balls });
         few-rows = rows-few u (surfaces .rows) (m .ready .accepted-rows);
         few-balls = balls-few u (surfaces .balls) (m .ready .accepted-balls);
         accepted-first = m .ready .accepted-first;
         accepted-second = m .ready .accepted-second;
         inside = omega (arith, once, m .enough);
+        bounded = omega (arith, m .bounded);
         starts-long = shelf;
+        values-long = length-replicate {A = ℤ} mostRows (pos 0);
       }
 
   module _ {left : ℕ} (l : left ≡ levelsAnswer u) where
@@ -141,8 +149,11 @@ module _ {u : Universe} {surfaces : Surfaces} {words₁ words₂ codes : List �
           fits = omega (arith, pow-mono {i = suc left} {j = suc mostLevels} (omega (arith, all-left, levels-few u (accepted u e))));
         }
 
-    module _ {table lengths side codes₁ starts starts₁ : List ℕ} (shelf : length starts ≡ mostShapes) (tabled : Tabled u table lengths)
-        (sides : side ≡ wholeSides u) (loaded : BothLoaded {codes = codes} {starts = starts} (both-job {starts = starts} shelf) codes₁ starts₁) where
+    module _ {table lengths side codes₁ starts starts₁ : List ℕ} {values₁ : List ℤ} (shelf : length starts ≡ mostShapes) (tabled : Tabled u table lengths)
+        (sides : side ≡ wholeSides u) (loaded : BothLoaded {codes = codes} {starts = starts} (both-job {starts = starts} shelf) codes₁ starts₁ values₁) where
+      pub whole-values : ValuesAt (surfaces .rows) (replicate mostAxes 0) codes₁ 0 total values₁ (replicate mostRows 0) 0
+      whole-values = begun-values (loaded .begun)
+
       pub whole-job : BlockJob surfaces (u .axes) table lengths (replicate mostAxes 0) side left codes₁ 0 total (left + 1)
       unfolding both-job
       whole-job =

@@ -39,9 +39,8 @@ use Rattle.masks.proofs.Ends.{seen-between, end-cong, end-white}
 use Rattle.masks.proofs.MaskEnds.{mask-ends}
 use Rattle.masks.proofs.Contacts.{contact-eq, contact-halves, contact-none, contact-mask}
 use Rattle.masks.proofs.OneColour.{white-contact, black-contact}
-use Rattle.at_once.specs.Words.{wordLevels}
 use Rattle.at_once.specs.Pruning.{PrunedCodes}
-use Rattle.at_once.specs.Counting.{BlockJob, coloursOf, contactOver, endOver, CountJob, PutBack, joinedContact}
+use Rattle.at_once.specs.Counting.{BlockJob, coloursOf, contactOver, CountJob, PutBack, joinedContact}
 use Rattle.at_once.specs.Counting.{BlackFrames, blackVoxels}
 use Rattle.at_once.proofs.Jobs.{frame-is, wide-is, frames-end, leftover, each-is, begin-is, end-is, prune-job, decided-white, decided-black, left-job}
 use Rattle.at_once.proofs.Jobs.{left-colours, left-suc, lower-block, upper-block, lower-job, lower-at}

@@ -2,7 +2,7 @@
 -- joined. It depends on the voxels' colours alone, and what is left of the trees over the block has them.
 use Prim.Native.Nat.{ℕ, zero, suc, _+_, _*_, _-_, _/_, _%_, _^_, _≤_, _<_}
 use mathlib.Core.Path.{_≡_, refl, sym, ap, ap₂, _∙_, subst}
-use mathlib.Core.Bool.{Bool, true, false}
+use mathlib.Core.Bool.{true}
 use mathlib.Core.List.{List}
 use native.Mathlib.Omega.{arith}
 use native.Mathlib.Nat.{pow-suc}
@@ -22,7 +22,7 @@ use Rattle.csg.specs.Surfaces.{Surfaces}
 use Rattle.csg.specs.Tree.{Plain}
 use Rattle.demands.specs.Voxels.{Colouring}
 use Rattle.convert.specs.Codes.{bitsOf}
-use Rattle.convert.specs.Blocks.{blockLeft, halvedSides, highLows}
+use Rattle.convert.specs.Blocks.{blockLeft, highLows}
 use Rattle.convert.specs.Shapes.{shaped, symbolOfBits, endLimit}
 use Rattle.convert.proofs.Shapes.{shaped-size}
 use Rattle.masks.specs.Block.{voxelAt, blockMask}
@@ -30,9 +30,8 @@ use Rattle.masks.specs.Shapes.{voxelShape, maskShape}
 use Rattle.masks.proofs.Block.{Left, mask-agree, mask-fits}
 use Rattle.masks.proofs.Shapes.{merged-mask, merged-one}
 use Rattle.pruned.specs.Left.{allMark}
-use Rattle.pruned.specs.Laying.{packedShape, joinedPacked, joinedOut}
+use Rattle.pruned.specs.Laying.{joinedPacked, joinedOut}
 use Rattle.pruned.proofs.Laying.{unpacked, joined}
-use Rattle.at_once.specs.Codes.{SameCodes}
 use Rattle.at_once.specs.Words.{wordLevels}
 use Rattle.at_once.specs.Pruning.{PrunedCodes}
 use Rattle.at_once.specs.Counting.{BlockJob, coloursOf, PutBack}

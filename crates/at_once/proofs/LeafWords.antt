@@ -1,11 +1,14 @@
 -- The word of a leaf by its code: 0 or all ones for a constant, a surface's word for its side, with the block's digits exchanged for one that is reversed.
-use mathlib.Core.Path.{_≡_, refl, sym, ap, ap₂, _∙_}
+use mathlib.Core.Path.{_≡_, refl, sym, ap, ap₂, _∙_, subst}
 use mathlib.Core.Bool.{Bool, true, false}
 use mathlib.Core.List.{List}
 use Prim.Native.Nat.{ℕ, _+_, _-_, _*_, _/_, _%_, _^_, _≤_, _<_}
 use native.Mathlib.Omega.{arith}
+use lib.Dec.{leb, ltb}
+use lib.IntN.{ℤ}
 use lib.ListN.{length}
-use Rattle.universe.specs.declared.Universe.{Universe}
+use borrow.Author.Tests.{leb-true, ltb-true, le-leb, lt-ltb}
+use Rattle.lemmas.proofs.Sums.{and-left, and-right}
 use Rattle.universe.specs.declared.Block.{Block}
 use Rattle.bintree.specs.declared.Colour.the-variants.{White, Black}
 use Rattle.csg.specs.Halfspace.{rowCount}
@@ -14,13 +17,35 @@ use Rattle.csg.specs.Surfaces.{Surfaces, Surface, halfspace, ball, Named, named
 use Rattle.csg.specs.Tree.{Plain, colour, side}
 use Rattle.csg.specs.Marks.{surfaceColour, sideColour, plainColour}
 use Rattle.demands.specs.Voxels.{Colouring}
-use Rattle.pruned.specs.Nodes.{Node, wordOf, bitOf, nodeCode, LeafOf, colour-leaf, side-leaf}
-use Rattle.pruned.proofs.Steps.{rows-few, balls-few}
+use Rattle.pruned.specs.Nodes.{Node, wordOf, bitOf, nodeCode, LeafOf, colour-leaf, side-leaf, firstBallSide}
+use Rattle.pruned.proofs.Steps.{rows-few}
 use Rattle.masks.specs.Mask.{allOnes}
 use Rattle.masks.specs.Block.{blockMask}
 use Rattle.masks.proofs.Block.{mask-fits}
 use Rattle.masks.proofs.Trees.{reversal-mask, white-mask, black-mask}
-use Rattle.at_once.specs.Words.{WordBlock, wordBlock, SurfaceWord, LeafWord}
+use Rattle.at_once.specs.Words.{wordBlock, SurfaceWord, LeafWord}
+use Rattle.at_once.specs.Values.{isRowSide}
+use Rattle.at_once.specs.Moves.{rowOf, RowValue, ValueOf}
+
+-- ---- the value of a leaf's row, by the code of either of the row's sides
+row-side : (code : ℕ) → 512 ≤ code → code < firstBallSide → isRowSide code ≡ true
+row-side code l m = rw (le-leb 512 code l, lt-ltb code firstBallSide m)
+
+pub side-value : {rows : List ℤ} {low : List ℕ} {values : List ℤ} {code : ℕ} → ValueOf rows low values code → ValueOf rows low values (2 * (code / 2))
+side-value {rows} {low} {values} {code} v = record { row = by }
+  where
+    by : isRowSide (2 * (code / 2)) ≡ true → RowValue rows low values (rowOf (2 * (code / 2)))
+    by e =
+        let l : 512 ≤ 2 * (code / 2) = leb-true _ _ (and-left (leb 512 (2 * (code / 2))) (ltb (2 * (code / 2)) firstBallSide) e) in
+        let m : 2 * (code / 2) < firstBallSide = ltb-true _ _ (and-right (leb 512 (2 * (code / 2))) (ltb (2 * (code / 2)) firstBallSide) e) in
+        let same : rowOf code ≡ rowOf (2 * (code / 2)) = omega arith in
+        subst (RowValue rows low values) same (v .row (row-side code (omega arith) (omega arith)))
+
+pub row-value : {rows : List ℤ} {low : List ℕ} {values : List ℤ} {name : ℕ} → ValueOf rows low values (2 * name) → 256 ≤ name → name < 512 →
+    RowValue rows low values (name - 256)
+row-value {rows} {low} {values} {name} v l m =
+    let same : rowOf (2 * name) ≡ name - 256 = omega arith in
+    subst (RowValue rows low values) same (v .row (row-side (2 * name) (omega arith) (omega arith)))
 
 -- ---- a surface by its name
 module _ {surfaces : Surfaces} {axes : ℕ} {table lengths low : List ℕ} {left name : ℕ} (job : SurfaceWord surfaces axes table lengths low left name) where

@@ -9,7 +9,7 @@ use borrow.Author.Tests.{leb-true, ltb-true, ltb-false, le-leb, le-ltb}
 use lib.Dec.{eqb, leb, ltb}
 use lib.IntN.{ℤ, pos, natAbs}
 use lib.Signed.{leZ}
-use lib.ListN.{length}
+use lib.ListN.{length, getD}
 use Rattle.lemmas.specs.Sums.{every}
 use Rattle.lemmas.proofs.Sums.{and-left, and-right, every-all}
 use Rattle.lemmas.proofs.Whole.{is-self, is-nat, is-eq}
@@ -17,7 +17,7 @@ use Rattle.lemmas.proofs.Machine.{natAbs-parts}
 use Rattle.universe.specs.declared.Universe.{Universe}
 use Rattle.universe.specs.declared.Block.{Block}
 use Rattle.universe.specs.Refusals.{badRows}
-use Rattle.universe.specs.Universe.{leastAxes, mostAxes, offsetLimit, coefficientLimit}
+use Rattle.universe.specs.Universe.{leastAxes, mostAxes, offsetLimit, coefficientLimit, levels}
 use Rattle.universe.proofs.Refusing.{unless-holds}
 use Rattle.csg.specs.Halfspace.{mostRows, rowLength, rowAt, rowCount, rowsRefusal, withinLimits, least, greatest}
 use Rattle.csg.specs.Ball.{ballAt}
@@ -32,7 +32,9 @@ use Rattle.pruned.proofs.Steps.{ok, rows-few, rows-small, standing-small, stepp
 use Rattle.pruned.proofs.Leaves.{row-leaf, white-told, black-told, row-told, ball-asks, ball-told}
 use Rattle.at_once.specs.Codes.{blockAt}
 use Rattle.at_once.specs.Values.{isRowSide, RowOver, RowFound}
+use Rattle.at_once.specs.Moves.{timesOf, rowOf, PowerPlace, RowStands, ValueOf}
 use Rattle.at_once.specs.Pruning.{marksOver, LeafJob, LeafJudged}
+use Rattle.at_once.proofs.Powers.{side-power}
 
 -- ---- a row that is not refused has coefficient 0 along an axis that the universe lacks
 whole-zero : (z : ℤ) → natAbs z ≤ 0 → z ≡ pos 0
@@ -55,6 +57,17 @@ module _ (u : Universe) (rows : List ℤ) (e : rowsRefusal u rows ≡ 0) (i : �
       let w = every-all mostAxes within (and-right offset (every mostAxes within) row-within) j q in
       whole-zero (rowAt rows i .coefficient j) (leb-true _ _ (rw (le-ltb j (u .axes) p) at w))
 
+-- ---- which leaf it is, by the tests of its code
+module _ (code : ℕ) where
+  pub from-row : isRowSide code ≡ true → 512 ≤ code
+  from-row e = leb-true 512 code (and-left (leb 512 code) (ltb code firstBallSide) e)
+
+  pub upto-ball : isRowSide code ≡ true → code < firstBallSide
+  upto-ball e = ltb-true code firstBallSide (and-right (leb 512 code) (ltb code firstBallSide) e)
+
+  pub from-ball : isRowSide code ≡ false → 512 ≤ code → firstBallSide ≤ code
+  from-ball e l = ltb-false code firstBallSide (sym (ap (λ (t : Bool). t && ltb code firstBallSide) (le-leb 512 code l)) ∙ e)
+
 -- ---- a leaf
 module _ {surfaces : Surfaces} {axes : ℕ} {low side : List ℕ} {code : ℕ} (job : LeafJob surfaces axes low side code) where
   abbrev b : Block
@@ -66,16 +79,6 @@ module _ {surfaces : Surfaces} {axes : ℕ} {low side : List ℕ} {code : ℕ} (
   few : rowCount (surfaces .rows) ≤ mostRows
   few = rows-few (job .at .universe) (surfaces .rows) (job .at .scene .accepted-rows)
 
-  -- which leaf it is, by the tests
-  pub from-row : isRowSide code ≡ true → 512 ≤ code
-  from-row e = leb-true 512 code (and-left (leb 512 code) (ltb code firstBallSide) e)
-
-  pub upto-ball : isRowSide code ≡ true → code < firstBallSide
-  upto-ball e = ltb-true code firstBallSide (and-right (leb 512 code) (ltb code firstBallSide) e)
-
-  pub from-ball : isRowSide code ≡ false → 512 ≤ code → firstBallSide ≤ code
-  from-ball e l = ltb-false code firstBallSide (sym (ap (λ (t : Bool). t && ltb code firstBallSide) (le-leb 512 code l)) ∙ e)
-
   pub white-judged : code ≡ 0 → LeafJudged job 2
   unfolding step-same stepping
   white-judged e = record { judged = white-told step (job .tree) (job .leaf) (job .stands) (job .code-is) refl refl e .0 }
@@ -84,30 +87,43 @@ module _ {surfaces : Surfaces} {axes : ℕ} {low side : List ℕ} {code : ℕ} (
   unfolding step-same stepping
   black-judged h z = record { judged = black-told step (job .tree) (job .leaf) (job .stands) (job .code-is) refl refl h z .0 }
 
-  -- a halfspace
-  module _ (from : 512 ≤ code) (upto : code < firstBallSide) where
+  -- a halfspace, whose row a call told
+  module _ (here : isRowSide code ≡ true) {row : ℕ} (row-is : row ≡ rowOf code) where
+    from : 512 ≤ code
+    from = from-row code here
+
+    upto : code < firstBallSide
+    upto = upto-ball code here
+
     found : (turned : Bool) × (i : ℕ) × (i < rowCount (surfaces .rows)) × (job .tree ≡ Plain.side turned (halfspace i))
         × (job .leaf ≡ ofSide turned (halfspace i)) × ((nodeCode (job .leaf) - 512) / 2 ≡ i) × (eqb (nodeCode (job .leaf) % 2) 1 ≡ turned)
     found = row-leaf few (job .stands) (rw (job .code-is) at from) (rw (job .code-is) at upto)
 
-    index-is : code / 2 - 256 ≡ found .1
-    index-is = let e : code / 2 - 256 ≡ (code - 512) / 2 = omega arith in e ∙ ap (λ (k : ℕ). (k - 512) / 2) (job .code-is) ∙ found .5
+    index-is : row ≡ found .1
+    index-is =
+        let e : code / 2 - 256 ≡ (code - 512) / 2 = omega (arith, from) in
+        row-is ∙ e ∙ ap (λ (k : ℕ). (k - 512) / 2) (job .code-is) ∙ found .5
 
-    there : code / 2 - 256 < rowCount (surfaces .rows)
+    there : row < rowCount (surfaces .rows)
     there = rw index-is (found .2)
 
-    pub row-over : RowOver (surfaces .rows) (code / 2 - 256) low side
+    row-over : RowOver (surfaces .rows) row low side
     row-over =
         record {
           block = b;
           named = there;
-          small = rows-small (job .at .scene) (code / 2 - 256) there;
+          small = rows-small (job .at .scene) row there;
           few-axes = ok (job .at .scene) .few-axes;
-          beyond = beyond-axes (job .at .universe) (surfaces .rows) (job .at .scene .accepted-rows) (code / 2 - 256) there;
+          beyond = beyond-axes (job .at .universe) (surfaces .rows) (job .at .scene .accepted-rows) row there;
           begins = λ j m. refl;
           along = job .at .standing .along;
           places = job .at .standing .inside;
         }
+
+    powers : (j : ℕ) → j < job .at .universe .axes → PowerPlace (getD side j 0)
+    powers j l =
+        side-power (job .at .universe) (levels (job .at .universe) - job .left) j (job .at .standing .along j l)
+        (omega (arith, job .at .standing .inside j .most))
 
     own : turnedCode (eqb (code % 2) 1) (valueCode false (leastOf surfaces b (job .leaf)) (greatestOf surfaces b (job .leaf)))
         ≡ leftBits (leftBy (marksOver surfaces b) (job .tree))
@@ -116,25 +132,36 @@ module _ {surfaces : Surfaces} {axes : ℕ} {low side : List ℕ} {code : ℕ} (
         let t = row-told step (job .tree) (job .leaf) (job .stands) (job .code-is) refl refl from upto refl refl refl refl refl in
         sym (ap₂ (λ (p q : ℤ). turnedCode (eqb (code % 2) 1) (valueCode false p q)) (t .1) (t .2)) ∙ t .0
 
-    module _ {x y : ℤ} (v : RowFound row-over x y) where
-      small : SmallExtreme x × SmallExtreme y
+    module _ {values : List ℤ} (value : ValueOf (surfaces .rows) low values code) {times : List ℕ} (times-are : times ≡ timesOf side) where
+      pub row-stands : RowStands (surfaces .rows) row values times
       unfolding row-over
-      small =
-          rw (v .least-is, v .greatest-is)
-          (standing-small (ok (job .at .scene) .few-axes) (job .at .standing) (rowAt (surfaces .rows) (code / 2 - 256))
-          (rows-small (job .at .scene) (code / 2 - 256) there))
+      row-stands =
+          record { low = low; side = side; over = row-over; powers = powers; times-are = times-are; value = rw row-is (value .row here) }
 
-      values : (x ≡ leastOf surfaces b (job .leaf)) × (y ≡ greatestOf surfaces b (job .leaf))
-      unfolding row-over
-      values = (
-        v .least-is ∙ ap (λ (k : ℕ). least (rowAt (surfaces .rows) k) b) index-is ∙ ap (leastOf surfaces b) (sym (found .4)),
-        v .greatest-is ∙ ap (λ (k : ℕ). greatest (rowAt (surfaces .rows) k) b) index-is ∙ ap (greatestOf surfaces b) (sym (found .4)),
-      )
+      -- what a call found
+      module _ {x y : ℤ} (tells : (stands : RowStands (surfaces .rows) row values times) → RowFound (stands .over) x y) where
+        v : RowFound row-over x y
+        unfolding row-over row-stands
+        v = tells row-stands
 
-      pub row-judged : {judged : ℕ} → judged ≡ turnedCode (eqb (code % 2) 1) (testedCode (leZ (pos 0) (held x)) (leZ (held y) (pos 0))) → LeafJudged job judged
-      row-judged r =
-          let k = block-code (small .0) (small .1) refl refl refl ∙ ap₂ (valueCode false) (values .0) (values .1) in
-          record { judged = r ∙ ap (turnedCode (eqb (code % 2) 1)) k ∙ own }
+        small : SmallExtreme x × SmallExtreme y
+        unfolding row-over
+        small =
+            rw (v .least-is, v .greatest-is)
+            (standing-small (ok (job .at .scene) .few-axes) (job .at .standing) (rowAt (surfaces .rows) row) (rows-small (job .at .scene) row there))
+
+        ends-are : (x ≡ leastOf surfaces b (job .leaf)) × (y ≡ greatestOf surfaces b (job .leaf))
+        unfolding row-over
+        ends-are = (
+          v .least-is ∙ ap (λ (k : ℕ). least (rowAt (surfaces .rows) k) b) index-is ∙ ap (leastOf surfaces b) (sym (found .4)),
+          v .greatest-is ∙ ap (λ (k : ℕ). greatest (rowAt (surfaces .rows) k) b) index-is ∙ ap (greatestOf surfaces b) (sym (found .4)),
+        )
+
+        pub row-judged : {judged : ℕ} → judged ≡ turnedCode (eqb (code % 2) 1) (testedCode (leZ (pos 0) (held x)) (leZ (held y) (pos 0))) →
+            LeafJudged job judged
+        row-judged r =
+            let k = block-code (small .0) (small .1) refl refl refl ∙ ap₂ (valueCode false) (ends-are .0) (ends-are .1) in
+            record { judged = r ∙ ap (turnedCode (eqb (code % 2) 1)) k ∙ own }
 
   -- a ball
   module _ (from : firstBallSide ≤ code) where

@@ -1,9 +1,12 @@
--- The lengths of the halves of blocks, by the levels left: along the axis of a halving they are twice those of the halving before it across that axis.
+-- The lengths of the halves of blocks, by the levels left: along the axis of a halving they are twice those of the halving before it across that axis. So
+-- they are powers of two; those beyond the universe's levels stay 1, which is one too.
 use Prim.Native.Nat.{ℕ, zero, suc, _+_, _*_, _-_, _^_, _≤_, _<_, min}
 use mathlib.Core.Path.{_≡_, refl, sym, ap, _∙_}
 use mathlib.Core.List.{List}
 use native.Mathlib.Omega.{arith}
+use native.Mathlib.Nat.{mod-eq-of-lt}
 use native.Mathlib.Decide.{ℕ-discrete}
+use lib.Count.{trailingZeros}
 use lib.ListN.{length, getD, set, replicate, length-set}
 use lib.Pow.{pow-mono}
 use lib.Seq.{getD-set-same, getD-set-other}
@@ -13,14 +16,21 @@ use Rattle.universe.specs.Questions.{axesLeft, levelsAnswer}
 use Rattle.universe.proofs.Universes.{Accepted, accepted, levels-few, axis-below, side-few, side-last, side-halved, side-kept}
 use Rattle.universe.proofs.Questions.{levels-told, axes-left-at}
 use Rattle.convert.specs.Small.{SmallPlace}
-use Rattle.convert.proofs.Blocks.{zeros}
+use Rattle.pruned.proofs.Doublings.{times-few, power-is}
 use Rattle.masks.specs.Steps.{axisLeft, sideLeft}
 use Rattle.at_once.specs.declared.answer.Span as spans
-use Rattle.at_once.specs.Words.{wordLevels, Tabled}
+use Rattle.at_once.specs.Words.{wordLevels, doublingsOf, Tabled}
 
 side-short : (u : Universe) → Accepted u → (l i : ℕ) → blockSide u l i ≤ longestSide
 unfolding blockSide
 side-short u a l i = omega (arith, pow-mono {i = bitsAlong u i - halvings u l i} {j = bitsAlong u i} (omega arith), side-few u a i)
+
+-- 1 doubled as often as there are zeros behind its digit
+pub side-power : (u : Universe) → Accepted u → (l i : ℕ) {side : ℕ} → side ≡ blockSide u l i → side ≡ 2 ^ doublingsOf side
+side-power u a l i {side} e =
+    let short : side ≤ longestSide = rw e (side-short u a l i) in
+    let few : doublingsOf side ≡ trailingZeros 64 side = mod-eq-of-lt (times-few u l i e short refl) in
+    sym (ap (λ (k : ℕ). 2 ^ k) few ∙ power-is u l i e short refl)
 
 -- the lengths so far, and those of a block with so many levels left along every axis
 pub record SoFar (u : Universe) (table lengths side : List ℕ) (stop left : ℕ) : Type 0 where
@@ -33,11 +43,21 @@ pub record SoFar (u : Universe) (table lengths side : List ℕ) (stop left : ℕ
   pub done : (j : ℕ) → j < left → getD lengths j 0 ≡ sideLeft u j
   pub along : (i : ℕ) → i < u .axes → getD side i 0 ≡ blockSide u (levels u - left) i
   pub short : (j : ℕ) → SmallPlace (getD lengths j 0)
+  pub power : (j : ℕ) → j < wordLevels → getD lengths j 0 ≡ 2 ^ doublingsOf (getD lengths j 0)
 
 ones-everywhere : (n i : ℕ) → i < n → _≡_ {A = ℕ} (getD (replicate n 1) i 0) 1
 ones-everywhere zero i h = absurd (omega arith)
 ones-everywhere (suc n) zero h = refl
 ones-everywhere (suc n) (suc i) h = ones-everywhere n i (omega arith)
+
+ones-few : (n i : ℕ) → getD (replicate n 1) i 0 ≤ 1
+ones-few zero i = omega arith
+ones-few (suc n) zero = omega arith
+ones-few (suc n) (suc i) = ones-few n i
+
+one-power : _≡_ {A = ℕ} 1 (2 ^ doublingsOf 1)
+unfolding trailingZeros
+one-power = refl
 
 -- of any universe with that table
 abbrev pub SoFarOfAny : List ℕ → List ℕ → List ℕ → ℕ → ℕ → Type 0
@@ -48,7 +68,7 @@ pub stop-told : (u : Universe) {stop told : ℕ} → universeRefusal u ≡ 0 →
     stop ≡ min (levels u) wordLevels
 stop-told u e l s = s ∙ ap (λ (n : ℕ). min n wordLevels) (levels-told u refl e l)
 
-pub lengths-begin : (table : List ℕ) (stop : ℕ) → SoFarOfAny table (replicate wordLevels 0) (replicate mostAxes 1) stop 0
+pub lengths-begin : (table : List ℕ) (stop : ℕ) → SoFarOfAny table (replicate wordLevels 1) (replicate mostAxes 1) stop 0
 lengths-begin table stop u e t s =
     let a = accepted u e in
     record {
@@ -60,7 +80,8 @@ lengths-begin table stop u e t s =
       sides = refl;
       done = λ j h. absurd (omega arith);
       along = λ i h. let z : levels u - 0 ≡ levels u = omega arith in rw z (ones-everywhere mostAxes i (omega (arith, a .few-axes)) ∙ sym (side-last u i h));
-      short = λ j. record { most = omega (arith, zeros wordLevels j) };
+      short = λ j. record { most = omega (arith, ones-few wordLevels j) };
+      power = λ j h. rw (ones-everywhere wordLevels j h) one-power;
     }
 
 module _ {u : Universe} {table lengths side : List ℕ} {stop left : ℕ} (s : SoFar u table lengths side stop left) where
@@ -73,6 +94,7 @@ module _ {u : Universe} {table lengths side : List ℕ} {stop left : ℕ} (s : S
         axis-at = s .table-is;
         length-at = λ j few here. s .done j (omega (arith, s .stop-is, s .reached));
         short = s .short;
+        power = s .power;
       }
 
   module _ (h : left < stop) where
@@ -121,6 +143,13 @@ module _ {u : Universe} {table lengths side : List ℕ} {stop left : ℕ} (s : S
         }
     short-next j (no d) = rw (getD-set-other lengths left j (getD side axis 0) 0 d) (s .short j)
 
+    power-next : (j : ℕ) → j < wordLevels → Dec (j ≡ left) →
+        getD (set lengths left (getD side axis 0)) j 0 ≡ 2 ^ doublingsOf (getD (set lengths left (getD side axis 0)) j 0)
+    power-next j k (yes e) =
+        rw (e, getD-set-same lengths left (getD side axis 0) 0 (omega (arith, s .places, word-place)))
+        (side-power u a (levels u - left) (axisLeft u left) length-is)
+    power-next j k (no d) = rw (getD-set-other lengths left j (getD side axis 0) 0 d) (s .power j k)
+
     along-next : (i : ℕ) → i < u .axes → Dec (i ≡ axis) → getD (set side axis (2 * getD side axis 0)) i 0 ≡ blockSide u level i
     along-next i k (yes e) =
         rw e
@@ -151,4 +180,5 @@ module _ {u : Universe} {table lengths side : List ℕ} {stop left : ℕ} (s : S
           done = λ j k. done-next j k (ℕ-discrete j left);
           along = λ i k. rw e (along-next i k (ℕ-discrete i axis));
           short = λ j. short-next j (ℕ-discrete j left);
+          power = λ j k. power-next j k (ℕ-discrete j left);
         }

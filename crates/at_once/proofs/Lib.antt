@@ -1,11 +1,11 @@
 -- Laws of answers at once.
+pub mod Powers
 pub mod Values
 pub mod Leaves
 pub mod Rooms
 pub mod Pruning
 pub mod Turning
 pub mod Loading
-pub mod Carrying
 pub mod Shifts
 pub mod Halvings
 pub mod WordEnds
@@ -26,6 +26,8 @@ pub mod OwnRows
 pub mod OwnLeaves
 pub mod Threes
 pub mod Jobs
+pub mod Rounds
+pub mod Moving
 pub mod Counting
 pub mod Betters
 pub mod Tallies

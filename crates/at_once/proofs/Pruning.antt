@@ -3,10 +3,11 @@
 use Prim.Native.Nat.{ℕ, suc, _+_, _-_, _≤_, _<_}
 use native.Mathlib.Omega.{arith}
 use native.Mathlib.Numerals.{add-one}
-use mathlib.Core.Path.{_≡_, refl, sym, ap, ap₂, _∙_}
+use mathlib.Core.Path.{_≡_, refl, sym, ap, ap₂, _∙_, subst}
 use mathlib.Core.Bool.{Bool, true, false, cond, false≢true}
 use mathlib.Core.List.{List, [], _∷_, _++_, append-assoc, append-nil}
 use lib.Dec.{eqb}
+use lib.IntN.{ℤ}
 use lib.ListN.{length, getD, set, length-append, length-set}
 use Rattle.universe.specs.declared.Block.{Block}
 use Rattle.bintree.specs.declared.Colour.the-variants.{White, Black}
@@ -22,6 +23,7 @@ use Rattle.pruned.proofs.Pruning.{bits-join, left-join, leaf-left, written, sta
 use Rattle.pruned.proofs.Reading.{Reads, ended, pushed, joined, leaf-code, join-code, lastFirst, reads-all}
 use Rattle.pruned.proofs.Stacks.{stackOf, length-stack, stack-push, stack-last, stack-two, stack-joined}
 use Rattle.at_once.specs.Codes.{HoldsCodes, no-code, code, SameCodes, blockAt}
+use Rattle.at_once.specs.Moves.{ValueOf, RightValues}
 use Rattle.at_once.specs.Pruning.{marksOver, LeafJob, LeafJudged, PruneJob, PrunedCodes}
 use Rattle.at_once.proofs.Rooms.{stored-behind, codes-front, codes-more, same-itself, same-stored}
 
@@ -155,6 +157,13 @@ module _ {surfaces : Surfaces} {axes : ℕ} {low side codes : List ℕ} {from co
 
         abbrev read : ℕ
         read = getD now i 0
+
+        -- it is read as it was, so that the value of its row is carried
+        pub leaf-value : {rows values : List ℤ} → RightValues rows low codes from count values → ValueOf rows low values read
+        leaf-value {rows} {values} at =
+            let e : from + (i - from) ≡ i = omega (arith, g .begun) in
+            let k : getD codes (from + (i - from)) 0 ≡ read = ap (λ (p : ℕ). getD codes p 0) e ∙ sym (g .below .same i h) in
+            subst (ValueOf rows low values) k (at .at-code (i - from) (omega (arith, g .begun)))
 
         -- the codes to come are not met by what is stored
         coming-kept : (ns : List Node) → suc i + length ns ≡ from + count → HoldsCodes now (suc i) ns → HoldsCodes (set now end read) (suc i) ns

@@ -1,26 +1,31 @@
--- A row's value at the centre of a block's first voxel and its steps, as the machine computes them: four terms and six products, none of which overflows.
-use mathlib.Core.Path.{_≡_, refl, ap, _∙_}
+-- A row's value at the centre of a block's first voxel, from the value at its low end that is carried, and its steps, as the machine computes them: sums of
+-- small numbers and coefficients doubled, none of which overflows.
+use mathlib.Core.Path.{_≡_, refl, sym, ap, _∙_}
 use mathlib.Core.Bool.{Bool, true, cond}
 use mathlib.Core.List.{List, [], _∷_}
-use Prim.Native.Nat.{ℕ, zero, suc, _+_, _-_, _*_, _≤_, _<_}
+use Prim.Native.Nat.{ℕ, zero, suc, _+_, _-_, _*_, _^_, _≤_, _<_}
 use native.Mathlib.Omega.{arith}
+use native.Mathlib.Nat.{mul-le-mul}
 use lib.Dec.{leb, ltb, lit<}
 use lib.ListN.{getD, List·getD-eq-default}
 use lib.IntN.{ℤ, pos, negsuc, natAbs, _+ℤ_, _*ℤ_, +ℤ-idr}
 use borrow.Author.Tests.{leb-true, le-ltb}
 use mir.Syntax.{w64}
-use mir.Val.{SFits, toZ}
+use mir.Val.{SFits}
 use Rattle.lemmas.specs.Sums.{total, every}
 use Rattle.lemmas.proofs.Sums.{and-right, every-all}
-use Rattle.lemmas.proofs.Machine.{Near, near, near-lit, near-nat, near-cast, near-add, near-mul, near-back, near-call, near-fits, near-as}
+use Rattle.lemmas.proofs.Machine.{Near, near, near-lit, near-nat, near-add, near-mul, near-back, near-call, near-fits, near-as, near-size}
+use Rattle.lemmas.proofs.Machine.{size-add, size-mul}
 use Rattle.lemmas.proofs.Whole.{ι, ν, _⊕_, _⊗_, eq-by}
 use Rattle.universe.specs.declared.Universe.{Universe}
 use Rattle.universe.specs.Universe.{mostAxes, longestSide, offsetLimit, coefficientLimit}
 use Rattle.csg.specs.Halfspace.{Halfspace, rowAt, withinLimits, centreValue}
-use Rattle.convert.specs.Small.{SmallPlaces}
+use Rattle.convert.specs.Small.{SmallCoefficient, SmallPlace, SmallHalfspace, SmallPlaces}
 use Rattle.pruned.proofs.Moving.{held}
 use Rattle.masks.specs.Leaves.{stepLimit}
-use Rattle.at_once.specs.Words.{wordLevels, stepAt, termOf, firstValue, stepOf, RowNamed, SmallTables, StepsOf}
+use Rattle.at_once.specs.Words.{wordLevels, doublingsOf, stepAt, termOf, firstValue, stepOf, RowNamed, SmallTables, StepsOf}
+use Rattle.at_once.specs.Values.{alongOf}
+use Rattle.at_once.specs.Moves.{lowValue, lowLimit, RowPlaced}
 
 abbrev pub termLimit : ℕ
 termLimit = 2 * (coefficientLimit * longestSide) + coefficientLimit
@@ -74,8 +79,44 @@ module _ {g : ℕ → ℤ} (small : FourSmall g) {a b c d : ℤ} (p : a ≡ g 0)
 pub total-near : {g : ℕ → ℤ} → FourSmall g → {t : ℤ} → t ≡ total mostAxes g → Near (held t) (total mostAxes g) (4 * termLimit)
 total-near {g} small e = near-call {x = total mostAxes g} e (record { same = refl; size = four-near small refl refl refl refl .size }) tt
 
-twice-and-once : (a : ℤ) (k : ℕ) → pos 2 *ℤ (a *ℤ pos k) +ℤ a ≡ a *ℤ pos (2 * k + 1)
-twice-and-once a k = eq-by (ν 2 ⊗ (ι a ⊗ ν k) ⊕ ι a) (ι a ⊗ ν (2 * k + 1)) (omega arith)
+-- ---- a row's value at the low end of a block
+-- what an axis gives at the most
+abbrev share : ℕ
+share = coefficientLimit * longestSide
+
+module _ {h : Halfspace} {low : List ℕ} (small : SmallHalfspace h) (lows : SmallPlaces low) where
+  part-near : (j : ℕ) → j < mostAxes → Near (alongOf h low j) (alongOf h low j) share
+  part-near j l = record {
+    same = refl;
+    size = rw (size-mul (h .coefficient j) (pos (getD low j 0))) (mul-le-mul (small .coefficient j l .most) (lows .place j .most));
+  }
+
+  total-of-parts : Near (total mostAxes (alongOf h low)) (total mostAxes (alongOf h low)) (0 + share + share + share + share)
+  unfolding total
+  total-of-parts =
+      near-add (near-add (near-add (near-add (near-lit (pos 0)) (part-near 0 (lit< tt))) (part-near 1 (lit< tt))) (part-near 2 (lit< tt)))
+      (part-near 3 (lit< tt))
+
+  pub low-few : natAbs (lowValue h low) ≤ lowLimit
+  low-few = omega (arith, size-add (h .offset) (total mostAxes (alongOf h low)), small .offset, total-of-parts .size)
+
+-- twice it and the coefficients: twice the value half a place further along each axis
+twice-low : (h : Halfspace) (low : List ℕ) → lowValue h low +ℤ lowValue h low +ℤ total mostAxes (h .coefficient) ≡ firstValue h low
+unfolding firstValue total
+twice-low h low =
+    from (h .offset) (h .coefficient 0) (h .coefficient 1) (h .coefficient 2) (h .coefficient 3)
+    (getD low 0 0) (getD low 1 0) (getD low 2 0) (getD low 3 0)
+  where
+    from : (o a b c d : ℤ) (p q r s : ℕ) →
+        o +ℤ (pos 0 +ℤ a *ℤ pos p +ℤ b *ℤ pos q +ℤ c *ℤ pos r +ℤ d *ℤ pos s) +ℤ (o +ℤ (pos 0 +ℤ a *ℤ pos p +ℤ b *ℤ pos q +ℤ c *ℤ pos r +ℤ d *ℤ pos s))
+        +ℤ (pos 0 +ℤ a +ℤ b +ℤ c +ℤ d)
+        ≡ pos 2 *ℤ o
+        +ℤ (pos 0 +ℤ a *ℤ pos (2 * p + 1) +ℤ b *ℤ pos (2 * q + 1) +ℤ c *ℤ pos (2 * r + 1) +ℤ d *ℤ pos (2 * s + 1))
+    from o a b c d p q r s =
+        let parts = ν 0 ⊕ ι a ⊗ ν p ⊕ ι b ⊗ ν q ⊕ ι c ⊗ ν r ⊕ ι d ⊗ ν s in
+        eq-by (ι o ⊕ parts ⊕ (ι o ⊕ parts) ⊕ (ν 0 ⊕ ι a ⊕ ι b ⊕ ι c ⊕ ι d))
+        (ν 2 ⊗ ι o ⊕ (ν 0 ⊕ ι a ⊗ ν (2 * p + 1) ⊕ ι b ⊗ ν (2 * q + 1) ⊕ ι c ⊗ ν (2 * r + 1) ⊕ ι d ⊗ ν (2 * s + 1)))
+        (omega arith)
 
 module _ {rows : List ℤ} {i : ℕ} (row : RowNamed rows i) where
   abbrev h : Halfspace
@@ -93,33 +134,52 @@ module _ {rows : List ℤ} {i : ℕ} (row : RowNamed rows i) where
     abbrev axis : ℕ
     axis = getD table j 0
 
-    doubled-near : Near (pos 2 *ℤ held (getD rows (5 * i + 1 + axis) (pos 0))) (pos 2 *ℤ h .coefficient axis) (2 * coefficientLimit)
-    doubled-near = near-mul {x = pos 2} {y = h .coefficient axis} (near-lit (pos 2)) (coefficient-near axis (tables .axis j l))
-
-    pub doubled-fits : SFits w64 (pos 2 *ℤ held (getD rows (5 * i + 1 + axis) (pos 0)))
-    doubled-fits = near-fits {x = pos 2 *ℤ h .coefficient axis} doubled-near tt
-
-    pub length-fits : SFits w64 (pos (getD lengths j 0))
-    length-fits = near-fits (near-nat (getD lengths j 0) longestSide (tables .short j .most)) tt
-
-    step-near : Near (held (pos 2 *ℤ held (getD rows (5 * i + 1 + axis) (pos 0))) *ℤ toZ w64 (getD lengths j 0)) (stepOf h table lengths j) stepLimit
-    step-near =
+    pub step-small : natAbs (stepOf h table lengths j) ≤ stepLimit
+    step-small =
         near-mul {x = pos 2 *ℤ h .coefficient axis} {y = pos (getD lengths j 0)}
-        (near-back {x = pos 2 *ℤ h .coefficient axis} doubled-near tt)
-        (near-cast (getD lengths j 0) longestSide (tables .short j .most) tt)
+        (near-mul {x = pos 2} {y = h .coefficient axis} (near-lit (pos 2)) (coefficient-near axis (tables .axis j l)))
+        (near-nat (getD lengths j 0) longestSide (tables .short j .most)) .size
 
-    pub step-product : SFits w64 (held (pos 2 *ℤ held (getD rows (5 * i + 1 + axis) (pos 0))) *ℤ toZ w64 (getD lengths j 0))
-    step-product = near-fits {x = stepOf h table lengths j} step-near tt
+    module _ {times : ℕ} (told : times ≡ doublingsOf (getD lengths j 0)) where
+      length-is : 2 ^ times ≡ getD lengths j 0
+      length-is = ap (λ (k : ℕ). 2 ^ k) told ∙ sym (tables .power j l)
 
-    pub step-is : held (held (pos 2 *ℤ held (getD rows (5 * i + 1 + axis) (pos 0))) *ℤ toZ w64 (getD lengths j 0)) ≡ stepOf h table lengths j
-    step-is = near-back {x = stepOf h table lengths j} step-near tt .same
+      pub small-read : SmallCoefficient (held (getD rows (5 * i + 1 + axis) (pos 0)))
+      small-read = record { most = near-size (coefficient-near axis (tables .axis j l)) .most }
+
+      pub few-times : times < 64
+      few-times = omega (arith, told)
+
+      pub short-length : SmallPlace (2 ^ times)
+      short-length = rw length-is (tables .short j)
+
+      module _ {once : ℤ} (e : once ≡ held (getD rows (5 * i + 1 + axis) (pos 0)) *ℤ pos (2 ^ times)) where
+        abbrev product : ℤ
+        product = h .coefficient axis *ℤ pos (getD lengths j 0)
+
+        once-near : Near (held once) product share
+        once-near =
+            near-call {x = product} (e ∙ ap (λ (k : ℕ). held (getD rows (5 * i + 1 + axis) (pos 0)) *ℤ pos k) length-is)
+            (near-mul {x = h .coefficient axis} {y = pos (getD lengths j 0)} (coefficient-near axis (tables .axis j l))
+            (near-nat (getD lengths j 0) longestSide (tables .short j .most))) tt
+
+        twice-near : Near (held once +ℤ held once) (stepOf h table lengths j) (2 * share)
+        twice-near =
+            near-as {x = product +ℤ product} (near-add {x = product} {y = product} once-near once-near)
+            (from (h .coefficient axis) (getD lengths j 0)) (omega arith)
+          where
+            from : (a : ℤ) (k : ℕ) → a *ℤ pos k +ℤ a *ℤ pos k ≡ pos 2 *ℤ a *ℤ pos k
+            from a k = eq-by (ι a ⊗ ν k ⊕ ι a ⊗ ν k) (ν 2 ⊗ ι a ⊗ ν k) (omega arith)
+
+        pub step-fits : SFits w64 (held once +ℤ held once)
+        step-fits = near-fits {x = stepOf h table lengths j} twice-near tt
+
+        pub step-is : held (held once +ℤ held once) ≡ stepOf h table lengths j
+        step-is = near-back {x = stepOf h table lengths j} twice-near tt .same
 
     -- a call's result
     step-held : {s : ℤ} → s ≡ stepOf h table lengths j → Near (held s) (stepOf h table lengths j) stepLimit
-    step-held e = near-call {x = stepOf h table lengths j} e (record { same = refl; size = step-near .size }) tt
-
-    pub step-small : natAbs (stepOf h table lengths j) ≤ stepLimit
-    step-small = step-near .size
+    step-held e = near-call {x = stepOf h table lengths j} e (record { same = refl; size = step-small }) tt
 
   module _ {table lengths : List ℕ} (tables : SmallTables table lengths) {s₀ s₁ s₂ s₃ s₄ s₅ : ℤ}
       (e₀ : s₀ ≡ stepOf h table lengths 0) (e₁ : s₁ ≡ stepOf h table lengths 1) (e₂ : s₂ ≡ stepOf h table lengths 2)
@@ -140,72 +200,58 @@ module _ {rows : List ℤ} {i : ℕ} (row : RowNamed rows i) where
     steps-are = record { step = each; beyond = λ j l. List·getD-eq-default six (pos 0) l }
 
   -- ---- the value
-  module _ {low : List ℕ} (lows : SmallPlaces low) where
-    module _ (axis : ℕ) (l : axis < mostAxes) where
-      abbrev read-here : ℤ
-      read-here = held (getD rows (5 * i + 1 + axis) (pos 0))
+  coefficients-small : FourSmall (h .coefficient)
+  coefficients-small = record { few = λ j l. omega (arith, row .small .coefficient j l .most) }
 
-      begin-near : Near (read-here *ℤ toZ w64 (getD low axis 0)) (h .coefficient axis *ℤ pos (getD low axis 0)) (coefficientLimit * longestSide)
-      begin-near =
-          near-mul {x = h .coefficient axis} {y = pos (getD low axis 0)}
-          (coefficient-near axis l)
-          (near-cast (getD low axis 0) longestSide (lows .place axis .most) tt)
+  abbrev c₀ : ℤ
+  c₀ = getD rows (5 * i + 1) (pos 0)
 
-      twice-near : Near (pos 2 *ℤ held (read-here *ℤ toZ w64 (getD low axis 0))) (pos 2 *ℤ (h .coefficient axis *ℤ pos (getD low axis 0)))
-          (2 * (coefficientLimit * longestSide))
-      twice-near =
-          near-mul {x = pos 2} {y = h .coefficient axis *ℤ pos (getD low axis 0)} (near-lit (pos 2))
-          (near-back {x = h .coefficient axis *ℤ pos (getD low axis 0)} begin-near tt)
+  abbrev c₁ : ℤ
+  c₁ = getD rows (5 * i + 2) (pos 0)
 
-      abbrev sum-here : ℤ
-      sum-here = held (pos 2 *ℤ held (read-here *ℤ toZ w64 (getD low axis 0))) +ℤ read-here
+  abbrev c₂ : ℤ
+  c₂ = getD rows (5 * i + 3) (pos 0)
 
-      term-near : Near sum-here (termOf h low axis) termLimit
-      term-near =
-          near-as {x = pos 2 *ℤ (h .coefficient axis *ℤ pos (getD low axis 0)) +ℤ h .coefficient axis}
-          (near-add {x = pos 2 *ℤ (h .coefficient axis *ℤ pos (getD low axis 0))} {y = h .coefficient axis}
-          (near-back {x = pos 2 *ℤ (h .coefficient axis *ℤ pos (getD low axis 0))} twice-near tt)
-          (coefficient-near axis l))
-          (twice-and-once (h .coefficient axis) (getD low axis 0)) (omega arith)
+  abbrev c₃ : ℤ
+  c₃ = getD rows (5 * i + 4) (pos 0)
 
-      pub place-fits : SFits w64 (pos (getD low axis 0))
-      place-fits = near-fits (near-nat (getD low axis 0) longestSide (lows .place axis .most)) tt
+  pub first-two-fit : SFits w64 (held c₀ +ℤ held c₁)
+  first-two-fit = two-fits coefficients-small {a = c₀} {b = c₁} {c = c₂} {d = c₃} refl refl refl refl
 
-      pub begin-fits : SFits w64 (read-here *ℤ toZ w64 (getD low axis 0))
-      begin-fits = near-fits {x = h .coefficient axis *ℤ pos (getD low axis 0)} begin-near tt
+  pub first-three-fit : SFits w64 (held (held c₀ +ℤ held c₁) +ℤ held c₂)
+  first-three-fit = three-fits coefficients-small {a = c₀} {b = c₁} {c = c₂} {d = c₃} refl refl refl refl
 
-      pub twice-fits : SFits w64 (pos 2 *ℤ held (read-here *ℤ toZ w64 (getD low axis 0)))
-      twice-fits = near-fits {x = pos 2 *ℤ (h .coefficient axis *ℤ pos (getD low axis 0))} twice-near tt
+  pub all-four-fit : SFits w64 (held (held (held c₀ +ℤ held c₁) +ℤ held c₂) +ℤ held c₃)
+  all-four-fit = four-fits coefficients-small {a = c₀} {b = c₁} {c = c₂} {d = c₃} refl refl refl refl
 
-      pub term-fits : SFits w64 sum-here
-      term-fits = near-fits {x = termOf h low axis} term-near tt
+  module _ {values : List ℤ} (placed : RowPlaced rows values i) where
+    abbrev v : ℤ
+    v = getD values i (pos 0)
 
-      pub term-is : held sum-here ≡ termOf h low axis
-      term-is = near-back {x = termOf h low axis} term-near tt .same
+    abbrev at-low : ℤ
+    at-low = lowValue h (placed .low)
 
-    offset-near : Near (pos 2 *ℤ held (h .offset)) (pos 2 *ℤ h .offset) (2 * offsetLimit)
-    offset-near = near-mul {x = pos 2} {y = h .offset} (near-lit (pos 2)) (near (record { most = row .small .offset }) tt)
+    low-near : Near (held v) at-low lowLimit
+    low-near = near-call {x = at-low} (placed .value .value-is) (record { same = refl; size = low-few (row .small) (placed .small) }) tt
 
-    pub offset-fits : SFits w64 (pos 2 *ℤ held (h .offset))
-    offset-fits = near-fits {x = pos 2 *ℤ h .offset} offset-near tt
+    low-twice : Near (held v +ℤ held v) (at-low +ℤ at-low) (2 * lowLimit)
+    low-twice = near-add {x = at-low} {y = at-low} low-near low-near
 
-    pub terms-small : FourSmall (termOf h low)
-    terms-small = record { few = λ j l. term-near j l .size }
+    pub low-fits : SFits w64 (held v +ℤ held v)
+    low-fits = near-fits {x = at-low +ℤ at-low} low-twice tt
 
-    module _ {a b c d : ℤ} (p : a ≡ termOf h low 0) (q : b ≡ termOf h low 1) (r : c ≡ termOf h low 2) (s : d ≡ termOf h low 3) where
-      value-near : Near (held (pos 2 *ℤ held (h .offset)) +ℤ held (held (held (held a +ℤ held b) +ℤ held c) +ℤ held d))
-          (pos 2 *ℤ h .offset +ℤ total mostAxes (termOf h low)) (2 * offsetLimit + 4 * termLimit)
-      value-near =
-          near-add {x = pos 2 *ℤ h .offset} {y = total mostAxes (termOf h low)}
-          (near-back {x = pos 2 *ℤ h .offset} offset-near tt)
-          (near-back {x = total mostAxes (termOf h low)} (four-near terms-small p q r s) tt)
+    value-near : Near (held (held v +ℤ held v) +ℤ held (held (held (held c₀ +ℤ held c₁) +ℤ held c₂) +ℤ held c₃))
+        (at-low +ℤ at-low +ℤ total mostAxes (h .coefficient)) (2 * lowLimit + 4 * termLimit)
+    value-near =
+        near-add {x = at-low +ℤ at-low} {y = total mostAxes (h .coefficient)} (near-back {x = at-low +ℤ at-low} low-twice tt)
+        (near-back {x = total mostAxes (h .coefficient)}
+        (four-near coefficients-small {a = c₀} {b = c₁} {c = c₂} {d = c₃} refl refl refl refl) tt)
 
-      pub value-fits : SFits w64 (held (pos 2 *ℤ held (h .offset)) +ℤ held (held (held (held a +ℤ held b) +ℤ held c) +ℤ held d))
-      value-fits = near-fits {x = pos 2 *ℤ h .offset +ℤ total mostAxes (termOf h low)} value-near tt
+    pub value-fits : SFits w64 (held (held v +ℤ held v) +ℤ held (held (held (held c₀ +ℤ held c₁) +ℤ held c₂) +ℤ held c₃))
+    value-fits = near-fits {x = at-low +ℤ at-low +ℤ total mostAxes (h .coefficient)} value-near tt
 
-      pub value-is : held (held (pos 2 *ℤ held (h .offset)) +ℤ held (held (held (held a +ℤ held b) +ℤ held c) +ℤ held d)) ≡ firstValue h low
-      unfolding firstValue
-      value-is = near-back {x = pos 2 *ℤ h .offset +ℤ total mostAxes (termOf h low)} value-near tt .same
+    pub value-is : held (held (held v +ℤ held v) +ℤ held (held (held (held c₀ +ℤ held c₁) +ℤ held c₂) +ℤ held c₃)) ≡ firstValue h (placed .low)
+    value-is = near-back {x = at-low +ℤ at-low +ℤ total mostAxes (h .coefficient)} value-near tt .same ∙ twice-low h (placed .low)
 
 -- ---- the axes that a universe lacks add nothing
 total-less : (n k : ℕ) (f : ℕ → ℤ) → ((i : ℕ) → n ≤ i → i < n + k → f i ≡ pos 0) → total (n + k) f ≡ total n f

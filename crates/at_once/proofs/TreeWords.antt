@@ -1,17 +1,18 @@
 -- The loop over the nodes of the trees: the shapes pending are held as trees, and the words pending are theirs.
-use Prim.Native.Nat.{ℕ, zero, suc, _+_, _-_, _≤_, _<_}
+use Prim.Native.Nat.{ℕ, suc, _+_, _-_, _≤_, _<_}
 use native.Mathlib.Omega.{arith}
 use native.Mathlib.Numerals.{add-one}
-use mathlib.Core.Path.{_≡_, refl, sym, ap, ap₂, _∙_}
+use mathlib.Core.Path.{_≡_, refl, sym, ap, ap₂, _∙_, subst}
 use mathlib.Core.Bool.{Bool, true, false, cond, false≢true}
 use mathlib.Core.List.{List, [], _∷_}
-use lib.ListN.{length, getD, set, length-set, replicate}
+use lib.IntN.{ℤ}
+use lib.ListN.{length, getD, set, length-set}
 use Rattle.universe.specs.declared.Block.{Block}
 use Rattle.bintree.specs.declared.Colour.{Colour}
 use Rattle.bintree.specs.declared.Colour.the-variants.{White, Black}
-use Rattle.csg.specs.Surfaces.{Surfaces, Named, named}
+use Rattle.csg.specs.Surfaces.{Surfaces, named}
 use Rattle.csg.specs.Tree.{Plain}
-use Rattle.csg.specs.Marks.{unionColour, intersectionColour, plainColour}
+use Rattle.csg.specs.Marks.{intersectionColour, plainColour}
 use Rattle.pruned.specs.Left.{allColour}
 use Rattle.pruned.specs.Nodes.{Node, joining, joinPlain, allPostfix, nodeCode, isJoin, isMeet, OneOrTwo, one, two, LeafOf, mostShapes}
 use Rattle.pruned.proofs.Reading.{Reads, ended, pushed, joined, leaf-code, join-code, lastFirst, reads-all}
@@ -19,8 +20,9 @@ use Rattle.pruned.proofs.Stacks.{stackOf, length-stack, stack-push, stack-two, 
 use Rattle.masks.specs.Block.{blockMask}
 use Rattle.masks.proofs.Block.{mask-agree}
 use Rattle.masks.proofs.Trees.{union-mask, intersection-mask}
-use Rattle.at_once.specs.Codes.{HoldsCodes, no-code, code, Carrying}
+use Rattle.at_once.specs.Codes.{HoldsCodes, code}
 use Rattle.at_once.specs.Words.{WordBlock, wordBlock, LeafWord, TreesWord, joinedWord, wholeWord}
+use Rattle.at_once.specs.Moves.{ValueOf, RightValues}
 
 -- ---- the words of trees pending, whatever they are
 abbrev pub wordsOf : (Plain → ℕ) → List Plain → List ℕ
@@ -83,6 +85,7 @@ module _ {surfaces : Surfaces} {axes : ℕ} {table lengths low : List ℕ} {left
     pub rest : List Node
     pub reads : Reads (named surfaces) rest shapes (lastFirst (job .carried .trees))
     pub coming : HoldsCodes codes i rest
+    pub begun : from ≤ i
     pub onward : i + length rest ≡ from + count
     pub few : pending ≤ mostShapes
     pub words-long : length words ≡ mostShapes
@@ -95,6 +98,7 @@ module _ {surfaces : Surfaces} {axes : ℕ} {table lengths low : List ℕ} {left
       rest = allPostfix (job .carried .trees);
       reads = reads-all (job .carried .few);
       coming = job .carried .holds;
+      begun = omega arith;
       onward = omega (arith, job .carried .counted);
       few = omega arith;
       words-long = e;
@@ -108,6 +112,12 @@ module _ {surfaces : Surfaces} {axes : ℕ} {table lengths low : List ℕ} {left
       module _ (h : i < from + count) where
         pub code-inside : i < length codes
         code-inside = omega (arith, job .carried .inside)
+
+        -- the value of its row is carried
+        pub leaf-value : {rows values : List ℤ} → RightValues rows low codes from count values → ValueOf rows low values (getD codes i 0)
+        leaf-value {rows} {values} right =
+            let e : from + (i - from) ≡ i = omega (arith, g .begun) in
+            subst (λ (k : ℕ). ValueOf rows low values (getD codes k 0)) e (right .at-code (i - from) (omega (arith, g .begun)))
 
         record LeafNext : Type 0 where
           tree : Plain
@@ -180,6 +190,7 @@ module _ {surfaces : Surfaces} {axes : ℕ} {table lengths low : List ℕ} {left
                 rest = next .later;
                 reads = next .reads;
                 coming = next .coming;
+                begun = omega (arith, g .begun);
                 onward = next .onward;
                 few = omega (arith, leaf-room);
                 words-long = length-set words pending r ∙ g .words-long;
@@ -220,6 +231,7 @@ module _ {surfaces : Surfaces} {axes : ℕ} {table lengths low : List ℕ} {left
                 rest = nextJoin .later;
                 reads = nextJoin .reads;
                 coming = nextJoin .coming;
+                begun = omega (arith, g .begun);
                 onward = nextJoin .onward;
                 few = omega (arith, g .few);
                 words-long = length-set words (pending - 2) r ∙ g .words-long;

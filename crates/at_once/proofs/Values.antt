@@ -1,21 +1,21 @@
--- A row's least and greatest value over a block, as the machine adds them up: what the axes give at the block's low end, and what falls and what rises from
--- there along its sides. By the two parts of the coefficients they are those of the block's corners; an axis that the universe lacks has coefficient 0, so
+-- A row's least and greatest value over a block, as the machine adds them up: the value at the block's low end, and what falls and what rises from there along
+-- its sides, by doublings. By the two parts of the coefficients they are those of the block's corners; an axis that the universe lacks has coefficient 0, so
 -- that all four are added.
-use Prim.Native.Nat.{ℕ, zero, suc, _+_, _*_, _≤_, _<_}
-use mathlib.Core.Path.{_≡_, refl, sym, ap, _∙_}
+use Prim.Native.Nat.{ℕ, zero, suc, _+_, _*_, _^_, _≤_, _<_}
+use mathlib.Core.Path.{_≡_, refl, sym, ap, ap₂, _∙_}
 use mathlib.Core.Bool.{Bool, true, false, cond}
 use mathlib.Core.List.{List}
 use native.Mathlib.Omega.{arith}
 use native.Mathlib.Nat.{mul-le-mul}
-use native.Mathlib.Decide.{ℕ-discrete}
+use native.Mathlib.Decide.{ℕ-discrete, decLt}
 use lib.IntN.{ℤ, pos, natAbs, _+ℤ_, _-ℤ_, _*ℤ_}
 use lib.ListN.{getD}
 use lib.Signed.{leZ}
 use mir.Syntax.{w64}
-use mir.Val.{SFits, toZ}
+use mir.Val.{SFits}
 use Rattle.lemmas.specs.Sums.{sum, total}
-use Rattle.lemmas.proofs.Machine.{Near, near, near-cast, near-nat, near-add, near-sub, near-mul, near-back, near-call, near-fits, natAbs-parts}
-use Rattle.lemmas.proofs.Sums.{sum-cong, sum-zero}
+use Rattle.lemmas.proofs.Machine.{Near, near-size, near-add, near-sub, near-back, near-call, near-fits, natAbs-parts, size-mul}
+use Rattle.lemmas.proofs.Sums.{sum-cong, sum-zero, total-cong}
 use Rattle.lemmas.proofs.Totals.{total-is, weighted-add}
 use Rattle.lemmas.proofs.Whole.{up, dn, Is, is-self, is-add, is-sub, is-mul, is-eq}
 use Rattle.universe.specs.declared.Block.{Block}
@@ -23,12 +23,14 @@ use Rattle.universe.specs.Universe.{mostAxes, longestSide, offsetLimit, coeffic
 use Rattle.universe.specs.Block.{lowAlong}
 use Rattle.csg.specs.Halfspace.{Halfspace, lesser, rowAt}
 use Rattle.csg.proofs.Halfspace.{axesOf, endAlong, added, taken, rise, fall, least-is, greatest-is}
-use Rattle.convert.specs.Small.{SmallPlaces}
+use Rattle.convert.specs.Small.{SmallCoefficient, SmallPlace, SmallPlaces}
 use Rattle.pruned.specs.Nodes.{falls, SmallExtreme}
 use Rattle.pruned.proofs.Moving.{held, extreme-near, fall-is, rises-all, falls-all}
 use Rattle.pruned.proofs.Steps.{is-size}
 use Rattle.at_once.specs.Words.{RowNamed}
 use Rattle.at_once.specs.Values.{alongOf, fallAlong, RowOver, RowFound}
+use Rattle.at_once.specs.Moves.{lengthsBy, lowValue, SmallTimes, RowStands}
+use Rattle.at_once.proofs.Powers.{length-at, times-at, small-times}
 use Rattle.at_once.proofs.RowValues.{termLimit, coefficient-near, FourSmall, total-near}
 
 -- ---- what falls, as the machine tells it
@@ -59,25 +61,13 @@ module _ {rows : List ℤ} {i : ℕ} (row : RowNamed rows i) {places : List ℕ}
   line = rowAt rows i
 
   module _ (axis : ℕ) (l : axis < mostAxes) where
-    along-near : Near (held (getD rows (5 * i + 1 + axis) (pos 0)) *ℤ toZ w64 (getD places axis 0)) (alongOf line places axis) share
-    along-near =
-        near-mul {x = line .coefficient axis} {y = pos (getD places axis 0)}
-        (coefficient-near row axis l)
-        (near-cast (getD places axis 0) longestSide (few .place axis .most) tt)
-
-    pub place-fits : SFits w64 (pos (getD places axis 0))
-    place-fits = near-fits (near-nat (getD places axis 0) longestSide (few .place axis .most)) tt
-
-    pub along-fits : SFits w64 (held (getD rows (5 * i + 1 + axis) (pos 0)) *ℤ toZ w64 (getD places axis 0))
-    along-fits = near-fits {x = alongOf line places axis} along-near tt
-
-    pub along-is : held (held (getD rows (5 * i + 1 + axis) (pos 0)) *ℤ toZ w64 (getD places axis 0)) ≡ alongOf line places axis
-    along-is = near-back {x = alongOf line places axis} along-near tt .same
+    along-size : natAbs (alongOf line places axis) ≤ share
+    along-size = rw (size-mul (line .coefficient axis) (pos (getD places axis 0))) (mul-le-mul (row .small .coefficient axis l .most) (few .place axis .most))
 
     -- a call's result
     module _ {t : ℤ} (e : t ≡ alongOf line places axis) where
       along-held : Near (held t) (alongOf line places axis) share
-      along-held = near-call {x = alongOf line places axis} e (record { same = refl; size = along-near .size }) tt
+      along-held = near-call {x = alongOf line places axis} e (record { same = refl; size = along-size }) tt
 
       pub along-asks : SmallExtreme (held t)
       along-asks = rw (along-held .same) (record { most = omega (arith, along-held .size) })
@@ -86,7 +76,7 @@ module _ {rows : List ℤ} {i : ℕ} (row : RowNamed rows i) {places : List ℕ}
       falls-along g = g ∙ ap (lesser (pos 0)) (along-held .same) ∙ lesser-falls (line .coefficient axis) (getD places axis 0)
 
   pub along-small : FourSmall (alongOf line places)
-  along-small = record { few = λ j l. omega (arith, along-near j l .size) }
+  along-small = record { few = λ j l. omega (arith, along-size j l) }
 
   fall-few : (j : ℕ) → j < mostAxes → natAbs (fallAlong line places j) ≤ share
   fall-few j l =
@@ -108,6 +98,22 @@ module _ {rows : List ℤ} {i : ℕ} (row : RowNamed rows i) {places : List ℕ}
   fall-parts =
       total-is mostAxes (fallAlong line places) (λ j. 0) (λ j. taken line j * getD places j 0)
       (λ j l. fall-is (line .coefficient j) (getD places j 0))
+
+-- ---- an axis's amount by doublings
+module _ {rows : List ℤ} {i : ℕ} (row : RowNamed rows i) {times : List ℕ} (small : SmallTimes times) (axis : ℕ) (l : axis < mostAxes) where
+  abbrev coefficient-read : ℤ
+  coefficient-read = held (getD rows (5 * i + 1 + axis) (pos 0))
+
+  pub amount-asks : SmallCoefficient coefficient-read × ((getD times axis 0 < 64) × SmallPlace (2 ^ getD times axis 0))
+  amount-asks = (
+    record { most = near-size (coefficient-near row axis l) .most },
+    (small .few axis l, rw (length-at times axis l) at (small .short .place axis)),
+  )
+
+  pub amount-is : {t : ℤ} → t ≡ coefficient-read *ℤ pos (2 ^ getD times axis 0) → held t ≡ alongOf (rowAt rows i) (lengthsBy times) axis
+  amount-is e =
+      along-held row (small .short) axis l
+      (e ∙ ap₂ (λ (x : ℤ) (k : ℕ). x *ℤ pos k) (coefficient-near row axis l .same) (sym (length-at times axis l))) .same
 
 -- a sum goes on as it is where nothing is added
 sum-beyond : (f : ℕ → ℕ) (n m : ℕ) → n ≤ m → ((j : ℕ) → n ≤ j → j < m → f j ≡ 0) → sum m f ≡ sum n f
@@ -136,13 +142,13 @@ module _ {rows : List ℤ} {i : ℕ} {low side : List ℕ} (job : RowOver rows i
   abbrev ends : ℕ → ℕ
   ends j = getD low j 0 + getD side j 0
 
-  pub row-named : RowNamed rows i
+  row-named : RowNamed rows i
   row-named = record { here = job .named; small = job .small }
 
-  pub small-low : SmallPlaces low
+  small-low : SmallPlaces low
   small-low = record { place = λ j. record { most = omega (arith, job .places j .most) } }
 
-  pub small-side : SmallPlaces side
+  small-side : SmallPlaces side
   small-side = record { place = λ j. record { most = omega (arith, job .places j .most) } }
 
   -- over the block
@@ -160,10 +166,10 @@ module _ {rows : List ℤ} {i : ℕ} {low side : List ℕ} (job : RowOver rows i
   ends-are : (j : ℕ) → j < axesOf b → ends j ≡ endAlong b j
   ends-are j l = omega (arith, job .begins j l, job .along j l)
 
-  -- what calls handed over: what the axes give at the low end, what they give along the sides, and what falls of that
-  module _ {p q f : ℤ} (e : p ≡ total mostAxes (alongOf h low)) (g : q ≡ total mostAxes (alongOf h side)) (k : f ≡ total mostAxes (fallAlong h side)) where
+  -- the value at the low end, and what calls handed over: what the axes give along the sides, and what falls of that
+  module _ {v q f : ℤ} (e : v ≡ lowValue h low) (g : q ≡ total mostAxes (alongOf h side)) (k : f ≡ total mostAxes (fallAlong h side)) where
     abbrev at-low : ℤ
-    at-low = h .offset +ℤ total mostAxes (alongOf h low)
+    at-low = lowValue h low
 
     abbrev all : ℤ
     all = total mostAxes (alongOf h side)
@@ -171,27 +177,21 @@ module _ {rows : List ℤ} {i : ℕ} {low side : List ℕ} (job : RowOver rows i
     abbrev fallen : ℤ
     fallen = total mostAxes (fallAlong h side)
 
-    value-near : Near (held (h .offset) +ℤ held p) at-low (offsetLimit + 4 * termLimit)
-    value-near =
-        near-add {x = h .offset} {y = total mostAxes (alongOf h low)}
-        (near (record { most = job .small .offset }) tt) (total-near (along-small row-named small-low) e)
+    low-near : Near at-low at-low (offsetLimit + 4 * termLimit)
+    low-near =
+        near-add {x = h .offset} {y = total mostAxes (alongOf h low)} (record { same = refl; size = job .small .offset })
+        (record { same = refl; size = total-near (along-small row-named small-low) refl .size })
 
-    pub value-fits : SFits w64 (held (h .offset) +ℤ held p)
-    value-fits = near-fits {x = at-low} value-near tt
-
-    abbrev value : ℤ
-    value = held (held (h .offset) +ℤ held p)
-
-    value-held : Near value at-low (offsetLimit + 4 * termLimit)
-    value-held = near-back {x = at-low} value-near tt
+    value-held : Near (held v) at-low (offsetLimit + 4 * termLimit)
+    value-held = near-call {x = at-low} e low-near tt
 
     fallen-near : Near (held f) fallen (4 * termLimit)
     fallen-near = total-near (fall-small row-named small-side) k
 
-    least-near : Near (value +ℤ held f) (at-low +ℤ fallen) (offsetLimit + 4 * termLimit + 4 * termLimit)
+    least-near : Near (held v +ℤ held f) (at-low +ℤ fallen) (offsetLimit + 4 * termLimit + 4 * termLimit)
     least-near = near-add {x = at-low} {y = fallen} value-held fallen-near
 
-    pub least-fits : SFits w64 (value +ℤ held f)
+    pub least-fits : SFits w64 (held v +ℤ held f)
     least-fits = near-fits {x = at-low +ℤ fallen} least-near tt
 
     rise-near : Near (held q -ℤ held f) (all -ℤ fallen) (4 * termLimit + 4 * termLimit)
@@ -200,16 +200,16 @@ module _ {rows : List ℤ} {i : ℕ} {low side : List ℕ} (job : RowOver rows i
     pub rise-fits : SFits w64 (held q -ℤ held f)
     rise-fits = near-fits {x = all -ℤ fallen} rise-near tt
 
-    greatest-near : Near (value +ℤ held (held q -ℤ held f)) (at-low +ℤ (all -ℤ fallen)) (offsetLimit + 4 * termLimit + (4 * termLimit + 4 * termLimit))
+    greatest-near : Near (held v +ℤ held (held q -ℤ held f)) (at-low +ℤ (all -ℤ fallen)) (offsetLimit + 4 * termLimit + (4 * termLimit + 4 * termLimit))
     greatest-near = near-add {x = at-low} {y = all -ℤ fallen} value-held (near-back {x = all -ℤ fallen} rise-near tt)
 
-    pub greatest-fits : SFits w64 (value +ℤ held (held q -ℤ held f))
+    pub greatest-fits : SFits w64 (held v +ℤ held (held q -ℤ held f))
     greatest-fits = near-fits {x = at-low +ℤ (all -ℤ fallen)} greatest-near tt
 
     low-is : Is at-low (up (h .offset) + rise h mostAxes begins) (dn (h .offset) + fall h mostAxes begins)
     low-is = is-add (is-self (h .offset)) (along-parts row-named small-low)
 
-    pub found : RowFound job (held (value +ℤ held f)) (held (value +ℤ held (held q -ℤ held f)))
+    pub found : RowFound job (held (held v +ℤ held f)) (held (held v +ℤ held (held q -ℤ held f)))
     unfolding rise fall
     found =
         record {
@@ -232,3 +232,33 @@ module _ {rows : List ℤ} {i : ℕ} {low side : List ℕ} (job : RowOver rows i
                 sum-zero mostAxes (λ j. 0) (λ j l. refl),
               ));
         }
+
+-- ---- with sides to which 1 is doubled so often
+module _ {rows : List ℤ} {i : ℕ} {values : List ℤ} {times : List ℕ} (job : RowStands rows i values times) where
+  abbrev line-over : Halfspace
+  line-over = rowAt rows i
+
+  pub along-needs : RowNamed rows i × SmallTimes times
+  along-needs = (row-named (job .over), rw (job .times-are) (small-times (small-side (job .over))))
+
+  nothing-times : (k : ℕ) → pos 0 *ℤ pos k ≡ pos 0
+  nothing-times k = ap pos (omega arith)
+
+  -- the lengths are the sides, or the coefficient is 0
+  same-along : (f : ℤ → ℕ → ℤ) → ((k : ℕ) → f (pos 0) k ≡ pos 0) → (j : ℕ) → j < mostAxes →
+      f (line-over .coefficient j) (getD (lengthsBy times) j 0) ≡ f (line-over .coefficient j) (getD (job .side) j 0)
+  same-along f none j l = by (decLt j (job .over .block .universe .axes))
+    where
+      by : Dec (j < job .over .block .universe .axes) →
+          f (line-over .coefficient j) (getD (lengthsBy times) j 0) ≡ f (line-over .coefficient j) (getD (job .side) j 0)
+      by (yes k) =
+          ap (f (line-over .coefficient j))
+          (length-at times j l ∙ ap (λ (t : List ℕ). 2 ^ getD t j 0) (job .times-are) ∙ ap (λ (n : ℕ). 2 ^ n) (times-at (job .side) j l)
+          ∙ sym (job .powers j k .power))
+      by (no k) = rw (job .over .beyond j (omega (arith, k)) l) (none (getD (lengthsBy times) j 0) ∙ sym (none (getD (job .side) j 0)))
+
+  pub along-sides : total mostAxes (alongOf line-over (lengthsBy times)) ≡ total mostAxes (alongOf line-over (job .side))
+  along-sides = total-cong mostAxes _ _ (same-along (λ a k. a *ℤ pos k) nothing-times)
+
+  pub fall-sides : total mostAxes (fallAlong line-over (lengthsBy times)) ≡ total mostAxes (fallAlong line-over (job .side))
+  fall-sides = total-cong mostAxes _ _ (same-along falls nothing-times)

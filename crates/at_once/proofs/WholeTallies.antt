@@ -1,9 +1,10 @@
 -- The tally of the whole universe's block is the three counts of the window's voxels, since both trees that are carried into it have the marks and the colours
 -- of their intersection; and what the question answers with it.
-use Prim.Native.Nat.{ℕ, _+_}
-use mathlib.Core.Path.{_≡_, refl, sym, ap, ap₂, _∙_}
-use mathlib.Core.Bool.{Bool, true, false}
-use mathlib.Core.List.{List, [], _∷_}
+use Prim.Native.Nat.{ℕ}
+use mathlib.Core.Path.{_≡_, ap, ap₂, _∙_}
+use mathlib.Core.Bool.{true, false}
+use mathlib.Core.List.{List}
+use lib.IntN.{ℤ}
 use lib.ListN.{length, replicate}
 use borrow.Author.Tests.{eq-eqb, ne-eqb}
 use Rattle.universe.specs.declared.Universe.{Universe}
@@ -62,9 +63,9 @@ module _ {u : Universe} {surfaces : Surfaces} {words₁ words₂ : List ℕ} {fr
     possible = seen-as (allOwn true surfaces u trees) (possibleColour surfaces u t) (λ v. ap (settled (doubtOf true)) (marks v));
   })
 
-  pub whole-tally : {left : ℕ} (l : left ≡ levelsAnswer u) {table lengths side codes codes₁ starts starts₁ : List ℕ} (long : length codes ≡ mostCodes)
-      (shelf : length starts ≡ mostShapes) (tabled : Tabled u table lengths) (sides : side ≡ wholeSides u)
-      (loaded : BothLoaded {codes = codes} {starts = starts} (both-job r {codes = codes} {starts = starts} long shelf) codes₁ starts₁) {k : Tally} →
+  pub whole-tally : {left : ℕ} (l : left ≡ levelsAnswer u) {table lengths side codes codes₁ starts starts₁ : List ℕ} {values₁ : List ℤ}
+      (long : length codes ≡ mostCodes) (shelf : length starts ≡ mostShapes) (tabled : Tabled u table lengths) (sides : side ≡ wholeSides u)
+      (loaded : BothLoaded {codes = codes} {starts = starts} (both-job r {codes = codes} {starts = starts} long shelf) codes₁ starts₁ values₁) {k : Tally} →
       k ≡ tallyOver from to (whole-job r l long shelf tabled sides loaded) → WholeTally u surfaces words₁ words₂ from to k
   whole-tally {left} l long shelf tabled sides loaded e =
       let is = whole-is-of r l long shelf tabled sides loaded in

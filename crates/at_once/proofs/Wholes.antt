@@ -6,7 +6,8 @@ use mathlib.Core.Bool.{Bool, true, false}
 use mathlib.Core.List.{List, [], _∷_, _++_}
 use native.Mathlib.Omega.{arith}
 use native.Mathlib.Nat.{mul-le-mul}
-use lib.ListN.{length, replicate, length-replicate, length-append}
+use lib.IntN.{ℤ, pos}
+use lib.ListN.{length, getD, replicate, length-replicate, length-append}
 use lib.Pow.{pow-mono}
 use Rattle.universe.specs.declared.Universe.{Universe}
 use Rattle.universe.specs.declared.Block.{Block}
@@ -20,6 +21,7 @@ use Rattle.bintree.specs.declared.Verdict.{Verdict}
 use Rattle.bintree.specs.declared.Verdict.the-variants.{Clear, Hit}
 use Rattle.bintree.specs.Verdicts.{verdict}
 use Rattle.bintree.specs.Windows.{noContact, verdictOf}
+use Rattle.csg.specs.Halfspace.{mostRows}
 use Rattle.csg.specs.Surfaces.{Surfaces, named}
 use Rattle.csg.specs.Tree.{Tree, plain}
 use Rattle.csg.specs.Words.{mostWords, treeOf}
@@ -43,7 +45,7 @@ use Rattle.pruned.specs.Left.{allColour}
 use Rattle.pruned.specs.Nodes.{Node, postfix, allPostfix, two, mostShapes}
 use Rattle.pruned.proofs.Looked.{two-stand}
 use Rattle.pruned.proofs.Loads.{words-carried}
-use Rattle.pruned.proofs.Steps.{rows-few, balls-few}
+use Rattle.pruned.proofs.Steps.{rows-few, rows-small, balls-few}
 use Rattle.at_once.specs.declared.answer.Span as spans
 use Rattle.at_once.specs.Codes.{HoldsCodes, no-code, code}
 use Rattle.at_once.specs.Words.{Tabled}
@@ -51,6 +53,10 @@ use Rattle.at_once.specs.Loading.{LoadJob, LoadedCodes}
 use Rattle.at_once.specs.Counting.{BlockJob, contactOver, endOver, CountJob, PutBack}
 use Rattle.at_once.specs.Whole.{mostCodes, bothTrees, BothJob, BothLoaded, WholeReady}
 use Rattle.at_once.specs.Answers.{spanOf}
+use Rattle.at_once.specs.Values.{isRowSide}
+use Rattle.at_once.specs.Words.{RowNamed}
+use Rattle.at_once.specs.Moves.{rowOf, ValuesAt, BeginJob, Begun}
+use Rattle.at_once.proofs.Moving.{named-rows, begun-values}
 use Rattle.at_once.proofs.Jobs.{codes-same, carrying-same}
 use Rattle.at_once.proofs.Counting.{contact-agree, end-agree, voxels-few}
 
@@ -61,7 +67,7 @@ codes-join {at = at} (n ∷ ns) ms (code c h) r =
     let e : at + suc (length ns) ≡ suc at + length ns = omega arith in
     code c (codes-join ns ms h (rw e at r))
 
-module _ {first second codes starts : List ℕ} (job : BothJob first second codes starts) where
+module _ {rows : List ℤ} {first second codes starts : List ℕ} {values : List ℤ} (job : BothJob rows first second codes starts values) where
   pub first-load : LoadJob first codes 0 starts
   first-load =
       record {
@@ -85,20 +91,43 @@ module _ {first second codes starts : List ℕ} (job : BothJob first second code
           starts-long = l .starts-long;
         }
 
-    pub both-loaded : {codes₂ starts₂ : List ℕ} → LoadedCodes second-load codes₂ starts₂ → BothLoaded job codes₂ starts₂
-    unfolding first-load second-load allPostfix
-    both-loaded {codes₂} m =
-        let p = plain (treeOf (job .names) first) in
-        let q = plain (treeOf (job .names) second) in
-        let kept : HoldsCodes codes₂ 0 (postfix p) = codes-same (λ k x y. m .below .same k (omega (arith, l .counted))) (l .holds) in
-        let e : 0 + length (postfix p) ≡ length first = omega (arith, l .counted) in
-        let behind : HoldsCodes codes₂ (0 + length (postfix p)) (postfix q ++ []) = rw e (codes-join (postfix q) [] (m .holds) no-code) in
-        record {
-          holds = codes-join (postfix p) (postfix q ++ []) kept behind;
-          counted = omega (arith, l .counted, m .counted, length-append (postfix p) (postfix q ++ []), length-append (postfix q) []);
-          long = m .below .long ∙ l .below .long;
-          starts-long = m .starts-long;
-        }
+    module _ {codes₂ starts₂ : List ℕ} (m : LoadedCodes second-load codes₂ starts₂) where
+      both-hold : HoldsCodes codes₂ 0 (allPostfix (bothTrees (job .names) first second))
+      unfolding first-load second-load allPostfix
+      both-hold =
+          let p = plain (treeOf (job .names) first) in
+          let q = plain (treeOf (job .names) second) in
+          let kept : HoldsCodes codes₂ 0 (postfix p) = codes-same (λ k x y. m .below .same k (omega (arith, l .counted))) (l .holds) in
+          let e : 0 + length (postfix p) ≡ length first = omega (arith, l .counted) in
+          let behind : HoldsCodes codes₂ (0 + length (postfix p)) (postfix q ++ []) = rw e (codes-join (postfix q) [] (m .holds) no-code) in
+          codes-join (postfix p) (postfix q ++ []) kept behind
+
+      both-count : length first + length second ≡ length (allPostfix (bothTrees (job .names) first second))
+      unfolding first-load second-load allPostfix
+      both-count =
+          let p = plain (treeOf (job .names) first) in
+          let q = plain (treeOf (job .names) second) in
+          omega (arith, l .counted, m .counted, length-append (postfix p) (postfix q ++ []), length-append (postfix q) [])
+
+      both-long : length codes₂ ≡ length codes
+      both-long = m .below .long ∙ l .below .long
+
+      pub begin-job : BeginJob rows codes₂ (length first + length second) values
+      begin-job =
+          record {
+            few-rows = omega (arith, job .few-rows, job .rows-are);
+            inside = omega (arith, job .inside, both-long);
+            bounded = omega (arith, job .bounded, both-long);
+            values-long = job .values-long;
+            named = λ k h. let z : 0 + k ≡ k = omega arith in
+                subst (λ (j : ℕ). isRowSide (getD codes₂ j 0) ≡ true → RowNamed rows (rowOf (getD codes₂ j 0))) z (named-rows (job .rows-are) (job .small)
+                (two (words-carried (job .names) first (job .accepted-first)) (words-carried (job .names) second (job .accepted-second)))
+                both-hold both-count k h);
+          }
+
+      pub both-loaded : {values′ : List ℤ} → Begun rows codes₂ (length first + length second) values′ → BothLoaded job codes₂ starts₂ values′
+      both-loaded begun =
+          record { holds = both-hold; counted = both-count; long = both-long; begun = begun; starts-long = m .starts-long }
 
 -- the arrays of codes, and of what is pending
 pub codes-long : length (replicate {A = ℕ} mostCodes 0) ≡ mostCodes
@@ -129,16 +158,21 @@ module _ {u : Universe} {surfaces : Surfaces} {words₁ words₂ : List ℕ} {fr
   pub few-words : count ≤ 2 * mostWords
   few-words = omega (arith, accepted-length (named surfaces) words₁ (r .accepted-first), accepted-length (named surfaces) words₂ (r .accepted-second))
 
-  pub both-job : {codes starts : List ℕ} → length codes ≡ mostCodes → length starts ≡ mostShapes → BothJob words₁ words₂ codes starts
+  pub both-job : {codes starts : List ℕ} → length codes ≡ mostCodes → length starts ≡ mostShapes →
+      BothJob (surfaces .rows) words₁ words₂ codes starts (replicate {A = ℤ} mostRows (pos 0))
   both-job long shelf =
       record {
         names = named surfaces;
+        rows-are = refl;
+        small = rows-small (r .scene);
         few-rows = rows-few u (surfaces .rows) (r .scene .accepted-rows);
         few-balls = balls-few u (surfaces .balls) (r .scene .accepted-balls);
         accepted-first = r .accepted-first;
         accepted-second = r .accepted-second;
         inside = omega (arith, few-words);
+        bounded = omega (arith, long);
         starts-long = shelf;
+        values-long = length-replicate {A = ℤ} mostRows (pos 0);
       }
 
   module _ {left : ℕ} (l : left ≡ levelsAnswer u) where
@@ -148,11 +182,14 @@ module _ {u : Universe} {surfaces : Surfaces} {words₁ words₂ : List ℕ} {fr
     pub block-is : blockLeft u left (replicate mostAxes 0) ≡ wholeBlock u
     block-is = ap (λ (n : ℕ). blockLeft u n (replicate mostAxes 0)) left-is ∙ whole-is u
 
-    module _ {table lengths side codes codes₁ starts starts₁ : List ℕ} (long : length codes ≡ mostCodes) (shelf : length starts ≡ mostShapes)
+    module _ {table lengths side codes codes₁ starts starts₁ : List ℕ} {values₁ : List ℤ} (long : length codes ≡ mostCodes) (shelf : length starts ≡ mostShapes)
         (tabled : Tabled u table lengths) (sides : side ≡ wholeSides u)
-        (loaded : BothLoaded {codes = codes} {starts = starts} (both-job {codes = codes} {starts = starts} long shelf) codes₁ starts₁) where
+        (loaded : BothLoaded {codes = codes} {starts = starts} (both-job {codes = codes} {starts = starts} long shelf) codes₁ starts₁ values₁) where
       abbrev Whole : List ℕ → Type 0
       Whole codes′ = BlockJob surfaces (u .axes) table lengths (replicate mostAxes 0) side left codes′ 0 count (left + 1)
+
+      pub whole-values : ValuesAt (surfaces .rows) (replicate mostAxes 0) codes₁ 0 count values₁ (replicate mostRows 0) 0
+      whole-values = begun-values (loaded .begun)
 
       pub whole-job : Whole codes₁
       unfolding both-job

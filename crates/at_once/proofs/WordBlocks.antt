@@ -3,7 +3,7 @@
 use mathlib.Core.Path.{_≡_, refl, sym, ap, ap₂, _∙_}
 use mathlib.Core.Bool.{Bool, true, _&&_}
 use mathlib.Core.List.{List}
-use Prim.Native.Nat.{ℕ, suc, _+_, _-_, _*_, _%_, _≤_, _<_}
+use Prim.Native.Nat.{ℕ, suc, _-_, _*_, _%_, _≤_, _<_}
 use native.Mathlib.Omega.{arith}
 use native.Mathlib.Decide.{decLt}
 use lib.Dec.{eqb, leb}
@@ -33,28 +33,15 @@ use Rattle.convert.specs.Blocks.{blockLeft}
 use Rattle.pruned.proofs.Moving.{held}
 use Rattle.pruned.proofs.Steps.{rows-small}
 use Rattle.masks.specs.Block.{blockMask}
-use Rattle.masks.specs.Steps.{axisLeft, sideLeft}
+use Rattle.masks.specs.Steps.{axisLeft}
 use Rattle.masks.specs.Leaves.{valueLimit, stepLimit, rowStep, rowMask}
 use Rattle.masks.proofs.Block.{Left}
 use Rattle.masks.proofs.Leaves.{row-mask-cong}
 use Rattle.masks.proofs.Limits.{value-few}
 use Rattle.masks.proofs.Trees.{surface-halfspace}
-use Rattle.at_once.specs.Codes.{AtBlock}
 use Rattle.at_once.specs.Words.{wordLevels, Tabled, WordBlock, stepAt, RowReady, firstValue, RowNamed, SmallTables, StepsOf}
+use Rattle.at_once.specs.Moves.{RowValue, RowPlaced}
 use Rattle.at_once.proofs.RowValues.{step-small, first-centre}
-
--- a block that stands in the arrays, with the tables, is such a block
-pub word-block : {surfaces : Surfaces} {axes : ℕ} {table lengths low side : List ℕ} {left : ℕ} (at : AtBlock surfaces axes low side left) →
-    Tabled (at .universe) table lengths → left ≤ wordLevels → WordBlock surfaces axes table lengths low left
-word-block at tabled few = record {
-  universe = at .universe;
-  scene = at .scene;
-  axes-are = at .axes-are;
-  given = at .given;
-  above = at .standing .above;
-  tabled = tabled;
-  few = few;
-}
 
 module _ {surfaces : Surfaces} {axes : ℕ} {table lengths low : List ℕ} {left : ℕ} (w : WordBlock surfaces axes table lengths low left) where
   abbrev u : Universe
@@ -86,6 +73,10 @@ module _ {surfaces : Surfaces} {axes : ℕ} {table lengths low : List ℕ} {left
           let e : length low ≤ i = omega (arith, given-length (w .given)) in
           omega (arith, List·getD-eq-default low 0 e)
 
+  -- a row's value is carried at them
+  abbrev pub placed-row : {values : List ℤ} {i : ℕ} → RowValue (surfaces .rows) low values i → RowPlaced (surfaces .rows) values i
+  placed-row value = record { low = low; small = low-small; value = value }
+
   module _ (j : ℕ) (l : j < levels u) where
     pub axis-at : getD table j 0 ≡ axisLeft u j
     axis-at = ap (λ (t : List ℕ). getD t j 0) (w .tabled .axis-at) ∙ axes-left-at u (w .scene .accepted-universe) j l
@@ -105,7 +96,7 @@ module _ {surfaces : Surfaces} {axes : ℕ} {table lengths low : List ℕ} {left
       listed-at mostLevels _ j (omega arith) ∙ rw (le-ltb j (levelsAnswer u) (omega (arith, levels-are u refl (w .scene .accepted-universe))))
 
   pub tables-small : SmallTables table lengths
-  tables-small = record { axis = λ j m. go j m (decLt j (levels u)); short = w .tabled .short }
+  tables-small = record { axis = λ j m. go j m (decLt j (levels u)); short = w .tabled .short; power = w .tabled .power }
     where
       go : (j : ℕ) → j < wordLevels → Dec (j < levels u) → getD table j 0 < mostAxes
       go j m (yes l) = axis-below j l

@@ -5,6 +5,7 @@ pub mod Values
 pub mod Pruning
 pub mod Loading
 pub mod Words
+pub mod Moves
 pub mod Own
 pub mod Both
 pub mod Counting

@@ -1,9 +1,10 @@
 -- What the words of a block ask: the tables of its halvings, and numbers so small that no sum of a row's value and its
 -- steps, nor of a ball's squares, overflows.
-use Prim.Native.Nat.{ℕ, _+_, _-_, _*_, _^_, _≤_, _<_}
+use Prim.Native.Nat.{ℕ, _+_, _-_, _*_, _%_, _^_, _≤_, _<_}
 use mathlib.Core.Path.{_≡_}
 use mathlib.Core.Bool.{Bool, true, false, cond}
 use mathlib.Core.List.{List}
+use lib.Count.{trailingZeros}
 use lib.Dec.{ltb, eqb}
 use lib.Bits.{bitAnd, bitOr}
 use lib.IntN.{ℤ, pos, natAbs, _+ℤ_, _*ℤ_}
@@ -31,11 +32,16 @@ use Rattle.at_once.specs.Codes.{Carrying}
 abbrev pub wordLevels : ℕ
 wordLevels = 6
 
+-- how often 1 is doubled to a length that is a power of two
+abbrev pub doublingsOf : ℕ → ℕ
+doublingsOf length = trailingZeros 64 length % 64
+
 -- the axes of a universe's halvings and the lengths of their halves, by the levels left, as far as words go
 pub record Tabled (u : Universe) (table lengths : List ℕ) : Type 0 where
   pub axis-at : table ≡ axesLeft u
   pub length-at : (j : ℕ) → j < wordLevels → j < levels u → getD lengths j 0 ≡ sideLeft u j
   pub short : (j : ℕ) → SmallPlace (getD lengths j 0)
+  pub power : (j : ℕ) → j < wordLevels → getD lengths j 0 ≡ 2 ^ doublingsOf (getD lengths j 0)
 
 -- the last so many halvings of an accepted universe, one of whose axes counts frames
 pub record Halvings (frame : ℕ) (table lengths : List ℕ) (left : ℕ) : Type 0 where
@@ -98,6 +104,7 @@ pub record RowNamed (rows : List ℤ) (i : ℕ) : Type 0 where
 pub record SmallTables (table lengths : List ℕ) : Type 0 where
   pub axis : (j : ℕ) → j < wordLevels → getD table j 0 < mostAxes
   pub short : (j : ℕ) → SmallPlace (getD lengths j 0)
+  pub power : (j : ℕ) → j < wordLevels → getD lengths j 0 ≡ 2 ^ doublingsOf (getD lengths j 0)
 
 pub record StepsOf (h : Halfspace) (table lengths : List ℕ) (steps : List ℤ) : Type 0 where
   pub step : (j : ℕ) → j < wordLevels → stepAt steps j ≡ stepOf h table lengths j

@@ -1,6 +1,8 @@
 // The words of both halves of a block, one pass over the codes: what both halves have alike of a halfspace, its steps
 // and its value at the low half's first voxel, is worked out once.
 use crate::digits::WORD_LEVELS;
+use crate::moves::amount;
+use crate::moves::doublings;
 use crate::prune::INTERSECTION_NODE;
 use crate::prune::MOST_SHAPES;
 use crate::prune::is_join;
@@ -13,7 +15,7 @@ use crate::word::whole_word;
 use crate::word::word_of_ball;
 use universe::Universe;
 ghost use mathlib.Core.Path.{_≡_};
-ghost use Prim.Native.Nat.{_+_, _^_, _<_};
+ghost use Prim.Native.Nat.{_+_, _*_, _^_, _<_};
 ghost use lib.IntN.{pos, _*ℤ_};
 ghost use lib.ListN.{length, getD};
 ghost use Rattle.universe.specs.Universe.{mostAxes};
@@ -21,7 +23,6 @@ ghost use Rattle.csg.specs.Halfspace.{rowAt, rowCount};
 ghost use Rattle.csg.specs.Ball.{ballCount};
 ghost use Rattle.csg.specs.Surfaces.{surfacesOf, halfspace, ball};
 ghost use Rattle.csg.specs.Marks.{surfaceColour, plainColour};
-ghost use Rattle.convert.specs.Small.{SmallPlace};
 ghost use Rattle.pruned.specs.Left.{allColour};
 ghost use Rattle.masks.specs.Block.{blockMask};
 ghost use Rattle.at_once.specs.Words.{
@@ -34,6 +35,7 @@ ghost use Rattle.at_once.specs.Words.{
   TreesWord,
 };
 ghost use Rattle.at_once.specs.Both.{placesAlong, BothShelves};
+ghost use Rattle.at_once.specs.Moves.{PowerPlace, RowValue, ValueOf, RightValues};
 
 // The word of the low half, and that of the high half.
 pub(crate) struct Both {
@@ -45,10 +47,11 @@ pub(crate) struct Both {
 fn more_of_row(rows: &[i64], i: usize, axis: usize, half: u64) -> i64
     requires { ⌜ RowNamed (now rows) i ⌝ }
     requires { ⌜ axis < mostAxes ⌝ }
-    requires { ⌜ SmallPlace half ⌝ }
+    requires { ⌜ PowerPlace half ⌝ }
     ensures { λ r. ⌜ r ≡ pos 2 *ℤ rowAt (now (rows .entry)) i .coefficient axis *ℤ pos half ⌝ }
 {
-    2 * rows[csg::ROW_LENGTH * i + 1 + axis] * (half as i64)
+    let once = amount(rows[csg::ROW_LENGTH * i + 1 + axis], doublings(half));
+    once + once
 }
 
 // The words of row i over both halves of a block, the low one with these low places.
@@ -62,6 +65,7 @@ fn both_of_row(
     low: &[u64; Universe::MOST_AXES as usize],
     axis: usize,
     half: u64,
+    values: &[i64; csg::MOST_ROWS],
 ) -> Both
     requires { let surfaces = surfacesOf (now rows) (now balls) in
         ⌜ WordBlock surfaces axes (now table) (now lengths) (now low) wordLevels ⌝ }
@@ -69,6 +73,8 @@ fn both_of_row(
         ⌜ WordBlock surfaces axes (now table) (now lengths) (placesAlong (now low) axis half) wordLevels ⌝ }
     requires { ⌜ axis < mostAxes ⌝ }
     requires { ⌜ i < rowCount (now rows) ⌝ }
+    requires { ⌜ PowerPlace half ⌝ }
+    requires { ⌜ RowValue (now rows) (now low) (now values) i ⌝ }
     ensures { λ r. let surfaces = surfacesOf (now (rows .entry)) (now (balls .entry)) in
         let low = now (low .entry) in
         ⌜ ((block : WordBlock surfaces axes (now (table .entry)) (now (lengths .entry)) low wordLevels)
@@ -80,7 +86,7 @@ fn both_of_row(
         → r .above ≡ blockMask (surfaceColour surfaces (block .universe) (halfspace i)) wordLevels
         (wordBlock block)) ⌝ }
 {
-    let value = value_of_row(rows, i, low);
+    let value = value_of_row(rows, i, values);
     let steps = steps_of_row(rows, i, table, lengths);
     let more = more_of_row(rows, i, axis, half);
     Both {
@@ -153,12 +159,15 @@ fn both_of_surface(
     axis: usize,
     half: u64,
     name: u16,
+    values: &[i64; csg::MOST_ROWS],
 ) -> Both
     requires { let surfaces = surfacesOf (now rows) (now balls) in
         ⌜ SurfaceWord surfaces axes (now table) (now lengths) (now low) wordLevels name ⌝ }
     requires { let surfaces = surfacesOf (now rows) (now balls) in
         ⌜ SurfaceWord surfaces axes (now table) (now lengths) (placesAlong (now low) axis half) wordLevels name ⌝ }
     requires { ⌜ axis < mostAxes ⌝ }
+    requires { ⌜ PowerPlace half ⌝ }
+    requires { ⌜ ValueOf (now rows) (now low) (now values) (2 * name) ⌝ }
     ensures { λ r. let surfaces = surfacesOf (now (rows .entry)) (now (balls .entry)) in
         let low = now (low .entry) in
         ⌜ ((job : SurfaceWord surfaces axes (now (table .entry)) (now (lengths .entry)) low wordLevels name)
@@ -172,7 +181,18 @@ fn both_of_surface(
 {
     if name < csg::FIRST_BALL {
         let i = name as usize - csg::FIRST_HALFSPACE as usize;
-        return both_of_row(axes, rows, balls, i, table, lengths, low, axis, half);
+        return both_of_row(
+            axes,
+            rows,
+            balls,
+            i,
+            table,
+            lengths,
+            low,
+            axis,
+            half,
+            values,
+        );
     }
     let i = (name - csg::FIRST_BALL) as usize;
     both_of_ball(axes, rows, balls, i, table, lengths, low, axis, half)
@@ -189,12 +209,15 @@ fn both_of_leaf(
     axis: usize,
     half: u64,
     code: u16,
+    values: &[i64; csg::MOST_ROWS],
 ) -> Both
     requires { let surfaces = surfacesOf (now rows) (now balls) in
         ⌜ LeafWord surfaces axes (now table) (now lengths) (now low) wordLevels code ⌝ }
     requires { let surfaces = surfacesOf (now rows) (now balls) in
         ⌜ LeafWord surfaces axes (now table) (now lengths) (placesAlong (now low) axis half) wordLevels code ⌝ }
     requires { ⌜ axis < mostAxes ⌝ }
+    requires { ⌜ PowerPlace half ⌝ }
+    requires { ⌜ ValueOf (now rows) (now low) (now values) code ⌝ }
     ensures { λ r. let surfaces = surfacesOf (now (rows .entry)) (now (balls .entry)) in
         let low = now (low .entry) in
         ⌜ ((job : LeafWord surfaces axes (now (table .entry)) (now (lengths .entry)) low wordLevels code)
@@ -216,7 +239,18 @@ fn both_of_leaf(
             above: ones,
         };
     }
-    let words = both_of_surface(axes, rows, balls, table, lengths, low, axis, half, code / 2);
+    let words = both_of_surface(
+        axes,
+        rows,
+        balls,
+        table,
+        lengths,
+        low,
+        axis,
+        half,
+        code / 2,
+        values,
+    );
     if code % 2 == 1 {
         return Both {
             below: ones - words.below,
@@ -241,6 +275,7 @@ pub(crate) fn both_words(
     count: usize,
     belows: &mut [u64; MOST_SHAPES],
     aboves: &mut [u64; MOST_SHAPES],
+    values: &[i64; csg::MOST_ROWS],
 ) -> Both
     requires { let surfaces = surfacesOf (now rows) (now balls) in
         ⌜ TreesWord surfaces axes (now table) (now lengths) (now low) wordLevels (now codes) from count ⌝ }
@@ -249,6 +284,8 @@ pub(crate) fn both_words(
         ⌜ TreesWord surfaces axes (now table) (now lengths) high wordLevels (now codes) from count ⌝ }
     requires { ⌜ axis < mostAxes ⌝ }
     requires { ⌜ BothShelves (now belows) (now aboves) ⌝ }
+    requires { ⌜ PowerPlace half ⌝ }
+    requires { ⌜ RightValues (now rows) (now low) (now codes) from count (now values) ⌝ }
     ensures { λ r. let surfaces = surfacesOf (now (rows .entry)) (now (balls .entry)) in
         let low = now (low .entry) in
         let codes = now (codes .entry) in
@@ -276,7 +313,18 @@ pub(crate) fn both_words(
             aboves[pending - 2] = above;
             pending -= 1;
         } else {
-            let leaf = both_of_leaf(axes, rows, balls, table, lengths, low, axis, half, code);
+            let leaf = both_of_leaf(
+                axes,
+                rows,
+                balls,
+                table,
+                lengths,
+                low,
+                axis,
+                half,
+                code,
+                values,
+            );
             belows[pending] = leaf.below;
             aboves[pending] = leaf.above;
             pending += 1;

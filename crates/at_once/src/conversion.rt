@@ -36,6 +36,7 @@ ghost use Rattle.pruned.specs.Nodes.{Shelves};
 ghost use Rattle.at_once.specs.Counting.{BlockJob};
 ghost use Rattle.at_once.specs.Merged.{AtPlace};
 ghost use Rattle.at_once.specs.Raw.{WrittenShape};
+ghost use Rattle.at_once.specs.Moves.{ValuesAt};
 ghost use Rattle.at_once.specs.Conversions.{writtenOver, CodesReady, FewReady, leastCodes, fewCodes};
 
 // Codes that are soon cleared, for where few words are carried.
@@ -80,11 +81,14 @@ fn write_block(
     starts: &mut [usize; MOST_SHAPES],
     marks: &mut [u8; MOST_SHAPES],
     out: &mut [u8],
+    values: &mut [i64; csg::MOST_ROWS],
+    rounds: &mut [u8; csg::MOST_ROWS],
 ) -> usize
     requires { let surfaces = surfacesOf (now rows) (now balls) in
         ⌜ BlockJob surfaces axes (now table) (now lengths) (now low) (now side) left (now codes) 0 count (left + 1) ⌝ }
     requires { ⌜ Shelves (now starts) (now marks) ⌝ }
     requires { ⌜ AtPlace left 0 ⌝ }
+    requires { ⌜ ValuesAt (now rows) (now low) (now codes) 0 count (now values) (now rounds) 0 ⌝ }
     ensures { λ r. let surfaces = surfacesOf (now (rows .entry)) (now (balls .entry)) in
         ⌜ ((job : BlockJob surfaces axes (now (table .entry)) (now (lengths .entry)) (now (low .entry))
         (now (side .entry)) left (now (codes .entry)) 0 count (left + 1))
@@ -111,6 +115,9 @@ fn write_block(
             &mut aboves,
             out,
             0,
+            values,
+            rounds,
+            0,
         );
         bintree::note(out, 0, (packed % HELD_UNIT) as u8);
         return packed / HELD_UNIT;
@@ -130,6 +137,9 @@ fn write_block(
         starts,
         marks,
         out,
+        0,
+        values,
+        rounds,
         0,
     )
 }
@@ -160,7 +170,9 @@ fn write_whole(
     let mut side = whole_sides(universe);
     let mut starts = [0usize; MOST_SHAPES];
     let mut marks = [0u8; MOST_SHAPES];
-    load_both(first, second, codes, &mut starts);
+    let mut values = [0i64; csg::MOST_ROWS];
+    let mut rounds = [0u8; csg::MOST_ROWS];
+    load_both(rows, first, second, codes, &mut starts, &mut values);
     write_block(
         universe.axes as usize,
         rows,
@@ -176,6 +188,8 @@ fn write_whole(
         &mut starts,
         &mut marks,
         out,
+        &mut values,
+        &mut rounds,
     )
 }
 

@@ -8,6 +8,7 @@ use crate::frames::lesser;
 use crate::frames::voxels_of;
 use crate::marks::BLACK_BIT;
 use crate::marks::WHITE_BIT;
+use crate::moves::move_values;
 use crate::prune::MOST_SHAPES;
 use crate::prune::prune;
 use crate::window::frames_word;
@@ -19,6 +20,7 @@ ghost use Prim.Native.Nat.{_+_, _≤_};
 ghost use Rattle.csg.specs.Surfaces.{surfacesOf};
 ghost use Rattle.pruned.specs.Nodes.{Shelves};
 ghost use Rattle.at_once.specs.Counting.{contactOver, CountJob, PutBack};
+ghost use Rattle.at_once.specs.Moves.{RightValues, ValuesAt, Unmoved};
 ghost use Rattle.at_once.specs.Words.{wordLevels};
 
 // Joins a block whose voxels have a digit each in one word: its ones are counted, and the ends are read off it where
@@ -38,11 +40,13 @@ fn count_word(
     first: u64,
     last: u64,
     contact: Contact,
+    values: &[i64; csg::MOST_ROWS],
 ) -> Contact
     requires { let surfaces = surfacesOf (now rows) (now balls) in
         ⌜ CountJob surfaces axes (now table) (now lengths) (now low) (now side) left (now codes) from count (left + 1)
         first last contact ⌝ }
     requires { ⌜ left ≤ wordLevels ⌝ }
+    requires { ⌜ RightValues (now rows) (now low) (now codes) from count (now values) ⌝ }
     ensures { λ r. let surfaces = surfacesOf (now (rows .entry)) (now (balls .entry)) in
         ⌜ ((job : CountJob surfaces axes (now (table .entry)) (now (lengths .entry)) (now (low .entry))
         (now (side .entry)) left (now (codes .entry)) from count (left + 1) first last contact)
@@ -59,6 +63,7 @@ fn count_word(
         codes,
         from,
         count,
+        values,
     );
     if trees == 0 {
         return contact;
@@ -102,11 +107,15 @@ pub(crate) fn count_block(
     first: u64,
     last: u64,
     contact: Contact,
+    values: &mut [i64; csg::MOST_ROWS],
+    rounds: &mut [u8; csg::MOST_ROWS],
+    round: u8,
 ) -> Contact
     requires { let surfaces = surfacesOf (now rows) (now balls) in
         ⌜ CountJob surfaces axes (now table) (now lengths) (now low) (now side) left (now codes) from count (left + 1)
         first last contact ⌝ }
     requires { ⌜ Shelves (now starts) (now marks) ⌝ }
+    requires { ⌜ ValuesAt (now rows) (now low) (now codes) from count (now values) (now rounds) round ⌝ }
     ensures { λ r. let surfaces = surfacesOf (now (rows .entry)) (now (balls .entry)) in
         ⌜ ((job : CountJob surfaces axes (now (table .entry)) (now (lengths .entry)) (now (low .entry))
         (now (side .entry)) left (now (codes .entry)) from count (left + 1) first last contact)
@@ -114,6 +123,7 @@ pub(crate) fn count_block(
     ensures { λ _. ⌜ PutBack (from + count) (now (low .entry)) (now (side .entry)) (now (codes .entry))
         (now (low .exit)) (now (side .exit)) (now (codes .exit)) ⌝ }
     ensures { λ _. ⌜ Shelves (now (starts .exit)) (now (marks .exit)) ⌝ }
+    ensures { λ _. ⌜ Unmoved (now (values .entry)) (now (rounds .entry)) (now (values .exit)) (now (rounds .exit)) ⌝ }
 {
     let frame_axis = axes - 1;
     let frame = low[frame_axis];
@@ -139,6 +149,7 @@ pub(crate) fn count_block(
             first,
             last,
             contact,
+            values,
         );
     }
     let kept = prune(
@@ -152,6 +163,7 @@ pub(crate) fn count_block(
         count,
         starts,
         marks,
+        values,
     );
     let mark = kept.mark;
     let nodes = kept.nodes;
@@ -178,6 +190,9 @@ pub(crate) fn count_block(
         first,
         last,
         contact,
+        values,
+        rounds,
+        round,
     )
 }
 
@@ -199,12 +214,16 @@ fn count_halves(
     first: u64,
     last: u64,
     contact: Contact,
+    values: &mut [i64; csg::MOST_ROWS],
+    rounds: &mut [u8; csg::MOST_ROWS],
+    round: u8,
 ) -> Contact
     requires { let surfaces = surfacesOf (now rows) (now balls) in
         ⌜ CountJob surfaces axes (now table) (now lengths) (now low) (now side) left (now codes) from count left
         first last contact ⌝ }
     requires { ⌜ 1 ≤ left ⌝ }
     requires { ⌜ Shelves (now starts) (now marks) ⌝ }
+    requires { ⌜ ValuesAt (now rows) (now low) (now codes) from count (now values) (now rounds) round ⌝ }
     ensures { λ r. let surfaces = surfacesOf (now (rows .entry)) (now (balls .entry)) in
         ⌜ ((job : CountJob surfaces axes (now (table .entry)) (now (lengths .entry)) (now (low .entry))
         (now (side .entry)) left (now (codes .entry)) from count left first last contact)
@@ -212,6 +231,7 @@ fn count_halves(
     ensures { λ _. ⌜ PutBack (from + count) (now (low .entry)) (now (side .entry)) (now (codes .entry))
         (now (low .exit)) (now (side .exit)) (now (codes .exit)) ⌝ }
     ensures { λ _. ⌜ Shelves (now (starts .exit)) (now (marks .exit)) ⌝ }
+    ensures { λ _. ⌜ Unmoved (now (values .entry)) (now (rounds .entry)) (now (values .exit)) (now (rounds .exit)) ⌝ }
 {
     let axis = table[(left - 1) as usize];
     let near = low[axis];
@@ -235,8 +255,23 @@ fn count_halves(
         first,
         last,
         contact,
+        values,
+        rounds,
+        round,
     );
     low[axis] = near + half;
+    move_values(
+        true,
+        rows,
+        axis,
+        half,
+        codes,
+        from,
+        count,
+        values,
+        rounds,
+        round,
+    );
     let above = count_block(
         axes,
         rows,
@@ -254,8 +289,23 @@ fn count_halves(
         first,
         last,
         below,
+        values,
+        rounds,
+        1 - round,
     );
     low[axis] = near;
     side[axis] = whole;
+    move_values(
+        false,
+        rows,
+        axis,
+        half,
+        codes,
+        from,
+        count,
+        values,
+        rounds,
+        1 - round,
+    );
     above
 }

@@ -6,6 +6,7 @@ use crate::frames::greater;
 use crate::frames::lesser;
 use crate::marks::BLACK_BIT;
 use crate::marks::WHITE_BIT;
+use crate::moves::move_values;
 use crate::prune::MOST_SHAPES;
 use crate::prune::prune;
 use crate::window::frames_word;
@@ -17,7 +18,8 @@ ghost use Prim.Native.Nat.{_+_, _≤_};
 ghost use Rattle.csg.specs.Surfaces.{surfacesOf};
 ghost use Rattle.pruned.specs.Nodes.{Shelves};
 ghost use Rattle.masks.specs.Ends.{better};
-ghost use Rattle.at_once.specs.Counting.{endOver, BlockJob, PutBack};
+ghost use Rattle.at_once.specs.Counting.{endOver, endHalf, BlockJob, PutBack};
+ghost use Rattle.at_once.specs.Moves.{RightValues, ValuesAt, Unmoved};
 ghost use Rattle.at_once.specs.Words.{wordLevels};
 
 // One of two numbers, by a test.
@@ -54,11 +56,13 @@ fn end_word(
     first: u64,
     last: u64,
     known: u64,
+    values: &[i64; csg::MOST_ROWS],
 ) -> u64
     requires { let surfaces = surfacesOf (now rows) (now balls) in
         ⌜ BlockJob surfaces axes (now table) (now lengths) (now low) (now side) left (now codes) from count
         (left + 1) ⌝ }
     requires { ⌜ left ≤ wordLevels ⌝ }
+    requires { ⌜ RightValues (now rows) (now low) (now codes) from count (now values) ⌝ }
     ensures { λ r. let surfaces = surfacesOf (now (rows .entry)) (now (balls .entry)) in
         ⌜ ((job : BlockJob surfaces axes (now (table .entry)) (now (lengths .entry)) (now (low .entry))
         (now (side .entry)) left (now (codes .entry)) from count (left + 1))
@@ -75,6 +79,7 @@ fn end_word(
         codes,
         from,
         count,
+        values,
     );
     if trees == 0 {
         return known;
@@ -112,11 +117,15 @@ pub(crate) fn end_block(
     first: u64,
     last: u64,
     known: u64,
+    values: &mut [i64; csg::MOST_ROWS],
+    rounds: &mut [u8; csg::MOST_ROWS],
+    round: u8,
 ) -> u64
     requires { let surfaces = surfacesOf (now rows) (now balls) in
         ⌜ BlockJob surfaces axes (now table) (now lengths) (now low) (now side) left (now codes) from count
         (left + 1) ⌝ }
     requires { ⌜ Shelves (now starts) (now marks) ⌝ }
+    requires { ⌜ ValuesAt (now rows) (now low) (now codes) from count (now values) (now rounds) round ⌝ }
     ensures { λ r. let surfaces = surfacesOf (now (rows .entry)) (now (balls .entry)) in
         ⌜ ((job : BlockJob surfaces axes (now (table .entry)) (now (lengths .entry)) (now (low .entry))
         (now (side .entry)) left (now (codes .entry)) from count (left + 1))
@@ -124,6 +133,7 @@ pub(crate) fn end_block(
     ensures { λ _. ⌜ PutBack (from + count) (now (low .entry)) (now (side .entry)) (now (codes .entry))
         (now (low .exit)) (now (side .exit)) (now (codes .exit)) ⌝ }
     ensures { λ _. ⌜ Shelves (now (starts .exit)) (now (marks .exit)) ⌝ }
+    ensures { λ _. ⌜ Unmoved (now (values .entry)) (now (rounds .entry)) (now (values .exit)) (now (rounds .exit)) ⌝ }
 {
     let frame_axis = axes - 1;
     let frame = low[frame_axis];
@@ -155,6 +165,7 @@ pub(crate) fn end_block(
             first,
             last,
             known,
+            values,
         );
     }
     let kept = prune(
@@ -168,6 +179,7 @@ pub(crate) fn end_block(
         count,
         starts,
         marks,
+        values,
     );
     let mark = kept.mark;
     let nodes = kept.nodes;
@@ -195,6 +207,9 @@ pub(crate) fn end_block(
         first,
         last,
         known,
+        values,
+        rounds,
+        round,
     )
 }
 
@@ -217,11 +232,15 @@ fn end_halves(
     first: u64,
     last: u64,
     known: u64,
+    values: &mut [i64; csg::MOST_ROWS],
+    rounds: &mut [u8; csg::MOST_ROWS],
+    round: u8,
 ) -> u64
     requires { let surfaces = surfacesOf (now rows) (now balls) in
         ⌜ BlockJob surfaces axes (now table) (now lengths) (now low) (now side) left (now codes) from count left ⌝ }
     requires { ⌜ 1 ≤ left ⌝ }
     requires { ⌜ Shelves (now starts) (now marks) ⌝ }
+    requires { ⌜ ValuesAt (now rows) (now low) (now codes) from count (now values) (now rounds) round ⌝ }
     ensures { λ r. let surfaces = surfacesOf (now (rows .entry)) (now (balls .entry)) in
         ⌜ ((job : BlockJob surfaces axes (now (table .entry)) (now (lengths .entry)) (now (low .entry))
         (now (side .entry)) left (now (codes .entry)) from count left)
@@ -229,15 +248,152 @@ fn end_halves(
     ensures { λ _. ⌜ PutBack (from + count) (now (low .entry)) (now (side .entry)) (now (codes .entry))
         (now (low .exit)) (now (side .exit)) (now (codes .exit)) ⌝ }
     ensures { λ _. ⌜ Shelves (now (starts .exit)) (now (marks .exit)) ⌝ }
+    ensures { λ _. ⌜ Unmoved (now (values .entry)) (now (rounds .entry)) (now (values .exit)) (now (rounds .exit)) ⌝ }
+{
+    let sooner = end_half(
+        backward,
+        backward,
+        axes,
+        rows,
+        balls,
+        table,
+        lengths,
+        low,
+        side,
+        left,
+        codes,
+        from,
+        count,
+        starts,
+        marks,
+        first,
+        last,
+        known,
+        values,
+        rounds,
+        round,
+    );
+    end_half(
+        backward,
+        !backward,
+        axes,
+        rows,
+        balls,
+        table,
+        lengths,
+        low,
+        side,
+        left,
+        codes,
+        from,
+        count,
+        starts,
+        marks,
+        first,
+        last,
+        sooner,
+        values,
+        rounds,
+        round,
+    )
+}
+
+// The same by one half, the high one or the low one.
+fn end_half(
+    backward: bool,
+    high: bool,
+    axes: usize,
+    rows: &[i64],
+    balls: &[i64],
+    table: &[usize; Universe::MOST_LEVELS as usize],
+    lengths: &[u64; WORD_LEVELS],
+    low: &mut [u64; Universe::MOST_AXES as usize],
+    side: &mut [u64; Universe::MOST_AXES as usize],
+    left: u64,
+    codes: &mut [u16],
+    from: usize,
+    count: usize,
+    starts: &mut [usize; MOST_SHAPES],
+    marks: &mut [u8; MOST_SHAPES],
+    first: u64,
+    last: u64,
+    known: u64,
+    values: &mut [i64; csg::MOST_ROWS],
+    rounds: &mut [u8; csg::MOST_ROWS],
+    round: u8,
+) -> u64
+    requires { let surfaces = surfacesOf (now rows) (now balls) in
+        ⌜ BlockJob surfaces axes (now table) (now lengths) (now low) (now side) left (now codes) from count left ⌝ }
+    requires { ⌜ 1 ≤ left ⌝ }
+    requires { ⌜ Shelves (now starts) (now marks) ⌝ }
+    requires { ⌜ ValuesAt (now rows) (now low) (now codes) from count (now values) (now rounds) round ⌝ }
+    ensures { λ r. let surfaces = surfacesOf (now (rows .entry)) (now (balls .entry)) in
+        ⌜ ((job : BlockJob surfaces axes (now (table .entry)) (now (lengths .entry)) (now (low .entry))
+        (now (side .entry)) left (now (codes .entry)) from count left)
+        → r ≡ endHalf backward high first last job known) ⌝ }
+    ensures { λ _. ⌜ PutBack (from + count) (now (low .entry)) (now (side .entry)) (now (codes .entry))
+        (now (low .exit)) (now (side .exit)) (now (codes .exit)) ⌝ }
+    ensures { λ _. ⌜ Shelves (now (starts .exit)) (now (marks .exit)) ⌝ }
+    ensures { λ _. ⌜ Unmoved (now (values .entry)) (now (rounds .entry)) (now (values .exit)) (now (rounds .exit)) ⌝ }
 {
     let axis = table[(left - 1) as usize];
     let near = low[axis];
     let whole = side[axis];
     let half = whole / 2;
-    let far = near + half;
     side[axis] = half;
-    low[axis] = chosen(backward, far, near);
-    let sooner = end_block(
+    if high {
+        low[axis] = near + half;
+        move_values(
+            true,
+            rows,
+            axis,
+            half,
+            codes,
+            from,
+            count,
+            values,
+            rounds,
+            round,
+        );
+        let found = end_block(
+            backward,
+            axes,
+            rows,
+            balls,
+            table,
+            lengths,
+            low,
+            side,
+            left - 1,
+            codes,
+            from,
+            count,
+            starts,
+            marks,
+            first,
+            last,
+            known,
+            values,
+            rounds,
+            1 - round,
+        );
+        low[axis] = near;
+        side[axis] = whole;
+        move_values(
+            false,
+            rows,
+            axis,
+            half,
+            codes,
+            from,
+            count,
+            values,
+            rounds,
+            1 - round,
+        );
+        return found;
+    }
+    let found = end_block(
         backward,
         axes,
         rows,
@@ -255,28 +411,10 @@ fn end_halves(
         first,
         last,
         known,
+        values,
+        rounds,
+        round,
     );
-    low[axis] = chosen(backward, near, far);
-    let later = end_block(
-        backward,
-        axes,
-        rows,
-        balls,
-        table,
-        lengths,
-        low,
-        side,
-        left - 1,
-        codes,
-        from,
-        count,
-        starts,
-        marks,
-        first,
-        last,
-        sooner,
-    );
-    low[axis] = near;
     side[axis] = whole;
-    later
+    found
 }

@@ -2,6 +2,7 @@
 use crate::both::both_words;
 use crate::digits::WORD_LEVELS;
 use crate::marks::BLACK_BIT;
+use crate::moves::move_values;
 use crate::prune::MOST_SHAPES;
 use crate::prune::prune;
 use crate::text::HELD_UNIT;
@@ -18,6 +19,7 @@ ghost use Rattle.pruned.specs.Laying.{joinedPacked, joinedOut};
 ghost use Rattle.at_once.specs.Words.{wordLevels};
 ghost use Rattle.at_once.specs.Both.{BothShelves};
 ghost use Rattle.at_once.specs.Counting.{BlockJob, PutBack};
+ghost use Rattle.at_once.specs.Moves.{RightValues, ValuesAt, Unmoved};
 ghost use Rattle.at_once.specs.Merged.{shapeOver, LaidShape, AtPlace};
 
 // The symbol of a block over which the trees are decided.
@@ -59,12 +61,14 @@ fn lay_words(
     aboves: &mut [u64; MOST_SHAPES],
     out: &mut [u8],
     at: usize,
+    values: &[i64; csg::MOST_ROWS],
 ) -> usize
     requires { let surfaces = surfacesOf (now rows) (now balls) in
         let left = wordLevels + 1 in
         ⌜ BlockJob surfaces axes (now table) (now lengths) (now low) (now side) left (now codes) from count left ⌝ }
     requires { ⌜ AtPlace (wordLevels + 1) at ⌝ }
     requires { ⌜ BothShelves (now belows) (now aboves) ⌝ }
+    requires { ⌜ RightValues (now rows) (now low) (now codes) from count (now values) ⌝ }
     ensures { λ r. let surfaces = surfacesOf (now (rows .entry)) (now (balls .entry)) in
         let left = wordLevels + 1 in
         ⌜ ((job : BlockJob surfaces axes (now (table .entry)) (now (lengths .entry)) (now (low .entry))
@@ -89,6 +93,7 @@ fn lay_words(
         count,
         belows,
         aboves,
+        values,
     );
     let below = lay_word(words.below, left, out, at + 1);
     let middle = below / HELD_UNIT;
@@ -123,6 +128,9 @@ pub(crate) fn lay_block(
     aboves: &mut [u64; MOST_SHAPES],
     out: &mut [u8],
     at: usize,
+    values: &mut [i64; csg::MOST_ROWS],
+    rounds: &mut [u8; csg::MOST_ROWS],
+    round: u8,
 ) -> usize
     requires { let surfaces = surfacesOf (now rows) (now balls) in
         ⌜ BlockJob surfaces axes (now table) (now lengths) (now low) (now side) left (now codes) from count
@@ -130,6 +138,7 @@ pub(crate) fn lay_block(
     requires { ⌜ Shelves (now starts) (now marks) ⌝ }
     requires { ⌜ AtPlace left at ⌝ }
     requires { ⌜ BothShelves (now belows) (now aboves) ⌝ }
+    requires { ⌜ ValuesAt (now rows) (now low) (now codes) from count (now values) (now rounds) round ⌝ }
     ensures { λ r. let surfaces = surfacesOf (now (rows .entry)) (now (balls .entry)) in
         ⌜ ((job : BlockJob surfaces axes (now (table .entry)) (now (lengths .entry)) (now (low .entry))
         (now (side .entry)) left (now (codes .entry)) from count (left + 1))
@@ -138,6 +147,7 @@ pub(crate) fn lay_block(
         (now (low .exit)) (now (side .exit)) (now (codes .exit)) ⌝ }
     ensures { λ _. ⌜ Shelves (now (starts .exit)) (now (marks .exit)) ⌝ }
     ensures { λ _. ⌜ BothShelves (now (belows .exit)) (now (aboves .exit)) ⌝ }
+    ensures { λ _. ⌜ Unmoved (now (values .entry)) (now (rounds .entry)) (now (values .exit)) (now (rounds .exit)) ⌝ }
 {
     if left <= WORD_LEVELS as u64 {
         let word = trees_word(
@@ -151,6 +161,7 @@ pub(crate) fn lay_block(
             codes,
             from,
             count,
+            values,
         );
         return lay_word(word, left, out, at);
     }
@@ -165,6 +176,7 @@ pub(crate) fn lay_block(
         count,
         starts,
         marks,
+        values,
     );
     let mark = kept.mark;
     let nodes = kept.nodes;
@@ -189,6 +201,9 @@ pub(crate) fn lay_block(
         aboves,
         out,
         at,
+        values,
+        rounds,
+        round,
     )
 }
 
@@ -211,6 +226,9 @@ fn lay_halves(
     aboves: &mut [u64; MOST_SHAPES],
     out: &mut [u8],
     at: usize,
+    values: &mut [i64; csg::MOST_ROWS],
+    rounds: &mut [u8; csg::MOST_ROWS],
+    round: u8,
 ) -> usize
     requires { let surfaces = surfacesOf (now rows) (now balls) in
         ⌜ BlockJob surfaces axes (now table) (now lengths) (now low) (now side) left (now codes) from count left ⌝ }
@@ -218,6 +236,7 @@ fn lay_halves(
     requires { ⌜ Shelves (now starts) (now marks) ⌝ }
     requires { ⌜ AtPlace left at ⌝ }
     requires { ⌜ BothShelves (now belows) (now aboves) ⌝ }
+    requires { ⌜ ValuesAt (now rows) (now low) (now codes) from count (now values) (now rounds) round ⌝ }
     ensures { λ r. let surfaces = surfacesOf (now (rows .entry)) (now (balls .entry)) in
         ⌜ ((job : BlockJob surfaces axes (now (table .entry)) (now (lengths .entry)) (now (low .entry))
         (now (side .entry)) left (now (codes .entry)) from count left)
@@ -226,6 +245,7 @@ fn lay_halves(
         (now (low .exit)) (now (side .exit)) (now (codes .exit)) ⌝ }
     ensures { λ _. ⌜ Shelves (now (starts .exit)) (now (marks .exit)) ⌝ }
     ensures { λ _. ⌜ BothShelves (now (belows .exit)) (now (aboves .exit)) ⌝ }
+    ensures { λ _. ⌜ Unmoved (now (values .entry)) (now (rounds .entry)) (now (values .exit)) (now (rounds .exit)) ⌝ }
 {
     if left == WORD_LEVELS as u64 + 1 {
         return lay_words(
@@ -243,6 +263,7 @@ fn lay_halves(
             aboves,
             out,
             at,
+            values,
         );
     }
     let axis = table[(left - 1) as usize];
@@ -268,9 +289,24 @@ fn lay_halves(
         aboves,
         out,
         at + 1,
+        values,
+        rounds,
+        round,
     );
     let middle = below / HELD_UNIT;
     low[axis] = near + half;
+    move_values(
+        true,
+        rows,
+        axis,
+        half,
+        codes,
+        from,
+        count,
+        values,
+        rounds,
+        round,
+    );
     let above = lay_block(
         axes,
         rows,
@@ -289,9 +325,24 @@ fn lay_halves(
         aboves,
         out,
         middle,
+        values,
+        rounds,
+        1 - round,
     );
     low[axis] = near;
     side[axis] = whole;
+    move_values(
+        false,
+        rows,
+        axis,
+        half,
+        codes,
+        from,
+        count,
+        values,
+        rounds,
+        1 - round,
+    );
     join(
         out,
         at,

@@ -13,6 +13,7 @@ mod lay;
 mod leaf;
 mod load;
 mod marks;
+mod moves;
 mod own;
 mod pair;
 mod prune;

@@ -2,10 +2,12 @@
 use crate::leaf::judge_leaf;
 use crate::marks::end_after;
 use crate::marks::joined_code;
+use crate::moves::times_of;
 use universe::Universe;
 ghost use mathlib.Core.Path.{_≡_};
 ghost use Rattle.csg.specs.Surfaces.{surfacesOf};
 ghost use Rattle.pruned.specs.Nodes.{isJoin, wholeMark, Shelves};
+ghost use Rattle.at_once.specs.Moves.{RightValues};
 ghost use Rattle.at_once.specs.Pruning.{PruneJob, PrunedCodes};
 
 // The most shapes that are pending while two trees are read one after the other.
@@ -57,10 +59,12 @@ pub(crate) fn prune(
     count: usize,
     starts: &mut [usize; MOST_SHAPES],
     marks: &mut [u8; MOST_SHAPES],
+    values: &[i64; csg::MOST_ROWS],
 ) -> Kept
     requires { let surfaces = surfacesOf (now rows) (now balls) in
         ⌜ PruneJob surfaces axes (now low) (now side) (now codes) from count ⌝ }
     requires { ⌜ Shelves (now starts) (now marks) ⌝ }
+    requires { ⌜ RightValues (now rows) (now low) (now codes) from count (now values) ⌝ }
     ensures { λ r. let surfaces = surfacesOf (now (rows .entry)) (now (balls .entry)) in
         let low = now (low .entry) in
         let side = now (side .entry) in
@@ -69,6 +73,7 @@ pub(crate) fn prune(
     ensures { λ _. ⌜ Shelves (now (starts .exit)) (now (marks .exit)) ⌝ }
 {
     let to = from + count;
+    let times = times_of(side);
     let mut pending: usize = 0;
     let mut end = to;
     let mut i = from;
@@ -84,7 +89,7 @@ pub(crate) fn prune(
             marks[pending - 2] = joined;
             pending -= 1;
         } else {
-            let bits = judge_leaf(axes, rows, balls, low, side, code);
+            let bits = judge_leaf(axes, rows, balls, low, side, code, values, &times);
             starts[pending] = end;
             marks[pending] = bits;
             end = end_after(bits, 0, 0, end, end);

@@ -2,6 +2,7 @@
 // block.
 use crate::digits::WORD_LEVELS;
 use crate::lay::symbol_of;
+use crate::moves::move_values;
 use crate::prune::MOST_SHAPES;
 use crate::prune::prune;
 use crate::voxel::trees_digit;
@@ -11,6 +12,7 @@ ghost use Prim.Native.Nat.{_+_, _≤_};
 ghost use Rattle.csg.specs.Surfaces.{surfacesOf};
 ghost use Rattle.pruned.specs.Nodes.{Shelves};
 ghost use Rattle.at_once.specs.Counting.{BlockJob, PutBack};
+ghost use Rattle.at_once.specs.Moves.{ValuesAt, Unmoved};
 ghost use Rattle.at_once.specs.Merged.{AtPlace};
 ghost use Rattle.at_once.specs.Raw.{rawOver, rawHalves, WrittenShape};
 
@@ -32,12 +34,16 @@ pub(crate) fn raw_block(
     marks: &mut [u8; MOST_SHAPES],
     out: &mut [u8],
     at: usize,
+    values: &mut [i64; csg::MOST_ROWS],
+    rounds: &mut [u8; csg::MOST_ROWS],
+    round: u8,
 ) -> usize
     requires { let surfaces = surfacesOf (now rows) (now balls) in
         ⌜ BlockJob surfaces axes (now table) (now lengths) (now low) (now side) left (now codes) from count
         (left + 1) ⌝ }
     requires { ⌜ Shelves (now starts) (now marks) ⌝ }
     requires { ⌜ AtPlace left at ⌝ }
+    requires { ⌜ ValuesAt (now rows) (now low) (now codes) from count (now values) (now rounds) round ⌝ }
     ensures { λ r. let surfaces = surfacesOf (now (rows .entry)) (now (balls .entry)) in
         ⌜ ((job : BlockJob surfaces axes (now (table .entry)) (now (lengths .entry)) (now (low .entry))
         (now (side .entry)) left (now (codes .entry)) from count (left + 1))
@@ -45,9 +51,10 @@ pub(crate) fn raw_block(
     ensures { λ _. ⌜ PutBack (from + count) (now (low .entry)) (now (side .entry)) (now (codes .entry))
         (now (low .exit)) (now (side .exit)) (now (codes .exit)) ⌝ }
     ensures { λ _. ⌜ Shelves (now (starts .exit)) (now (marks .exit)) ⌝ }
+    ensures { λ _. ⌜ Unmoved (now (values .entry)) (now (rounds .entry)) (now (values .exit)) (now (rounds .exit)) ⌝ }
 {
     if left == 0 {
-        let digit = trees_digit(axes, rows, balls, low, codes, from, count, marks);
+        let digit = trees_digit(axes, rows, balls, low, codes, from, count, marks, values);
         bintree::note(out, at, symbol_of(digit));
         return at + 1;
     }
@@ -62,6 +69,7 @@ pub(crate) fn raw_block(
         count,
         starts,
         marks,
+        values,
     );
     let mark = kept.mark;
     let nodes = kept.nodes;
@@ -85,6 +93,9 @@ pub(crate) fn raw_block(
         marks,
         out,
         at,
+        values,
+        rounds,
+        round,
     )
 }
 
@@ -105,6 +116,9 @@ fn raw_halves(
     marks: &mut [u8; MOST_SHAPES],
     out: &mut [u8],
     at: usize,
+    values: &mut [i64; csg::MOST_ROWS],
+    rounds: &mut [u8; csg::MOST_ROWS],
+    round: u8,
 ) -> usize
     requires { let surfaces = surfacesOf (now rows) (now balls) in
         ⌜ BlockJob surfaces axes (now table) (now lengths) (now low) (now side) left (now codes) from count
@@ -112,6 +126,7 @@ fn raw_halves(
     requires { ⌜ 1 ≤ left ⌝ }
     requires { ⌜ Shelves (now starts) (now marks) ⌝ }
     requires { ⌜ AtPlace left at ⌝ }
+    requires { ⌜ ValuesAt (now rows) (now low) (now codes) from count (now values) (now rounds) round ⌝ }
     ensures { λ r. let surfaces = surfacesOf (now (rows .entry)) (now (balls .entry)) in
         ⌜ ((job : BlockJob surfaces axes (now (table .entry)) (now (lengths .entry)) (now (low .entry))
         (now (side .entry)) left (now (codes .entry)) from count left)
@@ -119,6 +134,7 @@ fn raw_halves(
     ensures { λ _. ⌜ PutBack (from + count) (now (low .entry)) (now (side .entry)) (now (codes .entry))
         (now (low .exit)) (now (side .exit)) (now (codes .exit)) ⌝ }
     ensures { λ _. ⌜ Shelves (now (starts .exit)) (now (marks .exit)) ⌝ }
+    ensures { λ _. ⌜ Unmoved (now (values .entry)) (now (rounds .entry)) (now (values .exit)) (now (rounds .exit)) ⌝ }
 {
     bintree::note(out, at, b'(');
     let axis = table[(left - 1) as usize];
@@ -142,8 +158,23 @@ fn raw_halves(
         marks,
         out,
         at + 1,
+        values,
+        rounds,
+        round,
     );
     low[axis] = near + half;
+    move_values(
+        true,
+        rows,
+        axis,
+        half,
+        codes,
+        from,
+        count,
+        values,
+        rounds,
+        round,
+    );
     let end = raw_block(
         axes,
         rows,
@@ -160,8 +191,23 @@ fn raw_halves(
         marks,
         out,
         middle,
+        values,
+        rounds,
+        1 - round,
     );
     low[axis] = near;
     side[axis] = whole;
+    move_values(
+        false,
+        rows,
+        axis,
+        half,
+        codes,
+        from,
+        count,
+        values,
+        rounds,
+        1 - round,
+    );
     end
 }

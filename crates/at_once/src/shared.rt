@@ -42,7 +42,9 @@ fn whole_tally(
     let mut sures = [0u64; MOST_SHAPES];
     let mut centres = [0u64; MOST_SHAPES];
     let mut possibles = [0u64; MOST_SHAPES];
-    load_both(first, second, &mut codes, &mut starts);
+    let mut values = [0i64; csg::MOST_ROWS];
+    let mut rounds = [0u8; csg::MOST_ROWS];
+    load_both(rows, first, second, &mut codes, &mut starts, &mut values);
     tally_block(
         universe.axes as usize,
         rows,
@@ -62,6 +64,9 @@ fn whole_tally(
         &mut possibles,
         first_frame,
         last_frame,
+        &mut values,
+        &mut rounds,
+        0,
     )
 }
 

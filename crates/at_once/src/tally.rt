@@ -6,6 +6,7 @@ use crate::frames::lesser;
 use crate::frames::voxels_of;
 use crate::marks::BLACK_BIT;
 use crate::marks::WHITE_BIT;
+use crate::moves::move_values;
 use crate::prune::MOST_SHAPES;
 use crate::prune::prune;
 use crate::three::three_words;
@@ -17,6 +18,7 @@ ghost use Rattle.csg.specs.Surfaces.{surfacesOf};
 ghost use Rattle.at_once.specs.Words.{wordLevels};
 ghost use Rattle.at_once.specs.Own.{ThreeShelves};
 ghost use Rattle.at_once.specs.Counting.{BlockJob, PutBack};
+ghost use Rattle.at_once.specs.Moves.{RightValues, ValuesAt, Unmoved};
 ghost use Rattle.at_once.specs.Tallies.{tallyOver, tallyOf, tallied, SmallTally, TallyShelves};
 
 // How many voxels are sure, black at their centre, and possible.
@@ -68,12 +70,14 @@ fn tally_word(
     possibles: &mut [u64; MOST_SHAPES],
     first: u64,
     last: u64,
+    values: &[i64; csg::MOST_ROWS],
 ) -> Tally
     requires { let surfaces = surfacesOf (now rows) (now balls) in
         ⌜ BlockJob surfaces axes (now table) (now lengths) (now low) (now side) left (now codes) from count
         (left + 1) ⌝ }
     requires { ⌜ left ≤ wordLevels ⌝ }
     requires { ⌜ ThreeShelves (now sures) (now centres) (now possibles) ⌝ }
+    requires { ⌜ RightValues (now rows) (now low) (now codes) from count (now values) ⌝ }
     ensures { λ r. let surfaces = surfacesOf (now (rows .entry)) (now (balls .entry)) in
         ⌜ ((job : BlockJob surfaces axes (now (table .entry)) (now (lengths .entry)) (now (low .entry))
         (now (side .entry)) left (now (codes .entry)) from count (left + 1)) → r ≡ tallyOver first last job) ⌝ }
@@ -93,6 +97,7 @@ fn tally_word(
         sures,
         centres,
         possibles,
+        values,
     );
     let sure = words.sure;
     let centre = words.centre;
@@ -132,11 +137,15 @@ pub(crate) fn tally_block(
     possibles: &mut [u64; MOST_SHAPES],
     first: u64,
     last: u64,
+    values: &mut [i64; csg::MOST_ROWS],
+    rounds: &mut [u8; csg::MOST_ROWS],
+    round: u8,
 ) -> Tally
     requires { let surfaces = surfacesOf (now rows) (now balls) in
         ⌜ BlockJob surfaces axes (now table) (now lengths) (now low) (now side) left (now codes) from count
         (left + 1) ⌝ }
     requires { ⌜ TallyShelves (now starts) (now marks) (now sures) (now centres) (now possibles) ⌝ }
+    requires { ⌜ ValuesAt (now rows) (now low) (now codes) from count (now values) (now rounds) round ⌝ }
     ensures { λ r. let surfaces = surfacesOf (now (rows .entry)) (now (balls .entry)) in
         ⌜ ((job : BlockJob surfaces axes (now (table .entry)) (now (lengths .entry)) (now (low .entry))
         (now (side .entry)) left (now (codes .entry)) from count (left + 1)) → r ≡ tallyOver first last job) ⌝ }
@@ -144,6 +153,7 @@ pub(crate) fn tally_block(
         (now (low .exit)) (now (side .exit)) (now (codes .exit)) ⌝ }
     ensures { λ _. ⌜ TallyShelves (now (starts .exit)) (now (marks .exit)) (now (sures .exit)) (now (centres .exit))
         (now (possibles .exit)) ⌝ }
+    ensures { λ _. ⌜ Unmoved (now (values .entry)) (now (rounds .entry)) (now (values .exit)) (now (rounds .exit)) ⌝ }
 {
     let frame_axis = axes - 1;
     let frame = low[frame_axis];
@@ -171,6 +181,7 @@ pub(crate) fn tally_block(
             possibles,
             first,
             last,
+            values,
         );
     }
     let kept = prune(
@@ -184,6 +195,7 @@ pub(crate) fn tally_block(
         count,
         starts,
         marks,
+        values,
     );
     let mark = kept.mark;
     let nodes = kept.nodes;
@@ -212,6 +224,9 @@ pub(crate) fn tally_block(
         possibles,
         first,
         last,
+        values,
+        rounds,
+        round,
     )
 }
 
@@ -235,11 +250,15 @@ fn tally_halves(
     possibles: &mut [u64; MOST_SHAPES],
     first: u64,
     last: u64,
+    values: &mut [i64; csg::MOST_ROWS],
+    rounds: &mut [u8; csg::MOST_ROWS],
+    round: u8,
 ) -> Tally
     requires { let surfaces = surfacesOf (now rows) (now balls) in
         ⌜ BlockJob surfaces axes (now table) (now lengths) (now low) (now side) left (now codes) from count left ⌝ }
     requires { ⌜ 1 ≤ left ⌝ }
     requires { ⌜ TallyShelves (now starts) (now marks) (now sures) (now centres) (now possibles) ⌝ }
+    requires { ⌜ ValuesAt (now rows) (now low) (now codes) from count (now values) (now rounds) round ⌝ }
     ensures { λ r. let surfaces = surfacesOf (now (rows .entry)) (now (balls .entry)) in
         ⌜ ((job : BlockJob surfaces axes (now (table .entry)) (now (lengths .entry)) (now (low .entry))
         (now (side .entry)) left (now (codes .entry)) from count left) → r ≡ tallyOver first last job) ⌝ }
@@ -247,6 +266,7 @@ fn tally_halves(
         (now (low .exit)) (now (side .exit)) (now (codes .exit)) ⌝ }
     ensures { λ _. ⌜ TallyShelves (now (starts .exit)) (now (marks .exit)) (now (sures .exit)) (now (centres .exit))
         (now (possibles .exit)) ⌝ }
+    ensures { λ _. ⌜ Unmoved (now (values .entry)) (now (rounds .entry)) (now (values .exit)) (now (rounds .exit)) ⌝ }
 {
     let axis = table[(left - 1) as usize];
     let near = low[axis];
@@ -272,8 +292,23 @@ fn tally_halves(
         possibles,
         first,
         last,
+        values,
+        rounds,
+        round,
     );
     low[axis] = near + half;
+    move_values(
+        true,
+        rows,
+        axis,
+        half,
+        codes,
+        from,
+        count,
+        values,
+        rounds,
+        round,
+    );
     let above = tally_block(
         axes,
         rows,
@@ -293,8 +328,23 @@ fn tally_halves(
         possibles,
         first,
         last,
+        values,
+        rounds,
+        1 - round,
     );
     low[axis] = near;
     side[axis] = whole;
+    move_values(
+        false,
+        rows,
+        axis,
+        half,
+        codes,
+        from,
+        count,
+        values,
+        rounds,
+        1 - round,
+    );
     tallied(below, above)
 }

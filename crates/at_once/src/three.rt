@@ -23,7 +23,7 @@ use crate::word::whole_word;
 use crate::word::word_of_ball;
 use universe::Universe;
 ghost use mathlib.Core.Path.{_≡_};
-ghost use Prim.Native.Nat.{_+_, _≤_, _<_};
+ghost use Prim.Native.Nat.{_+_, _*_, _≤_, _<_};
 ghost use Rattle.csg.specs.Halfspace.{rowCount};
 ghost use Rattle.csg.specs.Ball.{ballCount};
 ghost use Rattle.csg.specs.Surfaces.{surfacesOf, halfspace, ball};
@@ -36,6 +36,7 @@ ghost use Rattle.at_once.specs.Words.{
   LeafWord,
   TreesWord,
 };
+ghost use Rattle.at_once.specs.Moves.{RowValue, ValueOf, RightValues};
 ghost use Rattle.at_once.specs.Own.{
   alikeWords,
   reversedWords,
@@ -139,15 +140,17 @@ fn words_of_row(
     lengths: &[u64; WORD_LEVELS],
     low: &[u64; Universe::MOST_AXES as usize],
     left: u64,
+    values: &[i64; csg::MOST_ROWS],
 ) -> Three
     requires { let surfaces = surfacesOf (now rows) (now balls) in
         ⌜ WordBlock surfaces axes (now table) (now lengths) (now low) left ⌝ }
     requires { ⌜ i < rowCount (now rows) ⌝ }
+    requires { ⌜ RowValue (now rows) (now low) (now values) i ⌝ }
     ensures { λ r. let surfaces = surfacesOf (now (rows .entry)) (now (balls .entry)) in
         ⌜ ((block : WordBlock surfaces axes (now (table .entry)) (now (lengths .entry)) (now (low .entry)) left)
         → SurfaceThree surfaces (block .universe) (halfspace i) left (wordBlock block) r) ⌝ }
 {
-    let value = value_of_row(rows, i, low);
+    let value = value_of_row(rows, i, values);
     let steps = steps_of_row(rows, i, table, lengths);
     let reach = reach_of_row(rows, i);
     let less = reached(false, reach);
@@ -190,16 +193,18 @@ fn surface_words(
     low: &[u64; Universe::MOST_AXES as usize],
     left: u64,
     name: u16,
+    values: &[i64; csg::MOST_ROWS],
 ) -> Three
     requires { let surfaces = surfacesOf (now rows) (now balls) in
         ⌜ SurfaceWord surfaces axes (now table) (now lengths) (now low) left name ⌝ }
+    requires { ⌜ ValueOf (now rows) (now low) (now values) (2 * name) ⌝ }
     ensures { λ r. let surfaces = surfacesOf (now (rows .entry)) (now (balls .entry)) in
         ⌜ ((job : SurfaceWord surfaces axes (now (table .entry)) (now (lengths .entry)) (now (low .entry)) left name)
         → SurfaceThree surfaces (job .block .universe) (job .surface) left (wordBlock (job .block)) r) ⌝ }
 {
     if name < csg::FIRST_BALL {
         let i = (name - csg::FIRST_HALFSPACE) as usize;
-        return words_of_row(axes, rows, balls, i, table, lengths, low, left);
+        return words_of_row(axes, rows, balls, i, table, lengths, low, left, values);
     }
     let i = (name - csg::FIRST_BALL) as usize;
     words_of_ball(axes, rows, balls, i, table, lengths, low, left)
@@ -215,9 +220,11 @@ fn leaf_words(
     low: &[u64; Universe::MOST_AXES as usize],
     left: u64,
     code: u16,
+    values: &[i64; csg::MOST_ROWS],
 ) -> Three
     requires { let surfaces = surfacesOf (now rows) (now balls) in
         ⌜ LeafWord surfaces axes (now table) (now lengths) (now low) left code ⌝ }
+    requires { ⌜ ValueOf (now rows) (now low) (now values) code ⌝ }
     ensures { λ r. let surfaces = surfacesOf (now (rows .entry)) (now (balls .entry)) in
         ⌜ ((job : LeafWord surfaces axes (now (table .entry)) (now (lengths .entry)) (now (low .entry)) left code)
         → TreeThree surfaces (job .block .universe) (job .tree) left (wordBlock (job .block)) r) ⌝ }
@@ -229,7 +236,17 @@ fn leaf_words(
     if code < FIRST_SIDE {
         return alike(ones);
     }
-    let words = surface_words(axes, rows, balls, table, lengths, low, left, code / 2);
+    let words = surface_words(
+        axes,
+        rows,
+        balls,
+        table,
+        lengths,
+        low,
+        left,
+        code / 2,
+        values,
+    );
     if code % 2 == 1 {
         return reversed(ones, words);
     }
@@ -252,10 +269,12 @@ pub(crate) fn three_words(
     sures: &mut [u64; MOST_SHAPES],
     centres: &mut [u64; MOST_SHAPES],
     possibles: &mut [u64; MOST_SHAPES],
+    values: &[i64; csg::MOST_ROWS],
 ) -> Three
     requires { let surfaces = surfacesOf (now rows) (now balls) in
         ⌜ TreesWord surfaces axes (now table) (now lengths) (now low) left (now codes) from count ⌝ }
     requires { ⌜ ThreeShelves (now sures) (now centres) (now possibles) ⌝ }
+    requires { ⌜ RightValues (now rows) (now low) (now codes) from count (now values) ⌝ }
     ensures { λ r. let surfaces = surfacesOf (now (rows .entry)) (now (balls .entry)) in
         let low = now (low .entry) in
         let codes = now (codes .entry) in
@@ -278,7 +297,7 @@ pub(crate) fn three_words(
             possibles[pending - 2] = possible;
             pending -= 1;
         } else {
-            let leaf = leaf_words(axes, rows, balls, table, lengths, low, left, code);
+            let leaf = leaf_words(axes, rows, balls, table, lengths, low, left, code, values);
             sures[pending] = leaf.sure;
             centres[pending] = leaf.centre;
             possibles[pending] = leaf.possible;

@@ -10,6 +10,7 @@ use crate::word::offs_of_ball;
 use crate::word::value_of_row;
 use universe::Universe;
 ghost use mathlib.Core.Path.{_≡_};
+ghost use Prim.Native.Nat.{_*_};
 ghost use lib.ListN.{length};
 ghost use lib.Signed.{leZ};
 ghost use Rattle.lemmas.specs.Grid.{count};
@@ -20,6 +21,7 @@ ghost use Rattle.pruned.specs.Nodes.{mostShapes};
 ghost use Rattle.masks.specs.Block.{blockMask};
 ghost use Rattle.at_once.specs.Words.{wordBlock, joinedWord, wholeWord};
 ghost use Rattle.at_once.specs.Voxel.{VoxelSurface, VoxelLeaf, VoxelTrees};
+ghost use Rattle.at_once.specs.Moves.{ValueOf, RightValues};
 
 // 1 where a value reaches the least that is asked.
 fn test_digit(least: i64, value: i64) -> u8
@@ -35,9 +37,11 @@ fn surface_digit(
     balls: &[i64],
     low: &[u64; Universe::MOST_AXES as usize],
     name: u16,
+    values: &[i64; csg::MOST_ROWS],
 ) -> u8
     requires { let surfaces = surfacesOf (now rows) (now balls) in
         ⌜ VoxelSurface surfaces axes (now low) name ⌝ }
+    requires { ⌜ ValueOf (now rows) (now low) (now values) (2 * name) ⌝ }
     ensures { λ r. let surfaces = surfacesOf (now (rows .entry)) (now (balls .entry)) in
         ⌜ ((job : VoxelSurface surfaces axes (now (low .entry)) name)
         → r ≡ blockMask (surfaceColour surfaces (job .word .block .universe) (job .word .surface)) 0
@@ -45,7 +49,7 @@ fn surface_digit(
 {
     if name < csg::FIRST_BALL {
         let i = (name - csg::FIRST_HALFSPACE) as usize;
-        return test_digit(0, value_of_row(rows, i, low));
+        return test_digit(0, value_of_row(rows, i, values));
     }
     let i = (name - csg::FIRST_BALL) as usize;
     let offs = offs_of_ball(balls, i, low);
@@ -60,9 +64,11 @@ fn leaf_digit(
     balls: &[i64],
     low: &[u64; Universe::MOST_AXES as usize],
     code: u16,
+    values: &[i64; csg::MOST_ROWS],
 ) -> u8
     requires { let surfaces = surfacesOf (now rows) (now balls) in
         ⌜ VoxelLeaf surfaces axes (now low) code ⌝ }
+    requires { ⌜ ValueOf (now rows) (now low) (now values) code ⌝ }
     ensures { λ r. let surfaces = surfacesOf (now (rows .entry)) (now (balls .entry)) in
         ⌜ ((job : VoxelLeaf surfaces axes (now (low .entry)) code)
         → r ≡ blockMask (plainColour surfaces (job .word .block .universe) (job .word .tree)) 0
@@ -74,7 +80,7 @@ fn leaf_digit(
     if code < FIRST_SIDE {
         return 1;
     }
-    let digit = surface_digit(axes, rows, balls, low, code / 2);
+    let digit = surface_digit(axes, rows, balls, low, code / 2, values);
     if code % 2 == 1 {
         return 1 - digit;
     }
@@ -111,10 +117,12 @@ pub(crate) fn trees_digit(
     from: usize,
     count: usize,
     digits: &mut [u8; MOST_SHAPES],
+    values: &[i64; csg::MOST_ROWS],
 ) -> u8
     requires { let surfaces = surfacesOf (now rows) (now balls) in
         ⌜ VoxelTrees surfaces axes (now low) (now codes) from count ⌝ }
     requires { ⌜ length (now digits) ≡ mostShapes ⌝ }
+    requires { ⌜ RightValues (now rows) (now low) (now codes) from count (now values) ⌝ }
     ensures { λ r. let surfaces = surfacesOf (now (rows .entry)) (now (balls .entry)) in
         ⌜ ((job : VoxelTrees surfaces axes (now (low .entry)) (now (codes .entry)) from count)
         → r ≡ blockMask (allColour surfaces (job .word .block .universe) (job .word .carried .trees)) 0
@@ -135,7 +143,7 @@ pub(crate) fn trees_digit(
             digits[pending - 2] = joined;
             pending -= 1;
         } else {
-            digits[pending] = leaf_digit(axes, rows, balls, low, code);
+            digits[pending] = leaf_digit(axes, rows, balls, low, code, values);
             pending += 1;
         }
         i += 1;

@@ -6,6 +6,7 @@ use crate::digits::WORD_LEVELS;
 use crate::end::end_block;
 use crate::frames::lesser;
 use crate::load::load;
+use crate::moves::begin;
 use crate::prune::MOST_SHAPES;
 use bintree::Contact;
 use bintree::Verdict;
@@ -47,7 +48,7 @@ pub(crate) fn lengths_of(
     ensures { λ r. ⌜ Tabled universe (now (table .entry)) r ⌝ }
 {
     let stop = lesser(universe.levels(), WORD_LEVELS as u64) as usize;
-    let mut lengths = [0u64; WORD_LEVELS];
+    let mut lengths = [1u64; WORD_LEVELS];
     let mut side = [1u64; Universe::MOST_AXES as usize];
     let mut left: usize = 0;
     while left < stop {
@@ -60,20 +61,25 @@ pub(crate) fn lengths_of(
     lengths
 }
 
-// Loads the codes of two trees, one behind the other.
+// Loads the codes of two trees, one behind the other, and the values of the rows that they name.
 pub(crate) fn load_both(
+    rows: &[i64],
     first: &[u16],
     second: &[u16],
     codes: &mut [u16],
     starts: &mut [usize; MOST_SHAPES],
+    values: &mut [i64; csg::MOST_ROWS],
 )
-    requires { ⌜ BothJob (now first) (now second) (now codes) (now starts) ⌝ }
+    requires { ⌜ BothJob (now rows) (now first) (now second) (now codes) (now starts) (now values) ⌝ }
     ensures { λ _. let codes₀ = now (codes .entry) in
-        ⌜ ((job : BothJob (now (first .entry)) (now (second .entry)) codes₀ (now (starts .entry)))
-        → BothLoaded job (now (codes .exit)) (now (starts .exit))) ⌝ }
+        let values₀ = now (values .entry) in
+        ⌜ ((job : BothJob (now (rows .entry)) (now (first .entry)) (now (second .entry)) codes₀ (now (starts .entry))
+        values₀)
+        → BothLoaded job (now (codes .exit)) (now (starts .exit)) (now (values .exit))) ⌝ }
 {
     load(first, codes, 0, starts);
     load(second, codes, first.len(), starts);
+    begin(rows, codes, first.len() + second.len(), values);
 }
 
 // The verdict of two trees that no check refuses, over a window.
@@ -99,7 +105,9 @@ pub(crate) fn whole_verdict(
     let mut codes = [0u16; MOST_CODES];
     let mut starts = [0usize; MOST_SHAPES];
     let mut marks = [0u8; MOST_SHAPES];
-    load_both(first, second, &mut codes, &mut starts);
+    let mut values = [0i64; csg::MOST_ROWS];
+    let mut rounds = [0u8; csg::MOST_ROWS];
+    load_both(rows, first, second, &mut codes, &mut starts, &mut values);
     let none = Contact {
         first: last_frame,
         last: first_frame,
@@ -122,6 +130,9 @@ pub(crate) fn whole_verdict(
         first_frame,
         last_frame,
         none,
+        &mut values,
+        &mut rounds,
+        0,
     );
     verdict_from(contact)
 }
@@ -153,7 +164,9 @@ pub(crate) fn whole_span(
     let mut codes = [0u16; MOST_CODES];
     let mut starts = [0usize; MOST_SHAPES];
     let mut marks = [0u8; MOST_SHAPES];
-    load_both(first, second, &mut codes, &mut starts);
+    let mut values = [0i64; csg::MOST_ROWS];
+    let mut rounds = [0u8; csg::MOST_ROWS];
+    load_both(rows, first, second, &mut codes, &mut starts, &mut values);
     let sooner = end_block(
         false,
         axes,
@@ -172,6 +185,9 @@ pub(crate) fn whole_span(
         first_frame,
         last_frame,
         past,
+        &mut values,
+        &mut rounds,
+        0,
     );
     if sooner == past {
         return Span::Clear;
@@ -194,6 +210,9 @@ pub(crate) fn whole_span(
         first_frame,
         last_frame,
         sooner,
+        &mut values,
+        &mut rounds,
+        0,
     );
     Span::Hit(sooner, later)
 }

@@ -2,6 +2,8 @@
 use crate::digits::WORD_LEVELS;
 use crate::digits::all_ones;
 use crate::digits::side_by_side;
+use crate::moves::amount;
+use crate::moves::doublings;
 use crate::pair::MOST_APART;
 use crate::pair::pairs_word;
 use crate::prune::INTERSECTION_NODE;
@@ -30,7 +32,6 @@ ghost use Rattle.at_once.specs.Words.{
   RowReady,
   WordBlock,
   wordBlock,
-  termOf,
   firstValue,
   stepOf,
   RowNamed,
@@ -49,6 +50,7 @@ ghost use Rattle.at_once.specs.Words.{
   joinedWord,
   wholeWord,
 };
+ghost use Rattle.at_once.specs.Moves.{RowValue, RowPlaced, ValueOf, RightValues};
 
 // The digits of a halfspace from twice its value at the centre of the first voxel: of one voxel the test, of twice as
 // many the digits of the low half, and above them those of the high half, where the value is one step more.
@@ -133,33 +135,16 @@ pub(crate) fn row_word(v: i64, steps: &[i64; WORD_LEVELS], left: u64) -> u64
     sixty_four(v, steps) & all_ones(left)
 }
 
-// What an axis adds to twice the value of row i at the centre of the voxel with these low places.
-fn term_of_row(
-    rows: &[i64],
-    i: usize,
-    low: &[u64; Universe::MOST_AXES as usize],
-    axis: usize,
-) -> i64
+// Twice the value of row i at the centre of the voxel at whose low end it has the value that is carried.
+pub(crate) fn value_of_row(rows: &[i64], i: usize, values: &[i64; csg::MOST_ROWS]) -> i64
     requires { ⌜ RowNamed (now rows) i ⌝ }
-    requires { ⌜ SmallPlaces (now low) ⌝ }
-    requires { ⌜ axis < mostAxes ⌝ }
-    ensures { λ r. ⌜ r ≡ termOf (rowAt (now (rows .entry)) i) (now (low .entry)) axis ⌝ }
+    requires { ⌜ RowPlaced (now rows) (now values) i ⌝ }
+    ensures { λ r. ⌜ ((placed : RowPlaced (now (rows .entry)) (now (values .entry)) i)
+        → r ≡ firstValue (rowAt (now (rows .entry)) i) (placed .low)) ⌝ }
 {
-    let coefficient = rows[csg::ROW_LENGTH * i + 1 + axis];
-    2 * (coefficient * (low[axis] as i64)) + coefficient
-}
-
-// That value.
-pub(crate) fn value_of_row(rows: &[i64], i: usize, low: &[u64; Universe::MOST_AXES as usize]) -> i64
-    requires { ⌜ RowNamed (now rows) i ⌝ }
-    requires { ⌜ SmallPlaces (now low) ⌝ }
-    ensures { λ r. ⌜ r ≡ firstValue (rowAt (now (rows .entry)) i) (now (low .entry)) ⌝ }
-{
-    let first = term_of_row(rows, i, low, 0);
-    let second = term_of_row(rows, i, low, 1);
-    let third = term_of_row(rows, i, low, 2);
-    let fourth = term_of_row(rows, i, low, 3);
-    2 * rows[csg::ROW_LENGTH * i] + (first + second + third + fourth)
+    let at = csg::ROW_LENGTH * i;
+    let value = values[i];
+    value + value + (rows[at + 1] + rows[at + 2] + rows[at + 3] + rows[at + 4])
 }
 
 // What digit j adds to it.
@@ -175,7 +160,11 @@ fn step_of_row(
     requires { ⌜ j < wordLevels ⌝ }
     ensures { λ r. ⌜ r ≡ stepOf (rowAt (now (rows .entry)) i) (now (table .entry)) (now (lengths .entry)) j ⌝ }
 {
-    2 * rows[csg::ROW_LENGTH * i + 1 + table[j]] * (lengths[j] as i64)
+    let once = amount(
+        rows[csg::ROW_LENGTH * i + 1 + table[j]],
+        doublings(lengths[j]),
+    );
+    once + once
 }
 
 // What each digit adds to it.
@@ -208,15 +197,17 @@ fn word_of_row(
     lengths: &[u64; WORD_LEVELS],
     low: &[u64; Universe::MOST_AXES as usize],
     left: u64,
+    values: &[i64; csg::MOST_ROWS],
 ) -> u64
     requires { let surfaces = surfacesOf (now rows) (now balls) in
         ⌜ WordBlock surfaces axes (now table) (now lengths) (now low) left ⌝ }
     requires { ⌜ i < rowCount (now rows) ⌝ }
+    requires { ⌜ RowValue (now rows) (now low) (now values) i ⌝ }
     ensures { λ r. let surfaces = surfacesOf (now (rows .entry)) (now (balls .entry)) in
         ⌜ ((block : WordBlock surfaces axes (now (table .entry)) (now (lengths .entry)) (now (low .entry)) left)
         → r ≡ blockMask (surfaceColour surfaces (block .universe) (halfspace i)) left (wordBlock block)) ⌝ }
 {
-    let value = value_of_row(rows, i, low);
+    let value = value_of_row(rows, i, values);
     let steps = steps_of_row(rows, i, table, lengths);
     row_word(value, &steps, left)
 }
@@ -347,9 +338,11 @@ fn surface_word(
     low: &[u64; Universe::MOST_AXES as usize],
     left: u64,
     name: u16,
+    values: &[i64; csg::MOST_ROWS],
 ) -> u64
     requires { let surfaces = surfacesOf (now rows) (now balls) in
         ⌜ SurfaceWord surfaces axes (now table) (now lengths) (now low) left name ⌝ }
+    requires { ⌜ ValueOf (now rows) (now low) (now values) (2 * name) ⌝ }
     ensures { λ r. let surfaces = surfacesOf (now (rows .entry)) (now (balls .entry)) in
         ⌜ ((job : SurfaceWord surfaces axes (now (table .entry)) (now (lengths .entry)) (now (low .entry)) left name)
         → r ≡ blockMask (surfaceColour surfaces (job .block .universe) (job .surface)) left
@@ -357,7 +350,7 @@ fn surface_word(
 {
     if name < csg::FIRST_BALL {
         let i = name as usize - csg::FIRST_HALFSPACE as usize;
-        return word_of_row(axes, rows, balls, i, table, lengths, low, left);
+        return word_of_row(axes, rows, balls, i, table, lengths, low, left, values);
     }
     let i = (name - csg::FIRST_BALL) as usize;
     word_of_ball(axes, rows, balls, i, table, lengths, low, left)
@@ -376,9 +369,11 @@ fn leaf_word(
     low: &[u64; Universe::MOST_AXES as usize],
     left: u64,
     code: u16,
+    values: &[i64; csg::MOST_ROWS],
 ) -> u64
     requires { let surfaces = surfacesOf (now rows) (now balls) in
         ⌜ LeafWord surfaces axes (now table) (now lengths) (now low) left code ⌝ }
+    requires { ⌜ ValueOf (now rows) (now low) (now values) code ⌝ }
     ensures { λ r. let surfaces = surfacesOf (now (rows .entry)) (now (balls .entry)) in
         ⌜ ((job : LeafWord surfaces axes (now (table .entry)) (now (lengths .entry)) (now (low .entry)) left code)
         → r ≡ blockMask (plainColour surfaces (job .block .universe) (job .tree)) left (wordBlock (job .block))) ⌝ }
@@ -390,7 +385,17 @@ fn leaf_word(
         }
         return ones;
     }
-    let word = surface_word(axes, rows, balls, table, lengths, low, left, code / 2);
+    let word = surface_word(
+        axes,
+        rows,
+        balls,
+        table,
+        lengths,
+        low,
+        left,
+        code / 2,
+        values,
+    );
     if code % 2 == 1 {
         return ones - word;
     }
@@ -430,9 +435,11 @@ pub(crate) fn trees_word(
     codes: &[u16],
     from: usize,
     count: usize,
+    values: &[i64; csg::MOST_ROWS],
 ) -> u64
     requires { let surfaces = surfacesOf (now rows) (now balls) in
         ⌜ TreesWord surfaces axes (now table) (now lengths) (now low) left (now codes) from count ⌝ }
+    requires { ⌜ RightValues (now rows) (now low) (now codes) from count (now values) ⌝ }
     ensures { λ r. let surfaces = surfacesOf (now (rows .entry)) (now (balls .entry)) in
         let low = now (low .entry) in
         let codes = now (codes .entry) in
@@ -455,7 +462,7 @@ pub(crate) fn trees_word(
             words[pending - 2] = joined;
             pending -= 1;
         } else {
-            words[pending] = leaf_word(axes, rows, balls, table, lengths, low, left, code);
+            words[pending] = leaf_word(axes, rows, balls, table, lengths, low, left, code, values);
             pending += 1;
         }
         i += 1;

@@ -1,6 +1,6 @@
 -- `both_of_leaf` by the kind of the leaf that the code has.
 use mathlib.Core.Path.{refl}
-use Rattle.at_once.proofs.LeafWords.{gives-white, gives-black, side-job, exchange-fits, gives-own, gives-reversed}
+use Rattle.at_once.proofs.LeafWords.{gives-white, gives-black, side-value, side-job, exchange-fits, gives-own, gives-reversed}
 use Rattle.at_once.proofs.both.both_of_leaf.Statement.{statement}
 use Rattle.at_once.proofs.both.both_of_leaf.Tie as tie
 
@@ -15,16 +15,16 @@ returns-2 c =
 both-of-surface-requires : tie.Need-both-of-surface-requires
 both-of-surface-requires c κs =
     let t = c .before in let l = c .if1 .left in
-    (side-job (t .pre .0) l, (side-job (t .pre .1 .0) l, t .pre .1 .1))
+    (side-job (t .pre .0) l, (side-job (t .pre .1 .0) l, (t .pre .1 .1 .0, (t .pre .1 .1 .1 .0, side-value (t .pre .1 .1 .1 .1)))))
 
-sub-t15 : tie.Need-sub-t15
-sub-t15 c =
+sub-t16 : tie.Need-sub-t16
+sub-t16 c =
     let c2 = c .before .before in let c3 = c2 .before in let c4 = c3 .before in
     let l = c3 .if1 .left in
     exchange-fits (c4 .pre .0) l (c2 .both-of-surface .ensures .0 (side-job (c4 .pre .0) l)) refl
 
-sub-t16 : tie.Need-sub-t16
-sub-t16 c =
+sub-t17 : tie.Need-sub-t17
+sub-t17 c =
     let c3 = c .before .before .before in let c4 = c3 .before in let c5 = c4 .before in
     let l = c4 .if1 .left in
     exchange-fits (c5 .pre .1 .0) l (c3 .both-of-surface .ensures .1 (side-job (c5 .pre .1 .0) l)) refl
@@ -44,4 +44,4 @@ returns-4 c =
 pub both-of-leaf-spec : {M : Type 1} → statement M
 both-of-leaf-spec =
     tie.close
-    (tie.spec returns returns-2 both-of-surface-requires sub-t15 sub-t16 returns-3 returns-4)
+    (tie.spec returns returns-2 both-of-surface-requires sub-t16 sub-t17 returns-3 returns-4)

@@ -1,5 +1,5 @@
 -- `both_words` reads node by node over the words pending of both halves (`Going`, twice): an operator joins the two last, a leaf is pushed.
-use Prim.Native.Nat.{_+_, _-_}
+use Prim.Native.Nat.{_+_, _-_, _≤_}
 use mathlib.Core.Path.{sym, _∙_}
 use mathlib.Core.Logic.{⊎-elim}
 use native.Mathlib.Omega.{arith}
@@ -8,25 +8,27 @@ use Rattle.at_once.specs.Words.{TreesWord}
 use Rattle.at_once.specs.Both.{placesAlong}
 use Rattle.at_once.proofs.TreeWords.{treeWord, word-joins, all-word, Going, going-start, code-inside, leaf-room, leaf-job, leaf-is, going-leaf}
 use Rattle.at_once.proofs.TreeWords.{join-two, going-join, going-end}
+use Rattle.at_once.proofs.BothWords.{value-here}
 use Rattle.at_once.proofs.both.both_words.Statement.{statement}
 use Rattle.at_once.proofs.both.both_words.Tie as tie
 
 abbrev Inv-loop : tie.InvT-loop
-Inv-loop axes rows balls table lengths low axis half codes from count belows₀ aboves₀ stop pending₀ i₀ belows aboves pending i =
+Inv-loop axes rows balls table lengths low axis half codes from count belows₀ aboves₀ values stop pending₀ i₀ belows aboves pending i =
     ((job : TreesWord (surfacesOf rows balls) axes table lengths low 6 codes from count) → Going (treeWord (job .block)) job belows pending i)
     × ((job : TreesWord (surfacesOf rows balls) axes table lengths (placesAlong low axis half) 6 codes from count) →
     Going (treeWord (job .block)) job aboves pending i)
+    × (from ≤ i)
 
 abbrev μ-loop : tie.MeasureT-loop
-μ-loop axes rows balls table lengths low axis half codes from count belows₀ aboves₀ stop pending₀ i₀ belows aboves pending i = from + count - i
+μ-loop axes rows balls table lengths low axis half codes from count belows₀ aboves₀ values stop pending₀ i₀ belows aboves pending i = from + count - i
 
 add-stop : tie.Need-add-stop Inv-loop μ-loop
 add-stop c = omega (arith, c .before .pre .0 .carried .inside)
 
 loop-holds : tie.Need-loop-holds Inv-loop μ-loop
 loop-holds c =
-    let s = c .before .pre .1 .1 .1 in
-    (λ job. going-start job (treeWord (job .block)) (s .belows-long), λ job. going-start job (treeWord (job .block)) (s .aboves-long))
+    let s = c .before .pre .1 .1 .1 .0 in
+    (λ job. going-start job (treeWord (job .block)) (s .belows-long), λ job. going-start job (treeWord (job .block)) (s .aboves-long), omega arith)
 
 mul-code : tie.Need-mul-code Inv-loop μ-loop
 mul-code c =
@@ -195,8 +197,16 @@ both-of-leaf-requires : tie.Need-both-of-leaf-requires Inv-loop μ-loop
 both-of-leaf-requires c κs =
     let c1 = c .before in let c3 = c1 .before .before in let c4 = c3 .before in let c6 = c4 .before .before in
     let v = c4 .loop .inv in let h = c3 .loop-test .taken in let o = sym (c1 .is-join .ensures) ∙ c .if1 .left in
-    let j = c6 .pre .0 in let k = c6 .pre .1 .0 in
-    (leaf-job j (v .0 j) h o, (leaf-job k (v .1 k) h o, c6 .pre .1 .1 .0))
+    let j = c6 .pre .0 in let k = c6 .pre .1 .0 in (
+      leaf-job j (v .0 j) h o,
+      (
+        leaf-job k (v .1 k) h o,
+        (
+          c6 .pre .1 .1 .0,
+          (c6 .pre .1 .1 .1 .1 .0, value-here (c6 .pre .1 .1 .1 .1 .1) (v .2) h),
+        ),
+      ),
+    )
 
 mul-belows-2 : tie.Need-mul-belows-2 Inv-loop μ-loop
 mul-belows-2 c =
@@ -249,10 +259,12 @@ loop-again c =
     (λ w. let o = sym e ∙ w .0 .taken in rw (w .7, w .8, w .9) (
       λ j. going-join j (v .0 j) h o (word-joins (j .block)) (w .3 .ensures),
       λ j. going-join j (v .1 j) h o (word-joins (j .block)) (w .6 .ensures),
+      omega (arith, v .2),
     ))
     (λ w. let o = sym e ∙ w .0 .left in rw (w .2, w .3, w .4) (
       λ j. let g = v .0 j in going-leaf j g h o (leaf-is j g h o (w .1 .ensures .0 (leaf-job j g h o))),
       λ j. let g = v .1 j in going-leaf j g h o (leaf-is j g h o (w .1 .ensures .1 (leaf-job j g h o))),
+      omega (arith, v .2),
     ))
     (c .if1 .came)
 

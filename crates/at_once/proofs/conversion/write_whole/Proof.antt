@@ -1,30 +1,35 @@
 -- `write_whole` writes the whole universe's block, with the codes of both trees loaded.
 use Rattle.at_once.proofs.Wholes.{shelf-long}
-use Rattle.at_once.proofs.Conversions.{both-job, whole-place, whole-job, whole-written}
+use Rattle.at_once.proofs.Conversions.{both-job, whole-place, whole-values, whole-job, whole-written}
 use borrow.Author.Needs.{needs}
 use Rattle.at_once.proofs.conversion.write_whole.Statement.{statement}
 use Rattle.at_once.proofs.conversion.write_whole.Tie as tie
 
 load-both-requires : tie.Need-load-both-requires
-load-both-requires c κs = both-job (c .before .before .before .before .before .before .before .before .before .before .pre) shelf-long
+load-both-requires c κs = both-job (c .before .before .before .before .before .before .before .before .before .before .before .pre) shelf-long
 
 write-block-requires : tie.Need-write-block-requires
 write-block-requires c κs =
-    let l = c .before .before .before .before in
+    let l = c .before .before .before .before .before .before in
     let b = l .before .before .before .before .before .before .before in
-    let s = b .before .before .before in
+    let s = b .before .before .before .before in
     let k = s .before .before .before .before .before .before .before .before in
-    let loaded = b .load-both .ensures (both-job (k .pre) shelf-long) in (
-      whole-job (k .pre) (l .levels .ensures) shelf-long (s .before .lengths-of .ensures) (s .whole-sides .ensures) loaded,
-      (record { starts-long = loaded .starts-long; codes-long = shelf-long }, whole-place (k .pre) (l .levels .ensures)),
+    let loaded = b .load-both .ensures (both-job (k .pre) shelf-long) in
+    let tabled = s .before .lengths-of .ensures in
+    let sides = s .whole-sides .ensures in (
+      whole-job (k .pre) (l .levels .ensures) shelf-long tabled sides loaded,
+      (
+        record { starts-long = loaded .starts-long; codes-long = shelf-long },
+        (whole-place (k .pre) (l .levels .ensures), whole-values (k .pre) (l .levels .ensures) shelf-long tabled sides loaded),
+      ),
     )
 
 returns : tie.Need-returns
 returns c =
     let w = c .before .before .before .before in
-    let l = w .before .before .before .before .before in
+    let l = w .before .before .before .before .before .before .before in
     let b = l .before .before .before .before .before .before .before in
-    let s = b .before .before .before in
+    let s = b .before .before .before .before in
     let k = s .before .before .before .before .before .before .before .before in
     let loaded = b .load-both .ensures (both-job (k .pre) shelf-long) in
     let tabled = s .before .lengths-of .ensures in

@@ -8,14 +8,14 @@ use Rattle.at_once.proofs.count.count_word.Statement.{statement}
 use Rattle.at_once.proofs.count.count_word.Tie as tie
 
 trees-word-requires : tie.Need-trees-word-requires
-trees-word-requires c κs = let k = c .before in trees-job (k .pre .0 .block) (k .pre .1)
+trees-word-requires c κs = let k = c .before in (trees-job (k .pre .0 .block) (k .pre .1 .0), k .pre .1 .1)
 
 returns : tie.Need-returns
 returns c =
     let k = c .before .before .before in
     let first = k .args .first in
     let last = k .args .last in
-    λ job. let t = trees-are (job .block) (k .pre .1) (c .before .trees-word .ensures) in
+    λ job. let t = trees-are (job .block) (k .pre .1 .0) (c .before .trees-word .ensures) in
     word-none (job .block) first last t refl (trees-none (job .block) first last t refl (c .if1 .taken)) (k .args .contact)
 
 sub-frame-axis : tie.Need-sub-frame-axis
@@ -34,12 +34,12 @@ element-copy-out-wide : tie.Need-element-copy-out-wide
 element-copy-out-wide c = last-axis (c .before .before .before .before .pre .0 .block)
 
 frames-word-requires : tie.Need-frames-word-requires
-frames-word-requires c κs = let k = c .before .before .before .before .before in framed (k .pre .0 .block) (k .pre .1)
+frames-word-requires c κs = let k = c .before .before .before .before .before in framed (k .pre .0 .block) (k .pre .1 .0)
 
 returns-2 : tie.Need-returns-2
 returns-2 c =
     let k = c .before .before .before .before .before .before .before in
-    let h = k .pre .1 in
+    let h = k .pre .1 .0 in
     λ job. word-none (job .block) (k .args .first) (k .args .last) (trees-are (job .block) h (c .before .before .before .before .before .trees-word .ensures))
     (frames-are (job .block) h (k .args .first) (k .args .last) (c .before .frames-word .ensures)) (c .if2 .taken) (k .args .contact)
 
@@ -56,7 +56,7 @@ joined-requires : tie.Need-joined-requires
 joined-requires c κs =
     let c6 = c .before .before .before .before .before .before in
     let k = c6 .before .before .before .before .before .before in
-    let h = k .pre .1 in
+    let h = k .pre .1 .0 in
     let j = k .pre .0 .block in
     ones-fit j (k .args .first) (k .args .last) (trees-are j h (c6 .before .before .before .before .trees-word .ensures))
     (frames-are j h (k .args .first) (k .args .last) (c6 .frames-word .ensures)) (c .before .before .before .before .before .if2 .left)
@@ -66,7 +66,7 @@ returns-3 : tie.Need-returns-3
 returns-3 c =
     let c6 = c .before .before .before .before .before .before in
     let k = c6 .before .before .before .before .before .before .before in
-    let h = k .pre .1 in
+    let h = k .pre .1 .0 in
     let trees = c6 .before .before .before .before .before .trees-word .ensures in
     let window = c6 .before .frames-word .ensures in
     λ job. c .joined .ensures
@@ -75,17 +75,17 @@ returns-3 c =
     (c .before .before .before .if3 .taken) (c .before .if4 .taken) (c .before .before .before .before .before .ones-of .ensures)
 
 word-end-requires : tie.Need-word-end-requires
-word-end-requires c κs = let k = c .before .before .before .before .before .before .before .before .before .before in halvings (k .pre .0 .block) (k .pre .1)
+word-end-requires c κs = let k = c .before .before .before .before .before .before .before .before .before .before in halvings (k .pre .0 .block) (k .pre .1 .0)
 
 word-end-requires-2 : tie.Need-word-end-requires-2
 word-end-requires-2 c κs =
-    let k = c .before .before .before .before .before .before .before .before .before .before .before in halvings (k .pre .0 .block) (k .pre .1)
+    let k = c .before .before .before .before .before .before .before .before .before .before .before in halvings (k .pre .0 .block) (k .pre .1 .0)
 
 add-joined : tie.Need-add-joined
 add-joined c =
     let c6 = c .before .before .before .before .before .before in
     let k = c6 .before .before .before .before .before .before in
-    let h = k .pre .1 in
+    let h = k .pre .1 .0 in
     let j = k .pre .0 .block in
     record {
       fits = word-end-fits j (k .args .first) (k .args .last) (trees-are j h (c6 .before .before .before .before .trees-word .ensures))
@@ -97,7 +97,7 @@ add-joined-2 : tie.Need-add-joined-2
 add-joined-2 c =
     let c6 = c .before .before .before .before .before .before in
     let k = c6 .before .before .before .before .before .before in
-    let h = k .pre .1 in
+    let h = k .pre .1 .0 in
     let j = k .pre .0 .block in
     record {
       fits = word-end-fits j (k .args .first) (k .args .last) (trees-are j h (c6 .before .before .before .before .trees-word .ensures))
@@ -109,7 +109,7 @@ joined-requires-2 : tie.Need-joined-requires-2
 joined-requires-2 c κs =
     let c6 = c .before .before .before .before .before .before in
     let k = c6 .before .before .before .before .before .before in
-    let h = k .pre .1 in
+    let h = k .pre .1 .0 in
     let j = k .pre .0 .block in
     ones-fit j (k .args .first) (k .args .last) (trees-are j h (c6 .before .before .before .before .trees-word .ensures))
     (frames-are j h (k .args .first) (k .args .last) (c6 .frames-word .ensures)) (c .before .before .before .before .before .if2 .left)
@@ -119,7 +119,7 @@ returns-4 : tie.Need-returns-4
 returns-4 c =
     let c6 = c .before .before .before .before .before .before in
     let k = c6 .before .before .before .before .before .before .before in
-    let h = k .pre .1 in
+    let h = k .pre .1 .0 in
     let trees = c6 .before .before .before .before .before .trees-word .ensures in
     let window = c6 .before .frames-word .ensures in
     λ job. c .joined2 .ensures

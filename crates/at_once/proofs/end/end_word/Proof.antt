@@ -8,14 +8,14 @@ use Rattle.at_once.proofs.end.end_word.Statement.{statement}
 use Rattle.at_once.proofs.end.end_word.Tie as tie
 
 trees-word-requires : tie.Need-trees-word-requires
-trees-word-requires c κs = let k = c .before in trees-job (k .pre .0) (k .pre .1)
+trees-word-requires c κs = let k = c .before in (trees-job (k .pre .0) (k .pre .1 .0), k .pre .1 .1)
 
 returns : tie.Need-returns
 returns c =
     let k = c .before .before .before in
     let first = k .args .first in
     let last = k .args .last in
-    λ job. let t = trees-are job (k .pre .1) (c .before .trees-word .ensures) in
+    λ job. let t = trees-are job (k .pre .1 .0) (c .before .trees-word .ensures) in
     end-word-none job first last (k .args .backward) (k .args .known) t refl (trees-none job first last t refl (c .if1 .taken))
 
 sub-frame-axis : tie.Need-sub-frame-axis
@@ -34,23 +34,23 @@ element-copy-out-wide : tie.Need-element-copy-out-wide
 element-copy-out-wide c = last-axis (c .before .before .before .before .pre .0)
 
 frames-word-requires : tie.Need-frames-word-requires
-frames-word-requires c κs = let k = c .before .before .before .before .before in framed (k .pre .0) (k .pre .1)
+frames-word-requires c κs = let k = c .before .before .before .before .before in framed (k .pre .0) (k .pre .1 .0)
 
 returns-2 : tie.Need-returns-2
 returns-2 c =
     let k = c .before .before .before .before .before .before .before in
-    let h = k .pre .1 in
+    let h = k .pre .1 .0 in
     λ job. end-word-none job (k .args .first) (k .args .last) (k .args .backward) (k .args .known)
     (trees-are job h (c .before .before .before .before .before .trees-word .ensures))
     (frames-are job h (k .args .first) (k .args .last) (c .before .frames-word .ensures)) (c .if2 .taken)
 
 word-end-requires : tie.Need-word-end-requires
-word-end-requires c κs = let k = c .before .before .before .before .before .before .before in halvings (k .pre .0) (k .pre .1)
+word-end-requires c κs = let k = c .before .before .before .before .before .before .before in halvings (k .pre .0) (k .pre .1 .0)
 
 add-better : tie.Need-add-better
 add-better c =
     let k = c .before .before .before .before .before .before .before .before in
-    let h = k .pre .1 in
+    let h = k .pre .1 .0 in
     let j = k .pre .0 in
     record {
       fits = word-end-fits j (k .args .first) (k .args .last) (trees-are j h (c .before .before .before .before .before .before .trees-word .ensures))
@@ -64,7 +64,7 @@ better-requires c κs = tt
 returns-3 : tie.Need-returns-3
 returns-3 c =
     let k = c .before .before .before .before .before .before .before .before .before in
-    let h = k .pre .1 in
+    let h = k .pre .1 .0 in
     λ job. end-word job (k .args .first) (k .args .last) (k .args .backward) (k .args .known)
     (trees-are job h (c .before .before .before .before .before .before .before .trees-word .ensures))
     (frames-are job h (k .args .first) (k .args .last) (c .before .before .before .frames-word .ensures)) (c .before .before .if2 .left)

@@ -1,6 +1,7 @@
 -- `lay_words`: the words of both halves, their texts laid one behind the other, and joined.
 use native.Mathlib.Omega.{arith}
 use mathlib.Core.Path.{_∙_}
+use Rattle.at_once.proofs.Moving.{half-power}
 use Rattle.at_once.proofs.Layings.{block-fits}
 use Rattle.at_once.proofs.BothWords.{axis-here, low-trees, high-trees, low-text, high-text, words-end, words-laid}
 use borrow.Author.Needs.{needs}
@@ -19,7 +20,7 @@ element-copy-out-half c = omega (arith, axis-here (c .before .before .before .pr
 both-words-requires : tie.Need-both-words-requires
 both-words-requires c κs =
     let k = c .before .before .before .before .before .before .pre in
-    (low-trees (k .0), (high-trees (k .0), (axis-here (k .0), k .1 .1)))
+    (low-trees (k .0), (high-trees (k .0), (axis-here (k .0), (k .1 .1 .0, (half-power (k .0) (omega arith), k .1 .1 .1)))))
 
 add-lay-word : tie.Need-add-lay-word
 add-lay-word c =

@@ -21,25 +21,25 @@ along-requires-4 c κs = (c .before .before .before .pre .0, (c .before .before 
 add-result : tie.Need-add-result
 add-result c =
     let k = c .before .before .before .before .pre in
-    two-fits (along-small (k .0) (k .1)) (c .before .before .before .along .ensures) (c .before .before .along2 .ensures)
+    two-fits (along-small (k .0) (k .1 .short)) (c .before .before .before .along .ensures) (c .before .before .along2 .ensures)
     (c .before .along3 .ensures) (c .along4 .ensures)
 
 add-result-2 : tie.Need-add-result-2
 add-result-2 c =
     let k = c .before .before .before .before .pre in
-    three-fits (along-small (k .0) (k .1)) (c .before .before .before .along .ensures) (c .before .before .along2 .ensures)
+    three-fits (along-small (k .0) (k .1 .short)) (c .before .before .before .along .ensures) (c .before .before .along2 .ensures)
     (c .before .along3 .ensures) (c .along4 .ensures)
 
 add-result-3 : tie.Need-add-result-3
 add-result-3 c =
     let k = c .before .before .before .before .pre in
-    four-fits (along-small (k .0) (k .1)) (c .before .before .before .along .ensures) (c .before .before .along2 .ensures)
+    four-fits (along-small (k .0) (k .1 .short)) (c .before .before .before .along .ensures) (c .before .before .along2 .ensures)
     (c .before .along3 .ensures) (c .along4 .ensures)
 
 returns : tie.Need-returns
 returns c =
     let k = c .before .before .before .before .pre in
-    four-are (along-small (k .0) (k .1)) (c .before .before .before .along .ensures) (c .before .before .along2 .ensures)
+    four-are (along-small (k .0) (k .1 .short)) (c .before .before .before .along .ensures) (c .before .before .along2 .ensures)
     (c .before .along3 .ensures) (c .along4 .ensures)
 
 pub sum-along-spec : {M : Type 1} → statement M

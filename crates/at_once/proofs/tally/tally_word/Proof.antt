@@ -9,7 +9,7 @@ use Rattle.at_once.proofs.tally.tally_word.Tie as tie
 three-words-requires : tie.Need-three-words-requires
 three-words-requires c κs =
     let c4 = c .before .before .before .before in
-    (trees-job (c4 .pre .0) (c4 .pre .1 .0), c4 .pre .1 .1)
+    (trees-job (c4 .pre .0) (c4 .pre .1 .0), (c4 .pre .1 .1 .0, c4 .pre .1 .1 .1))
 
 tally-of-requires : tie.Need-tally-of-requires
 tally-of-requires c κs = tt

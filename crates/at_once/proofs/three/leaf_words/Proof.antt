@@ -1,5 +1,5 @@
 -- `leaf_words` by the kind of the leaf that the code has.
-use Rattle.at_once.proofs.LeafWords.{side-job}
+use Rattle.at_once.proofs.LeafWords.{side-value, side-job}
 use Rattle.at_once.proofs.OwnLeaves.{three-white, three-black, three-own, three-within, three-reversed}
 use Rattle.at_once.proofs.three.leaf_words.Statement.{statement}
 use Rattle.at_once.proofs.three.leaf_words.Tie as tie
@@ -15,7 +15,7 @@ returns c =
 all-ones-requires : tie.Need-all-ones-requires
 all-ones-requires c κs =
     let c1 = c .before in
-    c1 .pre .block .few
+    c1 .pre .0 .block .few
 
 alike-requires-2 : tie.Need-alike-requires-2
 alike-requires-2 c κs = tt
@@ -28,12 +28,12 @@ returns-2 c =
 surface-words-requires : tie.Need-surface-words-requires
 surface-words-requires c κs =
     let c3 = c .before .before .before in
-    side-job (c3 .pre) (c .if2 .left)
+    (side-job (c3 .pre .0) (c .if2 .left), side-value (c3 .pre .1))
 
 reversed-requires : tie.Need-reversed-requires
 reversed-requires c κs =
     let c1 = c .before in let c2 = c1 .before in let c3 = c2 .before in let c5 = c3 .before .before in
-    let l = c2 .if2 .left in three-within (c5 .pre) l (c1 .surface-words .ensures (side-job (c5 .pre) l)) (c3 .all-ones .ensures)
+    let l = c2 .if2 .left in three-within (c5 .pre .0) l (c1 .surface-words .ensures (side-job (c5 .pre .0) l)) (c3 .all-ones .ensures)
 
 returns-3 : tie.Need-returns-3
 returns-3 c =

@@ -1,6 +1,6 @@
 -- `leaf_digit` by the kind of the leaf that the code has.
 use mathlib.Core.Path.{refl}
-use Rattle.at_once.proofs.LeafWords.{gives-white, gives-black, exchange-fits, gives-own, gives-reversed}
+use Rattle.at_once.proofs.LeafWords.{side-value, gives-white, gives-black, exchange-fits, gives-own, gives-reversed}
 use Rattle.at_once.proofs.Voxels.{voxel-side}
 use Rattle.at_once.proofs.voxel.leaf_digit.Statement.{statement}
 use Rattle.at_once.proofs.voxel.leaf_digit.Tie as tie
@@ -12,10 +12,10 @@ returns-2 : tie.Need-returns-2
 returns-2 c = λ job. gives-black (job .word) (c .before .if1 .left) (c .if2 .taken) refl
 
 surface-digit-requires : tie.Need-surface-digit-requires
-surface-digit-requires c κs = voxel-side (c .before .before .pre) (c .if2 .left)
+surface-digit-requires c κs = let t = c .before .before in (voxel-side (t .pre .0) (c .if2 .left), side-value (t .pre .1))
 
 sub-result : tie.Need-sub-result
-sub-result c = let job = c .before .before .before .before .pre in let l = c .before .before .if2 .left in
+sub-result c = let job = c .before .before .before .before .pre .0 in let l = c .before .before .if2 .left in
     exchange-fits (job .word) l (c .before .surface-digit .ensures (voxel-side job l)) refl
 
 returns-3 : tie.Need-returns-3
