@@ -6,31 +6,31 @@ use mathlib.Core.Bool.{Bool, true, false, cond, not}
 use mathlib.Core.List.{List}
 use native.Mathlib.Omega.{arith}
 use lib.Bits.{bitAnd}
-use lib.IntN.{ℤ}
 use lib.ListN.{getD, set}
+use lib.Seq.{set-getD, set-set}
 use Rattle.lemmas.proofs.Stores.{restored}
 use Rattle.universe.specs.declared.Universe.{Universe}
 use Rattle.universe.specs.declared.Block.{Block}
+use Rattle.universe.specs.Block.{Given}
 use Rattle.bintree.specs.Windows.{noContact}
 use Rattle.csg.specs.Surfaces.{Surfaces}
 use Rattle.demands.specs.Voxels.{Colouring}
-use Rattle.convert.specs.Blocks.{blockLeft}
-use Rattle.masks.specs.Block.{blockMask}
+use Rattle.convert.specs.Blocks.{Standing, blockLeft, halvedSides}
+use Rattle.convert.proofs.Blocks.{lower-standing, upper-standing}
+use Rattle.masks.specs.Block.{halfOf, blockMask}
 use Rattle.masks.specs.Windows.{windowed, windowMask}
 use Rattle.masks.specs.Ends.{better, AsGood, no-later, no-earlier, endIn, bestSeen}
 use Rattle.masks.specs.MaskEnds.{maskEnd}
+use Rattle.masks.proofs.Block.{half-given}
 use Rattle.masks.proofs.Ends.{end-halves, end-either, end-bound-seen}
 use Rattle.masks.proofs.MaskEnds.{end-none, end-mask}
 use Rattle.masks.proofs.OneColour.{white-end, black-end}
-use Rattle.at_once.specs.Codes.{SameCodes}
+use Rattle.at_once.specs.Codes.{SameCodes, AtBlock}
 use Rattle.at_once.specs.Pruning.{PrunedCodes}
-use Rattle.at_once.specs.Counting.{BlockJob, halfOf, coloursOf, endOver, endHalf, PutBack}
-use Rattle.at_once.specs.Moves.{ValuesAt, Unmoved}
+use Rattle.at_once.specs.Counting.{BlockJob, coloursOf, endOver, PutBack}
 use Rattle.at_once.proofs.Jobs.{frame-is, leftover, begin-is, end-is, prune-job, decided-white, decided-black, left-job, left-colours, left-suc}
-use Rattle.at_once.proofs.Jobs.{lower-block, upper-block, lower-at, upper-at, lower-job, upper-job, carrying-same, same-then}
+use Rattle.at_once.proofs.Jobs.{lower-block, upper-block, standing′, at-level, inner, room-same, carrying-same, same-then}
 use Rattle.at_once.proofs.Counting.{outside-end, end-agree, seen-is}
-use Rattle.at_once.proofs.Rooms.{same-itself}
-use Rattle.at_once.proofs.Moving.{same-values}
 
 pub better-last : {backward : Bool} {r : ℕ} (x y : ℕ) → backward ≡ true → r ≡ max x y → r ≡ better backward x y
 better-last x y e q = rw e q
@@ -42,6 +42,10 @@ better-first x y e q = rw e q
 better-stays : (backward : Bool) (x y : ℕ) → better backward x y ≡ x → AsGood x y backward
 better-stays true x y e = no-earlier (omega arith)
 better-stays false x y e = no-later (omega arith)
+
+other-place : (t : Bool) (x y : ℕ) → cond t x y ≡ cond (not t) y x
+other-place true x y = refl
+other-place false x y = refl
 
 -- ---- a block
 module _ {surfaces : Surfaces} {axes : ℕ} {table lengths low side : List ℕ} {left : ℕ} {codes : List ℕ} {from count times : ℕ}
@@ -113,7 +117,7 @@ module _ {surfaces : Surfaces} {axes : ℕ} {table lengths low side : List ℕ} 
     end-opened not-white not-black n e q =
         q ∙ sym (end-agree first last left b (leftover job) (coloursOf job) _ (left-colours job h pruned not-white not-black n e) backward known)
 
--- ---- one half, and both of them
+-- ---- both halves
 module _ {surfaces : Surfaces} {axes : ℕ} {table lengths low side : List ℕ} {left : ℕ} {codes : List ℕ} {from count : ℕ}
     (job : BlockJob surfaces axes table lengths low side left codes from count left) (some : 1 ≤ left) where
   abbrev v : Universe
@@ -131,62 +135,56 @@ module _ {surfaces : Surfaces} {axes : ℕ} {table lengths low side : List ℕ} 
   abbrev half : ℕ
   half = getD side axis 0 / 2
 
-  abbrev HalfJob : List ℕ → Type 0
-  HalfJob lows = BlockJob surfaces axes table lengths lows (set side axis half) (left - 1) codes from count (left - 1 + 1)
+  -- the low places of one half or the other
+  abbrev halfLows : Bool → List ℕ
+  halfLows t = set low axis (cond t (near + half) near)
 
-  abbrev WholeJob : List ℕ → List ℕ → List ℕ → Type 0
-  WholeJob lows sides codes′ = BlockJob surfaces axes table lengths lows sides left codes′ from count left
+  half-block : (t : Bool) → blockLeft v (left - 1) (halfLows t) ≡ halfOf t P
+  half-block true = upper-block job some
+  half-block false = ap (blockLeft v (left - 1)) (set-getD low axis 0) ∙ lower-block job some
 
-  pub high-job : HalfJob (set low axis (near + half))
-  high-job = upper-job job some same-itself
+  half-standing : (t : Bool) → Standing v (left - 1) (halfLows t) (halvedSides side axis)
+  half-standing true = upper-standing v (job .at .scene .accepted-universe) (left - 1) low side (standing′ job some) axis (at-level job some)
+  half-standing false =
+      rw (set-getD low axis 0) (lower-standing v (job .at .scene .accepted-universe) (left - 1) low side (standing′ job some) axis (at-level job some))
 
-  -- what is changed for one half is put back
-  pub low-back : {low₁ side₁ codes₁ : List ℕ} → PutBack (from + count) low (set side axis half) codes low₁ side₁ codes₁ →
-      PutBack (from + count) low side codes low₁ (set side₁ axis (getD side axis 0)) codes₁
-  low-back p =
+  half-at : (t : Bool) → AtBlock surfaces axes (halfLows t) (halvedSides side axis) (left - 1)
+  half-at t =
       record {
-        lows = p .lows;
-        sides = ap (λ (l : List ℕ). set l axis (getD side axis 0)) (p .sides) ∙ restored side axis half;
-        below = p .below;
+        universe = v;
+        scene = job .at .scene;
+        axes-are = job .at .axes-are;
+        standing = half-standing t;
+        given = subst Given (sym (half-block t)) (half-given t (job .at .given) (inner job some));
       }
 
-  pub high-back : {low₁ side₁ codes₁ : List ℕ} → PutBack (from + count) (set low axis (near + half)) (set side axis half) codes low₁ side₁ codes₁ →
-      PutBack (from + count) low side codes (set low₁ axis near) (set side₁ axis (getD side axis 0)) codes₁
-  high-back p =
+  half-job : (t : Bool) {codes′ : List ℕ} → SameCodes (from + count) codes codes′ →
+      BlockJob surfaces axes table lengths (halfLows t) (halvedSides side axis) (left - 1) codes′ from count (left - 1 + 1)
+  unfolding half-at
+  half-job t s =
       record {
-        lows = ap (λ (l : List ℕ). set l axis near) (p .lows) ∙ restored low axis (near + half);
-        sides = ap (λ (l : List ℕ). set l axis (getD side axis 0)) (p .sides) ∙ restored side axis half;
-        below = p .below;
-      }
-
-  -- the block again, one half of it done
-  unfoldable same-job : {codes′ : List ℕ} → SameCodes (from + count) codes codes′ → WholeJob low side codes′
-  same-job s =
-      record {
-        at = job .at;
+        at = half-at t;
         tabled = job .tabled;
         carrying = carrying-same s (job .carrying);
-        room = omega (arith, job .room, s .long);
+        room = omega (arith, room-same job some, s .long);
         bounded = omega (arith, s .long, job .bounded);
       }
 
-  pub again-job : {low₁ side₁ codes₁ : List ℕ} → PutBack (from + count) low side codes low₁ side₁ codes₁ → WholeJob low₁ side₁ codes₁
-  again-job p = rw (p .lows, p .sides) (same-job (p .below))
+  abbrev HalfJob : List ℕ → List ℕ → List ℕ → Type 0
+  HalfJob lows sides codes′ = BlockJob surfaces axes table lengths lows sides (left - 1) codes′ from count (left - 1 + 1)
 
   module _ (first last : ℕ) (backward : Bool) (known : ℕ) where
     abbrev seenIn : Colouring
     seenIn = windowed v first last (coloursOf job)
 
     -- what one half comes to
-    pub low-end : {high : Bool} → high ≡ false → {r : ℕ} → ((j : HalfJob low) → r ≡ endOver backward first last j known) →
-        r ≡ endHalf backward high first last job known
-    unfolding lower-job lower-at
-    low-end q f = rw q (f (lower-job job some) ∙ ap (λ (x : Block). endIn backward seenIn (left - 1) x known) (lower-block job some))
-
-    pub high-end : {high : Bool} → high ≡ true → {r : ℕ} → ((j : HalfJob (set low axis (near + half))) → r ≡ endOver backward first last j known) →
-        r ≡ endHalf backward high first last job known
-    unfolding upper-job upper-at carrying-same
-    high-end q f = rw q (f (upper-job job some same-itself) ∙ ap (λ (x : Block). endIn backward seenIn (left - 1) x known) (upper-block job some))
+    half-end : (t : Bool) {lows sides codes′ : List ℕ} → lows ≡ halfLows t → sides ≡ halvedSides side axis → SameCodes (from + count) codes codes′ →
+        (k : ℕ) {r : ℕ} → ((j : HalfJob lows sides codes′) → r ≡ endOver backward first last j k) → r ≡ endIn backward seenIn (left - 1) (halfOf t P) k
+    unfolding half-job half-at carrying-same
+    half-end t {lows} {sides} {codes′} e d s k {r} f =
+        let g = subst (λ (l : List ℕ). (j : HalfJob l sides codes′) → r ≡ endOver backward first last j k) e f in
+        let h = subst (λ (l : List ℕ). (j : HalfJob (halfLows t) l codes′) → r ≡ endOver backward first last j k) d g in
+        h (half-job t s) ∙ ap (λ (x : Block). endIn backward seenIn (left - 1) x k) (half-block t)
 
     -- the end of both, the one first whose frames come first as they are sought
     halves-end : endOver backward first last job known
@@ -199,25 +197,41 @@ module _ {surfaces : Surfaces} {axes : ℕ} {table lengths low side : List ℕ} 
         go false = refl
         go true = end-either backward seenIn (left - 1) (left - 1) (halfOf true P) (halfOf false P) known
 
-    pub ends-both : {sooner later : ℕ} {low₁ side₁ codes₁ : List ℕ} → sooner ≡ endHalf backward backward first last job known →
-        PutBack (from + count) low side codes low₁ side₁ codes₁ →
-        ((j : WholeJob low₁ side₁ codes₁) → later ≡ endHalf backward (not backward) first last j sooner) → later ≡ endOver backward first last job known
-    unfolding same-job carrying-same
-    ends-both {sooner} {later} {low₁} {side₁} {codes₁} e p f =
-        let g = subst (λ (l : List ℕ). (j : WholeJob l side₁ codes₁) → later ≡ endHalf backward (not backward) first last j sooner) (p .lows) f in
-        let h = subst (λ (l : List ℕ). (j : WholeJob low l codes₁) → later ≡ endHalf backward (not backward) first last j sooner) (p .sides) g in
-        h (same-job (p .below)) ∙ ap (endIn backward seenIn (left - 1) (halfOf (not backward) P)) e ∙ sym halves-end
+    module _ {place : ℕ} (e : place ≡ cond backward (near + half) near) where
+      sooner-lows : set low axis place ≡ halfLows backward
+      sooner-lows = ap (set low axis) e
 
--- what is put back twice
-pub back-then : {place : ℕ} {low side codes low₁ side₁ codes₁ low₂ side₂ codes₂ : List ℕ} → PutBack place low side codes low₁ side₁ codes₁ →
-    PutBack place low₁ side₁ codes₁ low₂ side₂ codes₂ → PutBack place low side codes low₂ side₂ codes₂
-back-then p q = record { lows = q .lows ∙ p .lows; sides = q .sides ∙ p .sides; below = same-then (p .below) (q .below) }
+      same-so-far : SameCodes (from + count) codes codes
+      same-so-far = record { same = λ k h. refl; long = refl }
 
-pub unmoved-then : {values values₁ values₂ : List ℤ} {rounds rounds₁ rounds₂ : List ℕ} → Unmoved values rounds values₁ rounds₁ →
-    Unmoved values₁ rounds₁ values₂ rounds₂ → Unmoved values rounds values₂ rounds₂
-unmoved-then m n = record { values-are = n .values-are ∙ m .values-are; rounds-are = n .rounds-are ∙ m .rounds-are }
+      pub sooner-job : HalfJob (set low axis place) (set side axis half) codes
+      sooner-job = rw sooner-lows (half-job backward same-so-far)
 
-pub again-values : {rows : List ℤ} {low side codes low₁ side₁ codes₁ : List ℕ} {from count : ℕ} {values values₁ : List ℤ} {rounds rounds₁ : List ℕ}
-    {round : ℕ} → ValuesAt rows low codes from count values rounds round → PutBack (from + count) low side codes low₁ side₁ codes₁ →
-    Unmoved values rounds values₁ rounds₁ → ValuesAt rows low₁ codes₁ from count values₁ rounds₁ round
-again-values at p m = rw (p .lows) (same-values (p .below) m at)
+      -- the one half is done
+      module _ {sooner : ℕ} {low₁ side₁ codes₁ : List ℕ}
+          (f : (j : HalfJob (set low axis place) (set side axis half) codes) → sooner ≡ endOver backward first last j known)
+          (p : PutBack (from + count) (set low axis place) (set side axis half) codes low₁ side₁ codes₁)
+          {other : ℕ} (d : other ≡ cond backward near (near + half)) where
+        later-lows : set low₁ axis other ≡ halfLows (not backward)
+        later-lows =
+            ap (λ (l : List ℕ). set l axis other) (p .lows) ∙ set-set low axis place other ∙ ap (set low axis) (d ∙ other-place backward near (near + half))
+
+        pub later-job : HalfJob (set low₁ axis other) side₁ codes₁
+        later-job = rw (later-lows, p .sides) (half-job (not backward) (p .below))
+
+        -- and the other
+        module _ {later : ℕ} {low₂ side₂ codes₂ : List ℕ} (g : (j : HalfJob (set low₁ axis other) side₁ codes₁) → later ≡ endOver backward first last j sooner)
+            (r : PutBack (from + count) (set low₁ axis other) side₁ codes₁ low₂ side₂ codes₂) where
+          pub ends-both : later ≡ endOver backward first last job known
+          ends-both =
+              half-end (not backward) later-lows (p .sides) (p .below) sooner g
+              ∙ ap (endIn backward seenIn (left - 1) (halfOf (not backward) P)) (half-end backward sooner-lows refl same-so-far known f)
+              ∙ sym halves-end
+
+          pub ends-back : PutBack (from + count) low side codes (set low₂ axis near) (set side₂ axis (getD side axis 0)) codes₂
+          ends-back =
+              record {
+                lows = ap (λ (l : List ℕ). set l axis near) (r .lows ∙ later-lows) ∙ restored low axis (cond (not backward) (near + half) near);
+                sides = ap (λ (l : List ℕ). set l axis (getD side axis 0)) (r .sides ∙ p .sides) ∙ restored side axis half;
+                below = same-then (p .below) (r .below);
+              }

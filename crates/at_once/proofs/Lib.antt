@@ -28,6 +28,7 @@ pub mod Threes
 pub mod Jobs
 pub mod Rounds
 pub mod Moving
+pub mod Orders
 pub mod Counting
 pub mod Betters
 pub mod Tallies

@@ -2,12 +2,11 @@
 -- block's black voxels of a window joined, or the better of a frame and of theirs.
 use Prim.Native.Nat.{ℕ, suc, _+_, _-_, _*_, _/_, _^_, _≤_, _<_, min, max}
 use mathlib.Core.Path.{_≡_}
-use mathlib.Core.Bool.{Bool, cond}
+use mathlib.Core.Bool.{Bool}
 use mathlib.Core.List.{List}
 use lib.ListN.{length}
 use Rattle.universe.specs.Universe.{mostLevels, longestSide}
 use Rattle.universe.specs.declared.Block.{Block}
-use Rattle.universe.specs.Block.{low, high}
 use Rattle.bintree.specs.declared.Contact.{Contact}
 use Rattle.csg.specs.Surfaces.{Surfaces}
 use Rattle.demands.specs.Voxels.{Colouring}
@@ -28,10 +27,6 @@ pub record BlockJob (surfaces : Surfaces) (axes : ℕ) (table lengths low side :
   pub room : from + times * count ≤ length codes
   pub bounded : length codes < 2 ^ 60
 
--- one half of a block
-abbrev pub halfOf : Bool → Block → Block
-halfOf upper b = cond upper (high b) (low b)
-
 module _ {surfaces : Surfaces} {axes : ℕ} {table lengths low side : List ℕ} {left : ℕ} {codes : List ℕ}
     {from count times : ℕ} where
   -- the colours of what is carried
@@ -47,13 +42,6 @@ module _ {surfaces : Surfaces} {axes : ℕ} {table lengths low side : List ℕ} 
       ℕ → ℕ
   endOver backward first last job known =
       endIn backward (windowed (job .at .universe) first last (coloursOf job)) left (blockAt (job .at)) known
-
-  -- the same by one half alone, the high one or the low one
-  abbrev pub endHalf : Bool → Bool → ℕ → ℕ → BlockJob surfaces axes table lengths low side left codes from count times →
-      ℕ → ℕ
-  endHalf backward upper first last job known =
-      endIn backward (windowed (job .at .universe) first last (coloursOf job)) (left - 1)
-      (halfOf upper (blockAt (job .at))) known
 
 -- a block whose voxels can be counted
 pub record CountJob (surfaces : Surfaces) (axes : ℕ) (table lengths low side : List ℕ) (left : ℕ)

@@ -7,6 +7,8 @@ use crate::frames::lesser;
 use crate::marks::BLACK_BIT;
 use crate::marks::WHITE_BIT;
 use crate::moves::move_values;
+use crate::moves::move_where;
+use crate::moves::turned;
 use crate::prune::MOST_SHAPES;
 use crate::prune::prune;
 use crate::window::frames_word;
@@ -18,7 +20,7 @@ ghost use Prim.Native.Nat.{_+_, _≤_};
 ghost use Rattle.csg.specs.Surfaces.{surfacesOf};
 ghost use Rattle.pruned.specs.Nodes.{Shelves};
 ghost use Rattle.masks.specs.Ends.{better};
-ghost use Rattle.at_once.specs.Counting.{endOver, endHalf, BlockJob, PutBack};
+ghost use Rattle.at_once.specs.Counting.{endOver, BlockJob, PutBack};
 ghost use Rattle.at_once.specs.Moves.{RightValues, ValuesAt, Unmoved};
 ghost use Rattle.at_once.specs.Words.{wordLevels};
 
@@ -250,150 +252,28 @@ fn end_halves(
     ensures { λ _. ⌜ Shelves (now (starts .exit)) (now (marks .exit)) ⌝ }
     ensures { λ _. ⌜ Unmoved (now (values .entry)) (now (rounds .entry)) (now (values .exit)) (now (rounds .exit)) ⌝ }
 {
-    let sooner = end_half(
-        backward,
-        backward,
-        axes,
-        rows,
-        balls,
-        table,
-        lengths,
-        low,
-        side,
-        left,
-        codes,
-        from,
-        count,
-        starts,
-        marks,
-        first,
-        last,
-        known,
-        values,
-        rounds,
-        round,
-    );
-    end_half(
-        backward,
-        !backward,
-        axes,
-        rows,
-        balls,
-        table,
-        lengths,
-        low,
-        side,
-        left,
-        codes,
-        from,
-        count,
-        starts,
-        marks,
-        first,
-        last,
-        sooner,
-        values,
-        rounds,
-        round,
-    )
-}
-
-// The same by one half, the high one or the low one.
-fn end_half(
-    backward: bool,
-    high: bool,
-    axes: usize,
-    rows: &[i64],
-    balls: &[i64],
-    table: &[usize; Universe::MOST_LEVELS as usize],
-    lengths: &[u64; WORD_LEVELS],
-    low: &mut [u64; Universe::MOST_AXES as usize],
-    side: &mut [u64; Universe::MOST_AXES as usize],
-    left: u64,
-    codes: &mut [u16],
-    from: usize,
-    count: usize,
-    starts: &mut [usize; MOST_SHAPES],
-    marks: &mut [u8; MOST_SHAPES],
-    first: u64,
-    last: u64,
-    known: u64,
-    values: &mut [i64; csg::MOST_ROWS],
-    rounds: &mut [u8; csg::MOST_ROWS],
-    round: u8,
-) -> u64
-    requires { let surfaces = surfacesOf (now rows) (now balls) in
-        ⌜ BlockJob surfaces axes (now table) (now lengths) (now low) (now side) left (now codes) from count left ⌝ }
-    requires { ⌜ 1 ≤ left ⌝ }
-    requires { ⌜ Shelves (now starts) (now marks) ⌝ }
-    requires { ⌜ ValuesAt (now rows) (now low) (now codes) from count (now values) (now rounds) round ⌝ }
-    ensures { λ r. let surfaces = surfacesOf (now (rows .entry)) (now (balls .entry)) in
-        ⌜ ((job : BlockJob surfaces axes (now (table .entry)) (now (lengths .entry)) (now (low .entry))
-        (now (side .entry)) left (now (codes .entry)) from count left)
-        → r ≡ endHalf backward high first last job known) ⌝ }
-    ensures { λ _. ⌜ PutBack (from + count) (now (low .entry)) (now (side .entry)) (now (codes .entry))
-        (now (low .exit)) (now (side .exit)) (now (codes .exit)) ⌝ }
-    ensures { λ _. ⌜ Shelves (now (starts .exit)) (now (marks .exit)) ⌝ }
-    ensures { λ _. ⌜ Unmoved (now (values .entry)) (now (rounds .entry)) (now (values .exit)) (now (rounds .exit)) ⌝ }
-{
     let axis = table[(left - 1) as usize];
     let near = low[axis];
     let whole = side[axis];
     let half = whole / 2;
+    let far = near + half;
     side[axis] = half;
-    if high {
-        low[axis] = near + half;
-        move_values(
-            true,
-            rows,
-            axis,
-            half,
-            codes,
-            from,
-            count,
-            values,
-            rounds,
-            round,
-        );
-        let found = end_block(
-            backward,
-            axes,
-            rows,
-            balls,
-            table,
-            lengths,
-            low,
-            side,
-            left - 1,
-            codes,
-            from,
-            count,
-            starts,
-            marks,
-            first,
-            last,
-            known,
-            values,
-            rounds,
-            1 - round,
-        );
-        low[axis] = near;
-        side[axis] = whole;
-        move_values(
-            false,
-            rows,
-            axis,
-            half,
-            codes,
-            from,
-            count,
-            values,
-            rounds,
-            1 - round,
-        );
-        return found;
-    }
-    let found = end_block(
+    low[axis] = chosen(backward, far, near);
+    move_where(
+        backward,
+        true,
+        rows,
+        axis,
+        half,
+        codes,
+        from,
+        count,
+        values,
+        rounds,
+        round,
+    );
+    let turn = turned(backward, round);
+    let sooner = end_block(
         backward,
         axes,
         rows,
@@ -413,8 +293,57 @@ fn end_half(
         known,
         values,
         rounds,
-        round,
+        turn,
     );
+    low[axis] = chosen(backward, near, far);
+    move_values(
+        !backward,
+        rows,
+        axis,
+        half,
+        codes,
+        from,
+        count,
+        values,
+        rounds,
+        turn,
+    );
+    let later = end_block(
+        backward,
+        axes,
+        rows,
+        balls,
+        table,
+        lengths,
+        low,
+        side,
+        left - 1,
+        codes,
+        from,
+        count,
+        starts,
+        marks,
+        first,
+        last,
+        sooner,
+        values,
+        rounds,
+        1 - turn,
+    );
+    low[axis] = near;
     side[axis] = whole;
-    found
+    move_where(
+        !backward,
+        false,
+        rows,
+        axis,
+        half,
+        codes,
+        from,
+        count,
+        values,
+        rounds,
+        1 - turn,
+    );
+    later
 }

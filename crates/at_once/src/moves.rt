@@ -6,7 +6,8 @@ use crate::leaf::is_row_side;
 use crate::leaf::row_of;
 use universe::Universe;
 ghost use mathlib.Core.Path.{_≡_};
-ghost use Prim.Native.Nat.{_^_, _<_};
+ghost use mathlib.Core.Bool.{true, false, cond};
+ghost use Prim.Native.Nat.{_-_, _^_, _≤_, _<_};
 ghost use lib.IntN.{pos, _*ℤ_};
 ghost use Rattle.convert.specs.Small.{SmallCoefficient, SmallPlace};
 ghost use Rattle.at_once.specs.Words.{doublingsOf};
@@ -18,6 +19,7 @@ ghost use Rattle.at_once.specs.Moves.{
   RowMoved,
   MoveJob,
   Moved,
+  Unmoved,
   BeginJob,
   Begun,
 };
@@ -114,6 +116,53 @@ pub(crate) fn move_values(
         }
         i += 1;
     }
+}
+
+// Moves them where a test holds.
+pub(crate) fn move_where(
+    test: bool,
+    up: bool,
+    rows: &[i64],
+    axis: usize,
+    half: u64,
+    codes: &[u16],
+    from: usize,
+    count: usize,
+    values: &mut [i64; csg::MOST_ROWS],
+    rounds: &mut [u8; csg::MOST_ROWS],
+    round: u8,
+)
+    requires { ⌜ (test ≡ true → MoveJob (now rows) axis half (now codes) from count (now values) (now rounds) round) ⌝ }
+    ensures { λ _. ⌜ (test ≡ true → Moved up (now (rows .entry)) axis half (now (codes .entry)) from count round
+        (now (values .entry)) (now (rounds .entry)) (now (values .exit)) (now (rounds .exit))) ⌝ }
+    ensures { λ _. ⌜ (test ≡ false → Unmoved (now (values .entry)) (now (rounds .entry)) (now (values .exit))
+        (now (rounds .exit))) ⌝ }
+{
+    if test {
+        move_values(
+            up,
+            rows,
+            axis,
+            half,
+            codes,
+            from,
+            count,
+            values,
+            rounds,
+            round,
+        );
+    }
+}
+
+// The round after a move that is made where a test holds.
+pub(crate) fn turned(test: bool, round: u8) -> u8
+    requires { ⌜ round ≤ 1 ⌝ }
+    ensures { λ r. ⌜ r ≡ cond test (1 - round) round ⌝ }
+{
+    if test {
+        return 1 - round;
+    }
+    round
 }
 
 // The values of the rows that the first codes name, at the low end of the universe: their offsets.

@@ -1,46 +1,42 @@
--- `end_block`, `end_halves` and `end_half` better a frame by a block: nothing of one that has no better frame in the window, its word's end where it has few
--- levels left, and else by the mark of what is carried into it; of an undecided one by both halves, one after the other. What is changed of the low places, of
--- the sides and of the values is put back, and the codes that are carried into it stay.
+-- `end_block` and `end_halves` better a frame by a block: nothing of one that has no better frame in the window, its word's end where it has few levels left,
+-- and else by the mark of what is carried into it; of an undecided one by both halves, the one first whose frames come first as they are sought. What is
+-- changed of the low places, of the sides and of the values is put back, and the codes that are carried into it stay.
 use Prim.Native.Nat.{ℕ, _+_, _*_, _≤_, _<_}
 use native.Mathlib.Omega.{arith}
 use mathlib.Core.Path.{refl, _∙_}
 use borrow.Fn.Kinds.{In}
 use borrow.Fn.PlainCycle.{Measures, is, falls, and}
 use Rattle.at_once.proofs.Jobs.{some-axis, last-axis, wide-some, frames-end, prune-job, below-same, put-same, pruned-back, left-job, axis-within}
-use Rattle.at_once.proofs.Jobs.{place-in, near-fits, lower-job}
+use Rattle.at_once.proofs.Jobs.{place-in, near-fits}
 use Rattle.at_once.proofs.Counting.{opened-back}
-use Rattle.at_once.proofs.Betters.{end-missed, end-known, end-black, end-white, end-opened, high-job, low-back, high-back, low-end, high-end}
-use Rattle.at_once.proofs.Betters.{again-job, again-values, ends-both, back-then, unmoved-then}
+use Rattle.at_once.proofs.Betters.{end-missed, end-known, end-black, end-white, end-opened, sooner-job, later-job, ends-both, ends-back}
 use Rattle.at_once.proofs.Rooms.{same-itself}
-use Rattle.at_once.proofs.Moving.{unmoved, kept-values, raise-job, raised, back-job, back}
+use Rattle.at_once.proofs.Moving.{unmoved, kept-values, raise-job}
+use Rattle.at_once.proofs.Orders.{turn-few, sooner, sooner-values, across-job, later, later-values, last-job, all-back}
 use Rattle.at_once.proofs.end.end_block.Reads as end-block
 use Rattle.at_once.proofs.end.end_block.Kinds as end-block-kinds
-use Rattle.at_once.proofs.end.+end_block+end_half+end_halves.Lts-end_block as end-block-lts
-use Rattle.at_once.proofs.end.end_half.Reads as end-half
-use Rattle.at_once.proofs.end.end_half.Kinds as end-half-kinds
-use Rattle.at_once.proofs.end.+end_block+end_half+end_halves.Lts-end_half as end-half-lts
+use Rattle.at_once.proofs.end.+end_block+end_halves.Lts-end_block as end-block-lts
 use Rattle.at_once.proofs.end.end_halves.Reads as end-halves
 use Rattle.at_once.proofs.end.end_halves.Kinds as end-halves-kinds
-use Rattle.at_once.proofs.end.+end_block+end_half+end_halves.Lts-end_halves as end-halves-lts
+use Rattle.at_once.proofs.end.+end_block+end_halves.Lts-end_halves as end-halves-lts
 use Rattle.at_once.proofs.end.better.Reads as better-reads
 use Rattle.at_once.proofs.end.chosen.Reads as chosen-reads
 use Rattle.at_once.proofs.end.end_word.Reads as end-word-reads
 use Rattle.at_once.proofs.frames.greater.Reads as greater-reads
 use Rattle.at_once.proofs.frames.lesser.Reads as lesser-reads
 use Rattle.at_once.proofs.moves.move_values.Reads as move-values-reads
+use Rattle.at_once.proofs.moves.move_where.Reads as move-where-reads
+use Rattle.at_once.proofs.moves.turned.Reads as turned-reads
 use Rattle.at_once.proofs.prune.prune.Reads as prune-reads
-use Rattle.at_once.proofs.end.+end_block+end_half+end_halves.{statement}
-use Rattle.at_once.proofs.end.+end_block+end_half+end_halves.Tie.{close}
+use Rattle.at_once.proofs.end.+end_block+end_halves.{statement}
+use Rattle.at_once.proofs.end.+end_block+end_halves.Tie.{close}
 
--- three times the levels left, one more for both halves and two for a block
+-- twice the levels left, and one more for a block
 abbrev μ-end-block : Measures 11 end-block-kinds.ps ℕ
-μ-end-block κs a = 3 * (a .1 .1 .1 .1 .1 .1 .1 .1 .0) + 2
-
-abbrev μ-end-half : Measures 11 end-half-kinds.ps ℕ
-μ-end-half κs a = 3 * (a .1 .1 .1 .1 .1 .1 .1 .1 .1 .0)
+μ-end-block κs a = 2 * (a .1 .1 .1 .1 .1 .1 .1 .1 .0) + 1
 
 abbrev μ-end-halves : Measures 11 end-halves-kinds.ps ℕ
-μ-end-halves κs a = 3 * (a .1 .1 .1 .1 .1 .1 .1 .1 .0) + 1
+μ-end-halves κs a = 2 * (a .1 .1 .1 .1 .1 .1 .1 .1 .0)
 
 module _ (t : ℕ) where
   abbrev end-block-at : In 11 end-block-kinds.ps
@@ -48,12 +44,6 @@ module _ (t : ℕ) where
 
   abbrev end-block-below : In 11 end-block-kinds.ps
   end-block-below = and 11 end-block-kinds.ps (falls 11 end-block-kinds.ps _<_ μ-end-block t) end-block.Pre
-
-  abbrev end-half-at : In 11 end-half-kinds.ps
-  end-half-at = and 11 end-half-kinds.ps (is 11 end-half-kinds.ps μ-end-half t) end-half.Pre
-
-  abbrev end-half-below : In 11 end-half-kinds.ps
-  end-half-below = and 11 end-half-kinds.ps (falls 11 end-half-kinds.ps _<_ μ-end-half t) end-half.Pre
 
   abbrev end-halves-at : In 11 end-halves-kinds.ps
   end-halves-at = and 11 end-halves-kinds.ps (is 11 end-halves-kinds.ps μ-end-halves t) end-halves.Pre
@@ -79,11 +69,19 @@ module _ (t : ℕ) where
     end-halves.Post,
   )
 
-  abbrev end-half-claims : end-half-lts.Claims
-  end-half-claims = (move-values-reads.Asked, move-values-reads.Learnt, end-block-below, end-block.Post)
-
   abbrev end-halves-claims : end-halves-lts.Claims
-  end-halves-claims = (end-half-below, end-half.Post)
+  end-halves-claims = (
+    chosen-reads.Asked,
+    chosen-reads.Learnt,
+    move-where-reads.Asked,
+    move-where-reads.Learnt,
+    turned-reads.Asked,
+    turned-reads.Learnt,
+    end-block-below,
+    end-block.Post,
+    move-values-reads.Asked,
+    move-values-reads.Learnt,
+  )
 
   -- ---- `end_block`
   end-block-returns : end-block-lts.Need-returns end-block-claims end-block-at end-block.Post
@@ -206,162 +204,102 @@ module _ (t : ℕ) where
         (opened-back j (k .args .first) (k .args .last) two (e (prune-job j two)) w b (k .args .left) refl (f .1 .0), f .1 .1),
       )
 
-  -- ---- `end_half`
-  end-half-move-values-requires : end-half-lts.Need-move-values-requires end-half-claims end-half-at end-half.Post
-  end-half-move-values-requires c κs =
+  -- ---- `end_halves`
+  end-halves-move-where-requires : end-halves-lts.Need-move-where-requires end-halves-claims end-halves-at end-halves.Post
+  end-halves-move-where-requires c κs =
       let k = c .before .before .before .before .before .before .before .before in
-      raise-job (k .pre .1 .0) (k .pre .1 .1 .0) (k .pre .1 .1 .1 .1) same-itself unmoved
+      λ e. raise-job (k .pre .1 .0) (k .pre .1 .1 .0) (k .pre .1 .1 .1 .1) same-itself unmoved
 
-  end-half-sub-end-block : end-half-lts.Need-sub-end-block end-half-claims end-half-at end-half.Post
-  end-half-sub-end-block c =
-      let k = c .before .before .before .before .before .before .before .before .before .before .before in
-      k .pre .1 .1 .0
-
-  end-half-sub-end-block-2 : end-half-lts.Need-sub-end-block-2 end-half-claims end-half-at end-half.Post
-  end-half-sub-end-block-2 c =
-      let k = c .before .before .before .before .before .before .before .before .before .before .before .before .before .before .before .before in
-      k .pre .1 .1 .1 .1 .is-round
-
-  end-half-end-block-requires : end-half-lts.Need-end-block-requires end-half-claims end-half-at end-half.Post
-  end-half-end-block-requires c κs =
-      let m = c .before .before .before .before .before .before .before in
-      let k = m .before .before .before .before .before .before .before .before .before in
-      let j = k .pre .1 .0 in
-      let some = k .pre .1 .1 .0 in (
-        omega (arith, k .pre .0, some),
-        (high-job j some, (k .pre .1 .1 .1 .0, raised j some (k .pre .1 .1 .1 .1) same-itself unmoved (m .move-values .ensures))),
-      )
-
-  end-half-mul-low-2 : end-half-lts.Need-mul-low-2 end-half-claims end-half-at end-half.Post
-  end-half-mul-low-2 c =
-      let k = c .before .before .before .before .before .before .before .before .before .before .before .before .before .before .before .before .before
-      .before .before in
-      omega (arith, axis-within (k .pre .1 .0) (k .pre .1 .1 .0))
-
-  end-half-element-write-low-2 : end-half-lts.Need-element-write-low-2 end-half-claims end-half-at end-half.Post
-  end-half-element-write-low-2 c =
-      let k = c .before .before .before .before .before .before .before .before .before .before .before .before .before .before .before .before .before
-      .before .before in
-      omega (arith, axis-within (k .pre .1 .0) (k .pre .1 .1 .0))
-
-  end-half-mul-side-2 : end-half-lts.Need-mul-side-2 end-half-claims end-half-at end-half.Post
-  end-half-mul-side-2 c =
-      let k = c .before .before .before .before .before .before .before .before .before .before .before .before .before .before .before .before .before
-      .before .before in
-      omega (arith, axis-within (k .pre .1 .0) (k .pre .1 .1 .0))
-
-  end-half-element-write-side-2 : end-half-lts.Need-element-write-side-2 end-half-claims end-half-at end-half.Post
-  end-half-element-write-side-2 c =
-      let k = c .before .before .before .before .before .before .before .before .before .before .before .before .before .before .before .before .before
-      .before .before in
-      omega (arith, axis-within (k .pre .1 .0) (k .pre .1 .1 .0))
-
-  end-half-sub-move-values : end-half-lts.Need-sub-move-values end-half-claims end-half-at end-half.Post
-  end-half-sub-move-values c =
-      let k = c .before .before .before .before .before .before .before .before .before .before .before .before .before .before .before .before .before
-      .before .before .before .before .before in
-      k .pre .1 .1 .1 .1 .is-round
-
-  end-half-move-values-requires-2 : end-half-lts.Need-move-values-requires-2 end-half-claims end-half-at end-half.Post
-  end-half-move-values-requires-2 c κs =
-      let h = c .before .before .before .before .before in let m = h .before .before .before .before .before .before .before .before in
-      let k = m .before .before .before .before .before .before .before .before .before in
-      let f = h .end-block .ensures in
-      back-job (k .pre .1 .0) (k .pre .1 .1 .0) (k .pre .1 .1 .1 .1) same-itself unmoved (m .move-values .ensures) (f .1 .0 .below) (f .1 .1 .1)
-
-  end-half-same-length : end-half-lts.Need-same-length end-half-claims end-half-at end-half.Post
-  end-half-same-length c =
-      let h = c .before .before .before .before .before .before in
-      h .end-block .ensures .1 .0 .below .long
-
-  end-half-returns : end-half-lts.Need-returns end-half-claims end-half-at end-half.Post
-  end-half-returns c =
-      let h = c .before .before .before .before .before .before in let m = h .before .before .before .before .before .before .before .before in
-      let i = m .before .before .before .before in let k = i .before .before .before .before .before in
+  end-halves-end-block-requires : end-halves-lts.Need-end-block-requires end-halves-claims end-halves-at end-halves.Post
+  end-halves-end-block-requires c κs =
+      let t = c .before .before .before .before .before .before .before in let m = t .before in
+      let h = m .before .before .before .before in let k = h .before .before .before .before .before in
       let j = k .pre .1 .0 in
       let some = k .pre .1 .1 .0 in
-      let f = h .end-block .ensures in (
-        λ job. high-end job some (k .args .first) (k .args .last) (k .args .backward) (k .args .known) (i .if1 .taken) (f .0),
+      let at = k .pre .1 .1 .1 .1 in
+      let way = sooner j some at (k .args .backward) (m .move-where .ensures .0) (m .move-where .ensures .1) (t .turned .ensures) in (
+        omega (arith, k .pre .0, some),
+        (sooner-job j some (k .args .first) (k .args .last) (k .args .backward) (k .args .known) (h .chosen .ensures), (k .pre .1 .1 .1 .0, sooner-values j some at way (h .chosen .ensures))),
+      )
+
+  end-halves-move-values-requires : end-halves-lts.Need-move-values-requires end-halves-claims end-halves-at end-halves.Post
+  end-halves-move-values-requires c κs =
+      let b = c .before .before .before .before .before .before in let t = b .before .before .before .before .before .before .before .before in let m = t .before in let k = m .before .before .before .before .before .before .before .before .before in
+      let j = k .pre .1 .0 in
+      let some = k .pre .1 .1 .0 in
+      let at = k .pre .1 .1 .1 .1 in
+      let e = b .end-block .ensures in
+      let way = sooner j some at (k .args .backward) (m .move-where .ensures .0) (m .move-where .ensures .1) (t .turned .ensures) in
+      across-job j some at way (e .1 .0 .below) (e .1 .1 .1)
+
+  end-halves-sub-end-block-3 : end-halves-lts.Need-sub-end-block-3 end-halves-claims end-halves-at end-halves.Post
+  end-halves-sub-end-block-3 c =
+      let t = c .before .before .before .before .before .before .before .before .before .before .before .before .before .before .before .before .before .before .before .before .before .before in let k = t .before .before .before .before .before .before .before .before .before .before in
+      turn-few (k .args .backward) (t .turned .ensures) (k .pre .1 .1 .1 .1 .is-round)
+
+  end-halves-end-block-requires-2 : end-halves-lts.Need-end-block-requires-2 end-halves-claims end-halves-at end-halves.Post
+  end-halves-end-block-requires-2 c κs =
+      let v = c .before .before .before .before .before .before .before in let d = v .before .before .before .before in let b = d .before .before .before in let t = b .before .before .before .before .before .before .before .before in let m = t .before in
+      let h = m .before .before .before .before in let k = h .before .before .before .before .before in
+      let j = k .pre .1 .0 in
+      let some = k .pre .1 .1 .0 in
+      let at = k .pre .1 .1 .1 .1 in
+      let e = b .end-block .ensures in
+      let way = sooner j some at (k .args .backward) (m .move-where .ensures .0) (m .move-where .ensures .1) (t .turned .ensures) in
+      let after = later j some at way (e .1 .0 .below) (e .1 .1 .1) (v .move-values .ensures) in (
+        omega (arith, k .pre .0, some),
         (
-          high-back j some (f .1 .0),
-          (
-            f .1 .1 .0,
-            back j some (k .pre .1 .1 .1 .1) same-itself unmoved (m .move-values .ensures) (f .1 .0 .below) (f .1 .1 .1) (c .move-values2 .ensures),
-          ),
+          later-job j some (k .args .first) (k .args .last) (k .args .backward) (k .args .known) (h .chosen .ensures) (e .0) (e .1 .0) (d .chosen2 .ensures),
+          (e .1 .1 .0, later-values j some at after (e .1 .0 .below) (h .chosen .ensures) (e .1 .0 .lows) (d .chosen2 .ensures)),
         ),
       )
 
-  end-half-sub-end-block-3 : end-half-lts.Need-sub-end-block-3 end-half-claims end-half-at end-half.Post
-  end-half-sub-end-block-3 c =
-      let k = c .before .before .before .before .before .before .before in
-      k .pre .1 .1 .0
+  end-halves-sub-move-where : end-halves-lts.Need-sub-move-where end-halves-claims end-halves-at end-halves.Post
+  end-halves-sub-move-where c =
+      let t = c .before .before .before .before .before .before .before .before .before .before .before .before .before .before .before .before .before .before .before .before .before .before .before .before .before .before .before .before in let k = t .before .before .before .before .before .before .before .before .before .before in
+      turn-few (k .args .backward) (t .turned .ensures) (k .pre .1 .1 .1 .1 .is-round)
 
-  end-half-end-block-requires-2 : end-half-lts.Need-end-block-requires-2 end-half-claims end-half-at end-half.Post
-  end-half-end-block-requires-2 c κs =
-      let k = c .before .before .before .before .before .before .before .before .before .before .before .before in
+  end-halves-move-where-requires-2 : end-halves-lts.Need-move-where-requires-2 end-halves-claims end-halves-at end-halves.Post
+  end-halves-move-where-requires-2 c κs =
+      let g = c .before .before .before .before .before in
+      let v = g .before .before .before .before .before .before .before .before in let d = v .before .before .before .before in let b = d .before .before .before in let t = b .before .before .before .before .before .before .before .before in let m = t .before in
+      let h = m .before .before .before .before in let k = h .before .before .before .before .before in
       let j = k .pre .1 .0 in
       let some = k .pre .1 .1 .0 in
-      (omega (arith, k .pre .0, some), (lower-job j some, k .pre .1 .1 .1))
-
-  end-half-mul-side-3 : end-half-lts.Need-mul-side-3 end-half-claims end-half-at end-half.Post
-  end-half-mul-side-3 c =
-      let k = c .before .before .before .before .before .before .before .before .before .before .before .before .before .before .before in
-      omega (arith, axis-within (k .pre .1 .0) (k .pre .1 .1 .0))
-
-  end-half-element-write-side-3 : end-half-lts.Need-element-write-side-3 end-half-claims end-half-at end-half.Post
-  end-half-element-write-side-3 c =
-      let k = c .before .before .before .before .before .before .before .before .before .before .before .before .before .before .before in
-      omega (arith, axis-within (k .pre .1 .0) (k .pre .1 .1 .0))
-
-  end-half-same-length-2 : end-half-lts.Need-same-length-2 end-half-claims end-half-at end-half.Post
-  end-half-same-length-2 c =
-      let h = c .before .before in
-      h .end-block2 .ensures .1 .0 .below .long
-
-  end-half-returns-2 : end-half-lts.Need-returns-2 end-half-claims end-half-at end-half.Post
-  end-half-returns-2 c =
-      let h = c .before .before in let i = h .before .before .before .before .before .before .before .before in
-      let k = i .before .before .before .before .before in
-      let j = k .pre .1 .0 in
-      let some = k .pre .1 .1 .0 in
-      let f = h .end-block2 .ensures in (
-        λ job. low-end job some (k .args .first) (k .args .last) (k .args .backward) (k .args .known) (i .if1 .left) (f .0),
-        (low-back j some (f .1 .0), f .1 .1),
-      )
-
-  -- ---- `end_halves`
-  end-halves-end-half-requires : end-halves-lts.Need-end-half-requires end-halves-claims end-halves-at end-halves.Post
-  end-halves-end-half-requires c κs =
-      let k = c .before .before .before .before .before .before .before .before in
-      (omega (arith, k .pre .0), k .pre .1)
-
-  end-halves-end-half-requires-2 : end-halves-lts.Need-end-half-requires-2 end-halves-claims end-halves-at end-halves.Post
-  end-halves-end-half-requires-2 c κs =
-      let s = c .before .before .before .before .before .before .before .before .before in
-      let k = s .before .before .before .before .before .before .before .before .before in
-      let j = k .pre .1 .0 in
-      let some = k .pre .1 .1 .0 in
-      let e = s .end-half .ensures in
-      (omega (arith, k .pre .0), (again-job j some (e .1 .0), (some, (e .1 .1 .0, again-values (k .pre .1 .1 .1 .1) (e .1 .0) (e .1 .1 .1)))))
+      let at = k .pre .1 .1 .1 .1 in
+      let e = b .end-block .ensures in
+      let f = g .end-block2 .ensures in
+      let way = sooner j some at (k .args .backward) (m .move-where .ensures .0) (m .move-where .ensures .1) (t .turned .ensures) in
+      let after = later j some at way (e .1 .0 .below) (e .1 .1 .1) (v .move-values .ensures) in
+      last-job j some at after (e .1 .0 .below) (f .1 .0 .below) (f .1 .1 .1)
 
   end-halves-same-length : end-halves-lts.Need-same-length end-halves-claims end-halves-at end-halves.Post
   end-halves-same-length c =
-      let l = c .before .before in let s = l .before .before .before .before .before .before .before .before .before .before in
-      l .end-half2 .ensures .1 .0 .below .long ∙ s .end-half .ensures .1 .0 .below .long
+      let g = c .before .before .before .before .before .before in let b = g .before .before .before .before .before .before .before .before .before .before .before .before .before .before .before in
+      g .end-block2 .ensures .1 .0 .below .long ∙ b .end-block .ensures .1 .0 .below .long
 
   end-halves-returns : end-halves-lts.Need-returns end-halves-claims end-halves-at end-halves.Post
   end-halves-returns c =
-      let l = c .before .before in let s = l .before .before .before .before .before .before .before .before .before .before in
-      let k = s .before .before .before .before .before .before .before .before .before in
-      let e = s .end-half .ensures in
-      let f = l .end-half2 .ensures in (
-        λ job. ends-both job (k .pre .1 .1 .0) (k .args .first) (k .args .last) (k .args .backward) (k .args .known) (e .0 job) (e .1 .0) (f .0),
-        (back-then (e .1 .0) (f .1 .0), (f .1 .1 .0, unmoved-then (e .1 .1 .1) (f .1 .1 .1))),
+      let g = c .before .before .before .before .before .before in
+      let v = g .before .before .before .before .before .before .before .before in let d = v .before .before .before .before in let b = d .before .before .before in let t = b .before .before .before .before .before .before .before .before in let m = t .before in
+      let h = m .before .before .before .before in let k = h .before .before .before .before .before in
+      let j = k .pre .1 .0 in
+      let some = k .pre .1 .1 .0 in
+      let at = k .pre .1 .1 .1 .1 in
+      let e = b .end-block .ensures in
+      let f = g .end-block2 .ensures in
+      let way = sooner j some at (k .args .backward) (m .move-where .ensures .0) (m .move-where .ensures .1) (t .turned .ensures) in
+      let after = later j some at way (e .1 .0 .below) (e .1 .1 .1) (v .move-values .ensures) in (
+        λ job. ends-both job some (k .args .first) (k .args .last) (k .args .backward) (k .args .known) (h .chosen .ensures) (e .0) (e .1 .0) (d .chosen2 .ensures) (f .0) (f .1 .0),
+        (
+          ends-back j some (k .args .first) (k .args .last) (k .args .backward) (k .args .known) (h .chosen .ensures) (e .0) (e .1 .0) (d .chosen2 .ensures) (f .0) (f .1 .0),
+          (f .1 .1 .0, all-back j some at after (e .1 .0 .below) (f .1 .0 .below) (f .1 .1 .1) (c .move-where2 .ensures .0) (c .move-where2 .ensures .1)),
+        ),
       )
 
-pub +end-block+end-half+end-halves-spec : {M : Type 1} → statement M
-+end-block+end-half+end-halves-spec =
-    close μ-end-block μ-end-half μ-end-halves (λ t. end-block-lts.spec (end-block-claims t)
+pub +end-block+end-halves-spec : {M : Type 1} → statement M
++end-block+end-halves-spec =
+    close μ-end-block μ-end-halves (λ t. end-block-lts.spec (end-block-claims t)
     (end-block-at t)
     end-block.Post
     (λ c. let k = c .before in let j = k .pre .1 .0 in let some = k .pre .1 .1 .0 in some-axis j)
@@ -389,43 +327,38 @@ pub +end-block+end-half+end-halves-spec : {M : Type 1} → statement M
     (end-block-end-halves-requires t)
     (end-block-same-length-4 t)
     (end-block-returns-6 t))
-    (λ t. end-half-lts.spec (end-half-claims t)
-    (end-half-at t)
-    end-half.Post
-    (λ c. let k = c .before in let some = k .pre .1 .1 .0 in some)
-    (λ c. let k = c .before in let j = k .pre .1 .0 in let some = k .pre .1 .1 .0 in omega (arith, place-in j some))
-    (λ c. let k = c .before in let j = k .pre .1 .0 in let some = k .pre .1 .1 .0 in omega (arith, place-in j some))
-    (λ c. let k = c .before .before in let j = k .pre .1 .0 in let some = k .pre .1 .1 .0 in omega (arith, axis-within j some))
-    (λ c. let k = c .before .before in let j = k .pre .1 .0 in let some = k .pre .1 .1 .0 in omega (arith, axis-within j some))
-    (λ c. let k = c .before .before .before in let j = k .pre .1 .0 in let some = k .pre .1 .1 .0 in omega (arith, axis-within j some))
-    (λ c. let k = c .before .before .before in let j = k .pre .1 .0 in let some = k .pre .1 .1 .0 in omega (arith, axis-within j some))
-    (λ c. let k = c .before .before .before .before in let j = k .pre .1 .0 in let some = k .pre .1 .1 .0 in omega (arith, axis-within j some))
-    (λ c. let k = c .before .before .before .before in let j = k .pre .1 .0 in let some = k .pre .1 .1 .0 in omega (arith, axis-within j some))
-    (λ c. let k = c .before .before .before .before .before in let j = k .pre .1 .0 in let some = k .pre .1 .1 .0 in omega (arith, near-fits j some))
-    (λ c. let k = c .before .before .before .before .before in let j = k .pre .1 .0 in let some = k .pre .1 .1 .0 in omega (arith, axis-within j some))
-    (λ c. let k = c .before .before .before .before .before in let j = k .pre .1 .0 in let some = k .pre .1 .1 .0 in omega (arith, axis-within j some))
-    (end-half-move-values-requires t)
-    (end-half-sub-end-block t)
-    (end-half-sub-end-block-2 t)
-    (end-half-end-block-requires t)
-    (end-half-mul-low-2 t)
-    (end-half-element-write-low-2 t)
-    (end-half-mul-side-2 t)
-    (end-half-element-write-side-2 t)
-    (end-half-sub-move-values t)
-    (end-half-move-values-requires-2 t)
-    (end-half-same-length t)
-    (end-half-returns t)
-    (end-half-sub-end-block-3 t)
-    (end-half-end-block-requires-2 t)
-    (end-half-mul-side-3 t)
-    (end-half-element-write-side-3 t)
-    (end-half-same-length-2 t)
-    (end-half-returns-2 t))
     λ t. end-halves-lts.spec (end-halves-claims t)
     (end-halves-at t)
     end-halves.Post
-    (end-halves-end-half-requires t)
-    (end-halves-end-half-requires-2 t)
+    (λ c. let k = c .before in k .pre .1 .1 .0)
+    (λ c. let k = c .before in let j = k .pre .1 .0 in let some = k .pre .1 .1 .0 in omega (arith, place-in j some))
+    (λ c. let k = c .before in let j = k .pre .1 .0 in let some = k .pre .1 .1 .0 in omega (arith, place-in j some))
+    (λ c. let k = c .before .before in let j = k .pre .1 .0 in let some = k .pre .1 .1 .0 in omega (arith, axis-within j some))
+    (λ c. let k = c .before .before in let j = k .pre .1 .0 in let some = k .pre .1 .1 .0 in omega (arith, axis-within j some))
+    (λ c. let k = c .before .before .before in let j = k .pre .1 .0 in let some = k .pre .1 .1 .0 in omega (arith, axis-within j some))
+    (λ c. let k = c .before .before .before in let j = k .pre .1 .0 in let some = k .pre .1 .1 .0 in omega (arith, axis-within j some))
+    (λ c. let k = c .before .before .before .before in let j = k .pre .1 .0 in let some = k .pre .1 .1 .0 in omega (arith, near-fits j some))
+    (λ c. let k = c .before .before .before .before in let j = k .pre .1 .0 in let some = k .pre .1 .1 .0 in omega (arith, axis-within j some))
+    (λ c. let k = c .before .before .before .before in let j = k .pre .1 .0 in let some = k .pre .1 .1 .0 in omega (arith, axis-within j some))
+    (λ c κs. tt)
+    (λ c. let k = c .before .before .before .before .before in let j = k .pre .1 .0 in let some = k .pre .1 .1 .0 in omega (arith, axis-within j some))
+    (λ c. let k = c .before .before .before .before .before in let j = k .pre .1 .0 in let some = k .pre .1 .1 .0 in omega (arith, axis-within j some))
+    (end-halves-move-where-requires t)
+    (λ c κs. let k = c .before .before .before .before .before .before .before .before .before in k .pre .1 .1 .1 .1 .is-round)
+    (λ c. let k = c .before .before .before .before .before .before .before .before .before .before .before .before in k .pre .1 .1 .0)
+    (end-halves-end-block-requires t)
+    (λ c κs. tt)
+    (λ c. let k = c .before .before .before .before .before .before .before .before .before .before .before .before .before .before .before .before .before .before .before .before .before in let j = k .pre .1 .0 in let some = k .pre .1 .1 .0 in omega (arith, axis-within j some))
+    (λ c. let k = c .before .before .before .before .before .before .before .before .before .before .before .before .before .before .before .before .before .before .before .before .before in let j = k .pre .1 .0 in let some = k .pre .1 .1 .0 in omega (arith, axis-within j some))
+    (end-halves-move-values-requires t)
+    (λ c. let k = c .before .before .before .before .before .before .before .before .before .before .before .before .before .before .before .before .before .before .before .before .before .before .before .before .before .before .before in k .pre .1 .1 .0)
+    (end-halves-sub-end-block-3 t)
+    (end-halves-end-block-requires-2 t)
+    (λ c. let k = c .before .before .before .before .before .before .before .before .before .before .before .before .before .before .before .before .before .before .before .before .before .before .before .before .before .before .before .before .before .before .before .before .before .before .before in let j = k .pre .1 .0 in let some = k .pre .1 .1 .0 in omega (arith, axis-within j some))
+    (λ c. let k = c .before .before .before .before .before .before .before .before .before .before .before .before .before .before .before .before .before .before .before .before .before .before .before .before .before .before .before .before .before .before .before .before .before .before .before in let j = k .pre .1 .0 in let some = k .pre .1 .1 .0 in omega (arith, axis-within j some))
+    (λ c. let k = c .before .before .before .before .before .before .before .before .before .before .before .before .before .before .before .before .before .before .before .before .before .before .before .before .before .before .before .before .before .before .before .before .before .before .before in let j = k .pre .1 .0 in let some = k .pre .1 .1 .0 in omega (arith, axis-within j some))
+    (λ c. let k = c .before .before .before .before .before .before .before .before .before .before .before .before .before .before .before .before .before .before .before .before .before .before .before .before .before .before .before .before .before .before .before .before .before .before .before in let j = k .pre .1 .0 in let some = k .pre .1 .1 .0 in omega (arith, axis-within j some))
+    (end-halves-sub-move-where t)
+    (end-halves-move-where-requires-2 t)
     (end-halves-same-length t)
     (end-halves-returns t)
