@@ -26,11 +26,13 @@ use Rattle.masks.proofs.Ends.{end-halves, end-either, end-bound-seen}
 use Rattle.masks.proofs.MaskEnds.{end-none, end-mask}
 use Rattle.masks.proofs.OneColour.{white-end, black-end}
 use Rattle.at_once.specs.Codes.{SameCodes, AtBlock}
+use Rattle.at_once.specs.Words.{wordLevels}
 use Rattle.at_once.specs.Pruning.{PrunedCodes}
 use Rattle.at_once.specs.Counting.{BlockJob, coloursOf, endOver, PutBack}
 use Rattle.at_once.proofs.Jobs.{frame-is, leftover, begin-is, end-is, prune-job, decided-white, decided-black, left-job, left-colours, left-suc}
 use Rattle.at_once.proofs.Jobs.{lower-block, upper-block, standing′, at-level, inner, room-same, carrying-same, same-then}
 use Rattle.at_once.proofs.Counting.{outside-end, end-agree, seen-is}
+use Rattle.at_once.proofs.Rooms.{same-itself}
 
 pub better-last : {backward : Bool} {r : ℕ} (x y : ℕ) → backward ≡ true → r ≡ max x y → r ≡ better backward x y
 better-last x y e q = rw e q
@@ -186,11 +188,23 @@ module _ {surfaces : Surfaces} {axes : ℕ} {table lengths low side : List ℕ} 
         let h = subst (λ (l : List ℕ). (j : HalfJob (halfLows t) l codes′) → r ≡ endOver backward first last j k) d g in
         h (half-job t s) ∙ ap (λ (x : Block). endIn backward seenIn (left - 1) x k) (half-block t)
 
-    -- the end of both, the one first whose frames come first as they are sought
+    -- the end of both, the low one first
+    low-first : endOver backward first last job known
+        ≡ endIn backward seenIn (left - 1) (halfOf true P) (endIn backward seenIn (left - 1) (halfOf false P) known)
+    low-first = ap (λ (n : ℕ). endIn backward seenIn n P known) (left-suc job some) ∙ end-halves backward seenIn (left - 1) P known
+
+    pub ends-in-order : {below above : ℕ} → ((j : HalfJob low (set side axis half) codes) → below ≡ endOver backward first last j known) →
+        ((j : HalfJob (set low axis (near + half)) (set side axis half) codes) → above ≡ endOver backward first last j below) →
+        above ≡ endOver backward first last job known
+    ends-in-order {below} f g =
+        half-end true refl refl same-itself below g
+        ∙ ap (endIn backward seenIn (left - 1) (halfOf true P)) (half-end false (sym (set-getD low axis 0)) refl same-itself known f)
+        ∙ sym low-first
+
+    -- and the one first whose frames come first as they are sought
     halves-end : endOver backward first last job known
         ≡ endIn backward seenIn (left - 1) (halfOf (not backward) P) (endIn backward seenIn (left - 1) (halfOf backward P) known)
-    halves-end =
-        ap (λ (n : ℕ). endIn backward seenIn n P known) (left-suc job some) ∙ end-halves backward seenIn (left - 1) P known ∙ go backward
+    halves-end = low-first ∙ go backward
       where
         go : (t : Bool) → endIn backward seenIn (left - 1) (halfOf true P) (endIn backward seenIn (left - 1) (halfOf false P) known)
             ≡ endIn backward seenIn (left - 1) (halfOf (not t) P) (endIn backward seenIn (left - 1) (halfOf t P) known)
@@ -201,11 +215,8 @@ module _ {surfaces : Surfaces} {axes : ℕ} {table lengths low side : List ℕ} 
       sooner-lows : set low axis place ≡ halfLows backward
       sooner-lows = ap (set low axis) e
 
-      same-so-far : SameCodes (from + count) codes codes
-      same-so-far = record { same = λ k h. refl; long = refl }
-
       pub sooner-job : HalfJob (set low axis place) (set side axis half) codes
-      sooner-job = rw sooner-lows (half-job backward same-so-far)
+      sooner-job = rw sooner-lows (half-job backward same-itself)
 
       -- the one half is done
       module _ {sooner : ℕ} {low₁ side₁ codes₁ : List ℕ}
@@ -225,7 +236,7 @@ module _ {surfaces : Surfaces} {axes : ℕ} {table lengths low side : List ℕ} 
           pub ends-both : later ≡ endOver backward first last job known
           ends-both =
               half-end (not backward) later-lows (p .sides) (p .below) sooner g
-              ∙ ap (endIn backward seenIn (left - 1) (halfOf (not backward) P)) (half-end backward sooner-lows refl same-so-far known f)
+              ∙ ap (endIn backward seenIn (left - 1) (halfOf (not backward) P)) (half-end backward sooner-lows refl same-itself known f)
               ∙ sym halves-end
 
           pub ends-back : PutBack (from + count) low side codes (set low₂ axis near) (set side₂ axis (getD side axis 0)) codes₂
@@ -235,3 +246,11 @@ module _ {surfaces : Surfaces} {axes : ℕ} {table lengths low side : List ℕ} 
                 sides = ap (λ (l : List ℕ). set l axis (getD side axis 0)) (r .sides ∙ p .sides) ∙ restored side axis half;
                 below = same-then (p .below) (r .below);
               }
+
+-- ---- a block whose halves have the levels of a word
+pub as-bettered : {surfaces : Surfaces} {axes : ℕ} {table lengths low side codes : List ℕ} {from count left r : ℕ} (first last : ℕ) (backward : Bool)
+    (known : ℕ) → left ≡ wordLevels + 1 →
+    ((job : BlockJob surfaces axes table lengths low side (wordLevels + 1) codes from count (wordLevels + 1)) → r ≡ endOver backward first last job known) →
+    (job : BlockJob surfaces axes table lengths low side left codes from count left) → r ≡ endOver backward first last job known
+as-bettered {surfaces} {axes} {table} {lengths} {low} {side} {codes} {from} {count} {r = r} first last backward known e f =
+    subst (λ (n : ℕ). (job : BlockJob surfaces axes table lengths low side n codes from count n) → r ≡ endOver backward first last job known) (sym e) f

@@ -3,7 +3,7 @@
 use mathlib.Core.Path.{_≡_, refl, sym, ap, _∙_, subst}
 use mathlib.Core.List.{List}
 use mathlib.Core.Bool.{true}
-use Prim.Native.Nat.{ℕ, _+_, _-_, _*_, _/_, _%_, _^_, _≤_, _<_}
+use Prim.Native.Nat.{ℕ, _+_, _*_, _/_, _%_, _^_, _≤_, _<_}
 use native.Mathlib.Omega.{arith}
 use lib.ListN.{length, getD}
 use lib.Seq.{getD-set-same, getD-set-other}
@@ -29,7 +29,7 @@ use Rattle.masks.specs.Block.{blockMask}
 use Rattle.masks.specs.Shapes.{maskShape}
 use Rattle.masks.specs.Leaves.{valueLimit, stepLimit, rowMask}
 use Rattle.at_once.specs.Words.{wordLevels, doublingsOf, WordBlock, wordBlock, stepAt, RowReady, termOf, firstValue, RowNamed, StepsOf, TreesWord}
-use Rattle.at_once.specs.Moves.{PowerPlace, ValueOf, RightValues}
+use Rattle.at_once.specs.Moves.{PowerPlace}
 use Rattle.at_once.specs.Both.{placesAlong}
 use Rattle.at_once.specs.Codes.{SameCodes}
 use Rattle.at_once.specs.Counting.{BlockJob, coloursOf}
@@ -104,13 +104,6 @@ module _ {rows : List ℤ} {i : ℕ} (row : RowNamed rows i) {axis half : ℕ} (
     pub twice-is : held (held r +ℤ held r) ≡ pos 2 *ℤ rowAt rows i .coefficient axis *ℤ pos half
     twice-is = near-back {x = pos 2 *ℤ rowAt rows i .coefficient axis *ℤ pos half} twice-near tt .same
 
--- ---- the value of the code at a place
-pub value-here : {rows : List ℤ} {low codes : List ℕ} {from count : ℕ} {values : List ℤ} → RightValues rows low codes from count values →
-    {i : ℕ} → from ≤ i → i < from + count → ValueOf rows low values (getD codes i 0)
-value-here {rows} {low} {codes} {from} {count} {values} right {i} l m =
-    let e : from + (i - from) ≡ i = omega arith in
-    subst (λ (k : ℕ). ValueOf rows low values (getD codes k 0)) e (right .at-code (i - from) (omega arith))
-
 -- ---- both halves
 module _ {surfaces : Surfaces} {axes : ℕ} {table lengths low : List ℕ} {axis : ℕ} (half : ℕ)
     (below : WordBlock surfaces axes table lengths low wordLevels)
@@ -175,6 +168,12 @@ ball-along {surfaces} {axes} {table} {lengths} i e {r} f =
     r ≡ blockMask (surfaceColour surfaces (w .universe) (ball i)) wordLevels (wordBlock w)) e f
 
 -- ---- a block whose halves have the levels of a word
+pub some : 1 ≤ wordLevels + 1
+some = omega arith
+
+pub six : wordLevels ≤ wordLevels
+six = omega arith
+
 pub words-place : {left at : ℕ} → left ≡ wordLevels + 1 → AtPlace left at → AtPlace (wordLevels + 1) at
 words-place {at = at} e place = subst (λ (n : ℕ). AtPlace n at) e place
 
@@ -194,12 +193,6 @@ module _ {surfaces : Surfaces} {axes : ℕ} {table lengths low side codes : List
   module _ (job : BlockJob surfaces axes table lengths low side (wordLevels + 1) codes from count (wordLevels + 1)) where
     abbrev axis : ℕ
     axis = getD table wordLevels 0
-
-    some : 1 ≤ wordLevels + 1
-    some = omega arith
-
-    six : wordLevels ≤ wordLevels
-    six = omega arith
 
     same : SameCodes (from + count) codes codes
     same = record { same = λ k h. refl; long = refl }

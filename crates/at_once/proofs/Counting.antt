@@ -40,10 +40,13 @@ use Rattle.masks.proofs.MaskEnds.{mask-ends}
 use Rattle.masks.proofs.Contacts.{contact-eq, contact-halves, contact-none, contact-mask}
 use Rattle.masks.proofs.OneColour.{white-contact, black-contact}
 use Rattle.at_once.specs.Pruning.{PrunedCodes}
-use Rattle.at_once.specs.Counting.{BlockJob, coloursOf, contactOver, CountJob, PutBack, joinedContact}
+use Rattle.at_once.specs.Codes.{blockAt}
+use Rattle.at_once.specs.Words.{wordLevels}
+use Rattle.at_once.specs.Counting.{BlockJob, coloursOf, contactOver, CountJob, WordOver, CountWord, PutBack, joinedContact}
 use Rattle.at_once.specs.Counting.{BlackFrames, blackVoxels}
 use Rattle.at_once.proofs.Jobs.{frame-is, wide-is, frames-end, leftover, each-is, begin-is, end-is, prune-job, decided-white, decided-black, left-job}
 use Rattle.at_once.proofs.Jobs.{left-colours, left-suc, lower-block, upper-block, lower-job, lower-at}
+use Rattle.at_once.proofs.Rooms.{same-itself}
 use Rattle.at_once.proofs.Jobs.{upper-job, upper-at, carrying-same, same-then, below-same, same-below}
 
 -- ---- any colours
@@ -241,6 +244,33 @@ module _ {surfaces : Surfaces} {axes : ℕ} {table lengths low side : List ℕ} 
       opened-back p =
           record { lows = p .lows; sides = p .sides; below = same-then (below-same job h pruned) (same-below (omega arith) (p .below)) }
 
+-- ---- a block's word
+abbrev pub word-over : {surfaces : Surfaces} {axes : ℕ} {table lengths low side : List ℕ} {left : ℕ} {codes : List ℕ} {from count times : ℕ}
+    (job : BlockJob surfaces axes table lengths low side left codes from count times) → left ≤ wordLevels → {word : ℕ} →
+    word ≡ blockMask (coloursOf job) left (blockAt (job .at)) → WordOver axes table lengths low side left word
+word-over {surfaces} {codes = codes} {from} {count} {times} job h e =
+    record { surfaces = surfaces; codes = codes; from = from; count = count; times = times; block = job; few = h; word-is = e }
+
+abbrev pub count-word : {surfaces : Surfaces} {axes : ℕ} {table lengths low side : List ℕ} {left : ℕ} {codes : List ℕ} {from count times first last : ℕ} {k :
+    Contact}
+    (job : CountJob surfaces axes table lengths low side left codes from count times first last k) → left ≤ wordLevels → {word : ℕ} →
+    word ≡ blockMask (coloursOf (job .block)) left (blockAt (job .block .at)) → CountWord axes table lengths low side left word first last k
+count-word job h e = record { over = word-over (job .block) h e; counts = job .counts }
+
+-- ---- a block whose halves have the levels of a word
+module _ {surfaces : Surfaces} {axes : ℕ} {table lengths low side codes : List ℕ} {from count first last : ℕ} {k : Contact} where
+  pub counts-job : {left : ℕ} → left ≡ wordLevels + 1 → CountJob surfaces axes table lengths low side left codes from count left first last k →
+      CountJob surfaces axes table lengths low side (wordLevels + 1) codes from count (wordLevels + 1) first last k
+  counts-job e job = subst (λ (n : ℕ). CountJob surfaces axes table lengths low side n codes from count n first last k) e job
+
+  pub as-counted : {left : ℕ} {r : Contact} → left ≡ wordLevels + 1 →
+      ((job : CountJob surfaces axes table lengths low side (wordLevels + 1) codes from count (wordLevels + 1) first last k) →
+      r ≡ contactOver first last (job .block) k) →
+      (job : CountJob surfaces axes table lengths low side left codes from count left first last k) → r ≡ contactOver first last (job .block) k
+  as-counted {r = r} e f =
+      subst (λ (n : ℕ). (job : CountJob surfaces axes table lengths low side n codes from count n first last k) → r ≡ contactOver first last (job .block) k)
+      (sym e) f
+
 -- ---- both halves
 module _ {surfaces : Surfaces} {axes : ℕ} {table lengths low side : List ℕ} {left : ℕ} {codes : List ℕ} {from count : ℕ} {first last : ℕ} {k : Contact}
     (job : CountJob surfaces axes table lengths low side left codes from count left first last k) (some : 1 ≤ left) where
@@ -330,3 +360,8 @@ module _ {surfaces : Surfaces} {axes : ℕ} {table lengths low side : List ℕ} 
             sides = ap (λ (l : List ℕ). set l axis (getD side axis 0)) (r .sides ∙ p .sides) ∙ restored side axis half;
             below = same-then (p .below) (r .below);
           }
+
+-- what is changed for both halves and put back
+pub words-back : {low side codes : List ℕ} {place : ℕ} (axis x y : ℕ) →
+    PutBack place low side codes (set (set low axis x) axis (getD low axis 0)) (set (set side axis y) axis (getD side axis 0)) codes
+words-back {low} {side} axis x y = record { lows = restored low axis x; sides = restored side axis y; below = same-itself }

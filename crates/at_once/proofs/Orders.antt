@@ -1,7 +1,7 @@
 -- The values over both halves of a block, the high half first or the low one: they are right for each half, and afterwards as they were. The values move up
 -- into the high half and down out of it, so between the halves they move either way, and before and after them only where the high half comes first or last.
 use Prim.Native.Nat.{ℕ, _+_, _-_, _/_, _≤_}
-use mathlib.Core.Path.{_≡_, refl, sym, ap, _∙_, subst}
+use mathlib.Core.Path.{_≡_, refl, sym, _∙_, subst}
 use mathlib.Core.Bool.{Bool, true, false, cond, not, false≢true}
 use mathlib.Core.List.{List}
 use native.Mathlib.Omega.{arith}
@@ -57,16 +57,19 @@ module _ {surfaces : Surfaces} {axes : ℕ} {table lengths low side : List ℕ} 
   sooner-values (low-first m) e = rw (e, set-getD low axis 0) (same-values same-itself m at)
 
   -- out of it into the other
-  pub across-job : {backward : Bool} {vs vs′ : List ℤ} {rs rs′ codes′ : List ℕ} {turn : ℕ} → Sooner backward vs rs turn → SameCodes (from + count) codes codes′ →
+  pub across-job : {backward : Bool} {vs vs′ : List ℤ} {rs rs′ codes′ : List ℕ} {turn : ℕ} → Sooner backward vs rs turn → SameCodes (from + count) codes codes′
+      →
       Unmoved vs rs vs′ rs′ → MoveJob (surfaces .rows) axis half codes′ from count vs′ rs′ turn
   across-job (high-first up) s m = back-job job some at same-itself unmoved up s m
   across-job (low-first n) s m = raise-job job some at s (unmoved-then n m)
 
   pub data Later (codes′ : List ℕ) : Bool → List ℤ → List ℕ → ℕ → Type 0 where
     low-last : {vs : List ℤ} {rs : List ℕ} → Unmoved values rounds vs rs → Later codes′ true vs rs round
-    high-last : {vs vs′ : List ℤ} {rs rs′ : List ℕ} → Unmoved values rounds vs rs → MovedBy true codes′ round vs rs vs′ rs′ → Later codes′ false vs′ rs′ (1 - round)
+    high-last : {vs vs′ : List ℤ} {rs rs′ : List ℕ} → Unmoved values rounds vs rs → MovedBy true codes′ round vs rs vs′ rs′ → Later codes′ false vs′ rs′ (1 -
+        round)
 
-  pub later : {backward : Bool} {vs vs′ vs″ : List ℤ} {rs rs′ rs″ codes′ : List ℕ} {turn : ℕ} → Sooner backward vs rs turn → SameCodes (from + count) codes codes′ →
+  pub later : {backward : Bool} {vs vs′ vs″ : List ℤ} {rs rs′ rs″ codes′ : List ℕ} {turn : ℕ} → Sooner backward vs rs turn → SameCodes (from + count) codes
+      codes′ →
       Unmoved vs rs vs′ rs′ → MovedBy (not backward) codes′ turn vs′ rs′ vs″ rs″ → Later codes′ backward vs″ rs″ (1 - turn)
   later {vs″ = vs″} {rs″ = rs″} {codes′ = codes′} (high-first up) s m down =
       let e : 1 - (1 - round) ≡ round = omega (arith, at .is-round) in
@@ -80,7 +83,8 @@ module _ {surfaces : Surfaces} {axes : ℕ} {table lengths low side : List ℕ} 
   later-values {place = place} (high-last m up) s d l e = rw (l, e, set-set low axis place (near + half)) (raised job some at s m up)
 
   -- and back out of it
-  pub last-job : {backward : Bool} {vs vs′ : List ℤ} {rs rs′ codes′ codes″ : List ℕ} {turn : ℕ} → Later codes′ backward vs rs turn → SameCodes (from + count) codes codes′ →
+  pub last-job : {backward : Bool} {vs vs′ : List ℤ} {rs rs′ codes′ codes″ : List ℕ} {turn : ℕ} → Later codes′ backward vs rs turn → SameCodes (from + count)
+      codes codes′ →
       SameCodes (from + count) codes′ codes″ → Unmoved vs rs vs′ rs′ → not backward ≡ true → MoveJob (surfaces .rows) axis half codes″ from count vs′ rs′ turn
   last-job (low-last m) s t n e = absurd (false≢true e)
   last-job (high-last m up) s t n e = back-job job some at s m up t n

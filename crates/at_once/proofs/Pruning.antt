@@ -25,6 +25,7 @@ use Rattle.pruned.proofs.Stacks.{stackOf, length-stack, stack-push, stack-last,
 use Rattle.at_once.specs.Codes.{HoldsCodes, no-code, code, SameCodes, blockAt}
 use Rattle.at_once.specs.Moves.{ValueOf, RightValues}
 use Rattle.at_once.specs.Pruning.{marksOver, LeafJob, LeafJudged, PruneJob, PrunedCodes}
+use Rattle.at_once.proofs.RowValues.{value-here}
 use Rattle.at_once.proofs.Rooms.{stored-behind, codes-front, codes-more, same-itself, same-stored}
 
 -- ---- a code is stored at the end: the end falls back, stays, or grows
@@ -160,10 +161,7 @@ module _ {surfaces : Surfaces} {axes : ℕ} {low side codes : List ℕ} {from co
 
         -- it is read as it was, so that the value of its row is carried
         pub leaf-value : {rows values : List ℤ} → RightValues rows low codes from count values → ValueOf rows low values read
-        leaf-value {rows} {values} at =
-            let e : from + (i - from) ≡ i = omega (arith, g .begun) in
-            let k : getD codes (from + (i - from)) 0 ≡ read = ap (λ (p : ℕ). getD codes p 0) e ∙ sym (g .below .same i h) in
-            subst (ValueOf rows low values) k (at .at-code (i - from) (omega (arith, g .begun)))
+        leaf-value {rows} {values} at = subst (ValueOf rows low values) (sym (g .below .same i h)) (value-here at (g .begun) h)
 
         -- the codes to come are not met by what is stored
         coming-kept : (ns : List Node) → suc i + length ns ≡ from + count → HoldsCodes now (suc i) ns → HoldsCodes (set now end read) (suc i) ns

@@ -1,6 +1,6 @@
 -- A row's value at the centre of a block's first voxel, from the value at its low end that is carried, and its steps, as the machine computes them: sums of
 -- small numbers and coefficients doubled, none of which overflows.
-use mathlib.Core.Path.{_≡_, refl, sym, ap, _∙_}
+use mathlib.Core.Path.{_≡_, refl, sym, ap, _∙_, subst}
 use mathlib.Core.Bool.{Bool, true, cond}
 use mathlib.Core.List.{List, [], _∷_}
 use Prim.Native.Nat.{ℕ, zero, suc, _+_, _-_, _*_, _^_, _≤_, _<_}
@@ -25,7 +25,7 @@ use Rattle.pruned.proofs.Moving.{held}
 use Rattle.masks.specs.Leaves.{stepLimit}
 use Rattle.at_once.specs.Words.{wordLevels, doublingsOf, stepAt, termOf, firstValue, stepOf, RowNamed, SmallTables, StepsOf}
 use Rattle.at_once.specs.Values.{alongOf}
-use Rattle.at_once.specs.Moves.{lowValue, lowLimit, RowPlaced}
+use Rattle.at_once.specs.Moves.{lowValue, lowLimit, RowPlaced, ValueOf, RightValues}
 
 abbrev pub termLimit : ℕ
 termLimit = 2 * (coefficientLimit * longestSide) + coefficientLimit
@@ -286,3 +286,10 @@ module _ (u : Universe) (few : u .axes ≤ mostAxes) (h : Halfspace) (within : w
       none : (i : ℕ) → u .axes ≤ i → i < mostAxes → termOf h low i ≡ pos 0
       none i l m =
           ap (λ (x : ℤ). x *ℤ pos (2 * getD low i 0 + 1)) (no-coefficient i l m) ∙ eq-by (ν 0 ⊗ ν (2 * getD low i 0 + 1)) (ν 0) (omega arith)
+
+-- ---- the value of the code at a place
+pub value-here : {rows : List ℤ} {low codes : List ℕ} {from count : ℕ} {values : List ℤ} → RightValues rows low codes from count values →
+    {i : ℕ} → from ≤ i → i < from + count → ValueOf rows low values (getD codes i 0)
+value-here {rows} {low} {codes} {from} {count} {values} right {i} l m =
+    let e : from + (i - from) ≡ i = omega arith in
+    subst (λ (k : ℕ). ValueOf rows low values (getD codes k 0)) e (right .at-code (i - from) (omega arith))

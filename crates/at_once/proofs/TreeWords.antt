@@ -2,10 +2,9 @@
 use Prim.Native.Nat.{ℕ, suc, _+_, _-_, _≤_, _<_}
 use native.Mathlib.Omega.{arith}
 use native.Mathlib.Numerals.{add-one}
-use mathlib.Core.Path.{_≡_, refl, sym, ap, ap₂, _∙_, subst}
-use mathlib.Core.Bool.{Bool, true, false, cond, false≢true}
+use mathlib.Core.Path.{_≡_, refl, sym, ap, ap₂, _∙_}
+use mathlib.Core.Bool.{Bool, true, false, false≢true}
 use mathlib.Core.List.{List, [], _∷_}
-use lib.IntN.{ℤ}
 use lib.ListN.{length, getD, set, length-set}
 use Rattle.universe.specs.declared.Block.{Block}
 use Rattle.bintree.specs.declared.Colour.{Colour}
@@ -22,7 +21,6 @@ use Rattle.masks.proofs.Block.{mask-agree}
 use Rattle.masks.proofs.Trees.{union-mask, intersection-mask}
 use Rattle.at_once.specs.Codes.{HoldsCodes, code}
 use Rattle.at_once.specs.Words.{WordBlock, wordBlock, LeafWord, TreesWord, joinedWord, wholeWord}
-use Rattle.at_once.specs.Moves.{ValueOf, RightValues}
 
 -- ---- the words of trees pending, whatever they are
 abbrev pub wordsOf : (Plain → ℕ) → List Plain → List ℕ
@@ -112,12 +110,6 @@ module _ {surfaces : Surfaces} {axes : ℕ} {table lengths low : List ℕ} {left
       module _ (h : i < from + count) where
         pub code-inside : i < length codes
         code-inside = omega (arith, job .carried .inside)
-
-        -- the value of its row is carried
-        pub leaf-value : {rows values : List ℤ} → RightValues rows low codes from count values → ValueOf rows low values (getD codes i 0)
-        leaf-value {rows} {values} right =
-            let e : from + (i - from) ≡ i = omega (arith, g .begun) in
-            subst (λ (k : ℕ). ValueOf rows low values (getD codes k 0)) e (right .at-code (i - from) (omega (arith, g .begun)))
 
         record LeafNext : Type 0 where
           tree : Plain

@@ -46,6 +46,7 @@ use Rattle.pruned.specs.Nodes.{Node, postfix, allPostfix, two, mostShapes}
 use Rattle.pruned.proofs.Looked.{two-stand}
 use Rattle.pruned.proofs.Loads.{words-carried}
 use Rattle.pruned.proofs.Steps.{rows-few, rows-small, balls-few}
+use Rattle.at_once.specs.Both.{BothShelves}
 use Rattle.at_once.specs.declared.answer.Span as spans
 use Rattle.at_once.specs.Codes.{HoldsCodes, no-code, code}
 use Rattle.at_once.specs.Words.{Tabled}
@@ -135,6 +136,9 @@ codes-long = length-replicate {A = ℕ} mostCodes 0
 
 pub shelf-long : length (replicate {A = ℕ} mostShapes 0) ≡ mostShapes
 shelf-long = length-replicate {A = ℕ} mostShapes 0
+
+pub shelves-long : BothShelves (replicate {A = ℕ} mostShapes 0) (replicate {A = ℕ} mostShapes 0)
+shelves-long = record { belows-long = shelf-long; aboves-long = shelf-long }
 
 -- ---- the whole universe
 module _ {u : Universe} {surfaces : Surfaces} {words₁ words₂ : List ℕ} {from to : ℕ} (r : WholeReady u surfaces words₁ words₂ from to) where

@@ -6,16 +6,16 @@ use mathlib.Core.Bool.{Bool}
 use mathlib.Core.List.{List}
 use lib.ListN.{length}
 use Rattle.universe.specs.Universe.{mostLevels, longestSide}
-use Rattle.universe.specs.declared.Block.{Block}
 use Rattle.bintree.specs.declared.Contact.{Contact}
 use Rattle.csg.specs.Surfaces.{Surfaces}
 use Rattle.demands.specs.Voxels.{Colouring}
+use Rattle.masks.specs.Block.{blockMask}
 use Rattle.masks.specs.Windows.{windowed}
 use Rattle.masks.specs.Contacts.{contactIn}
 use Rattle.masks.specs.Ends.{endIn}
 use Rattle.pruned.specs.Left.{allColour}
 use Rattle.at_once.specs.Codes.{SameCodes, AtBlock, blockAt, Carrying}
-use Rattle.at_once.specs.Words.{Tabled}
+use Rattle.at_once.specs.Words.{wordLevels, Tabled}
 
 -- a block that stands in the arrays, the trees that are carried into it, and room for so many times their codes from
 -- there on: of a block with n levels left n + 1 times, of both its halves n times
@@ -48,6 +48,23 @@ pub record CountJob (surfaces : Surfaces) (axes : ℕ) (table lengths low side :
     (codes : List ℕ) (from count times : ℕ) (first last : ℕ) (contact : Contact) : Type 0 where
   pub block : BlockJob surfaces axes table lengths low side left codes from count times
   pub counts : contactOver first last block contact .voxels < 2 ^ 64
+
+-- the word of a block that stands in the arrays: a digit for each voxel, by the trees that are carried into it; and one
+-- whose voxels can be counted
+pub record WordOver (axes : ℕ) (table lengths low side : List ℕ) (left word : ℕ) : Type 0 where
+  pub surfaces : Surfaces
+  pub codes : List ℕ
+  pub from : ℕ
+  pub count : ℕ
+  pub times : ℕ
+  pub block : BlockJob surfaces axes table lengths low side left codes from count times
+  pub few : left ≤ wordLevels
+  pub word-is : word ≡ blockMask (coloursOf block) left (blockAt (block .at))
+
+pub record CountWord (axes : ℕ) (table lengths low side : List ℕ) (left word first last : ℕ) (contact : Contact)
+    : Type 0 where
+  pub over : WordOver axes table lengths low side left word
+  pub counts : contactOver first last (over .block) contact .voxels < 2 ^ 64
 
 -- what is changed of the low places and of the sides is put back, and the codes below a place stay
 pub record PutBack (place : ℕ) (low side codes low′ side′ codes′ : List ℕ) : Type 0 where

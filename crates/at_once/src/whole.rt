@@ -105,6 +105,8 @@ pub(crate) fn whole_verdict(
     let mut codes = [0u16; MOST_CODES];
     let mut starts = [0usize; MOST_SHAPES];
     let mut marks = [0u8; MOST_SHAPES];
+    let mut belows = [0u64; MOST_SHAPES];
+    let mut aboves = [0u64; MOST_SHAPES];
     let mut values = [0i64; csg::MOST_ROWS];
     let mut rounds = [0u8; csg::MOST_ROWS];
     load_both(rows, first, second, &mut codes, &mut starts, &mut values);
@@ -127,6 +129,8 @@ pub(crate) fn whole_verdict(
         first.len() + second.len(),
         &mut starts,
         &mut marks,
+        &mut belows,
+        &mut aboves,
         first_frame,
         last_frame,
         none,
@@ -164,6 +168,8 @@ pub(crate) fn whole_span(
     let mut codes = [0u16; MOST_CODES];
     let mut starts = [0usize; MOST_SHAPES];
     let mut marks = [0u8; MOST_SHAPES];
+    let mut belows = [0u64; MOST_SHAPES];
+    let mut aboves = [0u64; MOST_SHAPES];
     let mut values = [0i64; csg::MOST_ROWS];
     let mut rounds = [0u8; csg::MOST_ROWS];
     load_both(rows, first, second, &mut codes, &mut starts, &mut values);
@@ -182,6 +188,8 @@ pub(crate) fn whole_span(
         count,
         &mut starts,
         &mut marks,
+        &mut belows,
+        &mut aboves,
         first_frame,
         last_frame,
         past,
@@ -207,6 +215,8 @@ pub(crate) fn whole_span(
         count,
         &mut starts,
         &mut marks,
+        &mut belows,
+        &mut aboves,
         first_frame,
         last_frame,
         sooner,

@@ -8,7 +8,7 @@ use Rattle.at_once.specs.Words.{TreesWord}
 use Rattle.at_once.specs.Both.{placesAlong}
 use Rattle.at_once.proofs.TreeWords.{treeWord, word-joins, all-word, Going, going-start, code-inside, leaf-room, leaf-job, leaf-is, going-leaf}
 use Rattle.at_once.proofs.TreeWords.{join-two, going-join, going-end}
-use Rattle.at_once.proofs.BothWords.{value-here}
+use Rattle.at_once.proofs.RowValues.{value-here}
 use Rattle.at_once.proofs.both.both_words.Statement.{statement}
 use Rattle.at_once.proofs.both.both_words.Tie as tie
 

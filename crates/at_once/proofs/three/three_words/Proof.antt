@@ -6,7 +6,7 @@ use native.Mathlib.Omega.{arith}
 use Rattle.csg.specs.Surfaces.{surfacesOf}
 use Rattle.at_once.specs.Words.{TreesWord}
 use Rattle.at_once.proofs.TreeWords.{code-inside, leaf-room, leaf-job, join-two}
-use Rattle.at_once.proofs.BothWords.{value-here}
+use Rattle.at_once.proofs.RowValues.{value-here}
 use Rattle.at_once.proofs.OwnLeaves.{GoingThree, three-start, three-leaf, three-join, three-end, three-long}
 use Rattle.at_once.proofs.three.three_words.Statement.{statement}
 use Rattle.at_once.proofs.three.three_words.Tie as tie

@@ -7,7 +7,7 @@ use Rattle.csg.specs.Surfaces.{surfacesOf}
 use Rattle.at_once.specs.Voxel.{VoxelTrees}
 use Rattle.at_once.proofs.TreeWords.{treeWord, word-joins, all-word, Going, going-start, code-inside, leaf-room, leaf-is, going-leaf}
 use Rattle.at_once.proofs.TreeWords.{join-two, going-join, going-end}
-use Rattle.at_once.proofs.BothWords.{value-here}
+use Rattle.at_once.proofs.RowValues.{value-here}
 use Rattle.at_once.proofs.Voxels.{voxel-leaf}
 use Rattle.at_once.proofs.voxel.trees_digit.Statement.{statement}
 use Rattle.at_once.proofs.voxel.trees_digit.Tie as tie

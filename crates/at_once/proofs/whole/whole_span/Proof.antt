@@ -3,8 +3,8 @@ use mathlib.Core.Path.{refl}
 use native.Mathlib.Omega.{arith}
 use borrow.Author.Needs.{needs}
 use Rattle.at_once.proofs.Moving.{same-values}
-use Rattle.at_once.proofs.Wholes.{codes-long, shelf-long, both-job, few-words, past-fits, whole-values, whole-job, span-clear, span-hit, again-job}
-use Rattle.at_once.proofs.Wholes.{later-is}
+use Rattle.at_once.proofs.Wholes.{codes-long, shelf-long, shelves-long, both-job, few-words, past-fits, whole-values, whole-job, span-clear, span-hit}
+use Rattle.at_once.proofs.Wholes.{again-job, later-is}
 use Rattle.at_once.proofs.whole.whole_span.Statement.{statement}
 use Rattle.at_once.proofs.whole.whole_span.Tie as tie
 
@@ -31,7 +31,7 @@ load-both-requires c κs = let k = c .before .before .before .before .before .be
 
 end-block-requires : tie.Need-end-block-requires
 end-block-requires c κs =
-    let c10 = c .before .before .before .before .before .before .before .before .before .before in
+    let c10 = c .before .before .before .before .before .before .before .before .before .before .before .before in
     let c14 = c10 .before .before .before .before in
     let c15 = c14 .before in
     let c18 = c15 .before .before .before in
@@ -42,13 +42,13 @@ end-block-requires c κs =
     let sides = c14 .whole-sides .ensures in
     let l = c18 .levels .ensures in (
       whole-job (k .pre) l codes-long shelf-long tabled sides b,
-      (record { starts-long = b .starts-long; codes-long = shelf-long }, whole-values (k .pre) l codes-long shelf-long tabled sides b),
+      (record { starts-long = b .starts-long; codes-long = shelf-long }, (shelves-long, whole-values (k .pre) l codes-long shelf-long tabled sides b)),
     )
 
 returns : tie.Need-returns
 returns c =
     let c2 = c .before .before in
-    let c13 = c2 .before .before .before .before .before .before .before .before .before .before .before in
+    let c13 = c2 .before .before .before .before .before .before .before .before .before .before .before .before .before in
     let c17 = c13 .before .before .before .before in
     let c18 = c17 .before in
     let c21 = c18 .before .before .before in
@@ -63,8 +63,8 @@ returns c =
 
 end-block-requires-2 : tie.Need-end-block-requires-2
 end-block-requires-2 c κs =
-    let c11 = c .before .before .before .before .before .before .before .before .before .before .before in
-    let c22 = c11 .before .before .before .before .before .before .before .before .before .before .before in
+    let c11 = c .before .before .before .before .before .before .before .before .before .before .before .before .before in
+    let c22 = c11 .before .before .before .before .before .before .before .before .before .before .before .before .before in
     let c26 = c22 .before .before .before .before in
     let c27 = c26 .before in
     let c30 = c27 .before .before .before in
@@ -76,15 +76,22 @@ end-block-requires-2 c κs =
     let l = c30 .levels .ensures in
     let f = c11 .end-block .ensures in (
       again-job (k .pre) l codes-long shelf-long tabled sides b refl (f .0 (whole-job (k .pre) l codes-long shelf-long tabled sides b)) (f .1 .0),
-      (f .1 .1 .0, rw (f .1 .0 .lows) (same-values (f .1 .0 .below) (f .1 .1 .1) (whole-values (k .pre) l codes-long shelf-long tabled sides b))),
+      (
+        f .1 .1 .0,
+        (
+          f .1 .1 .1 .0,
+          rw (f .1 .0 .lows) (same-values (f .1 .0 .below) (f .1 .1 .1 .1) (whole-values (k .pre) l codes-long shelf-long tabled sides
+              b)),
+        ),
+      ),
     )
 
 returns-2 : tie.Need-returns-2
 returns-2 c =
     let c1 = c .before in
-    let c11 = c1 .before .before .before .before .before .before .before .before .before .before in
+    let c11 = c1 .before .before .before .before .before .before .before .before .before .before .before .before in
     let c13 = c11 .before .before in
-    let c24 = c13 .before .before .before .before .before .before .before .before .before .before .before in
+    let c24 = c13 .before .before .before .before .before .before .before .before .before .before .before .before .before in
     let c28 = c24 .before .before .before .before in
     let c29 = c28 .before in
     let c32 = c29 .before .before .before in

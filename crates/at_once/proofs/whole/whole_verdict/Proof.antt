@@ -1,7 +1,7 @@
 -- `whole_verdict` begins with the whole universe's block and the codes of both trees, and joins it to a contact with no voxel.
 use native.Mathlib.Omega.{arith}
 use borrow.Author.Needs.{needs}
-use Rattle.at_once.proofs.Wholes.{codes-long, shelf-long, both-job, few-words, whole-values, whole-count, whole-verdict}
+use Rattle.at_once.proofs.Wholes.{codes-long, shelf-long, shelves-long, both-job, few-words, whole-values, whole-count, whole-verdict}
 use Rattle.at_once.proofs.whole.whole_verdict.Statement.{statement}
 use Rattle.at_once.proofs.whole.whole_verdict.Tie as tie
 
@@ -28,7 +28,7 @@ add-count-block c =
 
 count-block-requires : tie.Need-count-block-requires
 count-block-requires c κs =
-    let c5 = c .before .before .before .before .before in
+    let c5 = c .before .before .before .before .before .before .before in
     let c11 = c5 .before .before .before .before .before .before in
     let c15 = c11 .before .before .before .before in
     let c16 = c15 .before in
@@ -39,7 +39,7 @@ count-block-requires c κs =
     let sides = c15 .whole-sides .ensures in
     let l = c5 .levels .ensures in (
       whole-count (k .pre) l codes-long shelf-long tabled sides b,
-      (record { starts-long = b .starts-long; codes-long = shelf-long }, whole-values (k .pre) l codes-long shelf-long tabled sides b),
+      (record { starts-long = b .starts-long; codes-long = shelf-long }, (shelves-long, whole-values (k .pre) l codes-long shelf-long tabled sides b)),
     )
 
 verdict-from-requires : tie.Need-verdict-from-requires
@@ -48,7 +48,7 @@ verdict-from-requires c κs = tt
 returns : tie.Need-returns
 returns c =
     let c2 = c .before .before in
-    let c8 = c2 .before .before .before .before .before .before in
+    let c8 = c2 .before .before .before .before .before .before .before .before in
     let c14 = c8 .before .before .before .before .before .before in
     let c18 = c14 .before .before .before .before in
     let c19 = c18 .before in

@@ -6,7 +6,8 @@ use mathlib.Core.Logic.{⊎-elim}
 use native.Mathlib.Omega.{arith}
 use Rattle.csg.specs.Surfaces.{surfacesOf}
 use Rattle.at_once.specs.Words.{TreesWord}
-use Rattle.at_once.proofs.TreeWords.{treeWord, word-joins, all-word, Going, going-start, code-inside, leaf-room, leaf-job, leaf-value}
+use Rattle.at_once.proofs.TreeWords.{treeWord, word-joins, all-word, Going, going-start, code-inside, leaf-room, leaf-job}
+use Rattle.at_once.proofs.RowValues.{value-here}
 use Rattle.at_once.proofs.TreeWords.{leaf-is, going-leaf, join-two, going-join, going-end}
 use Rattle.at_once.proofs.word.trees_word.Statement.{statement}
 use Rattle.at_once.proofs.word.trees_word.Tie as tie
@@ -104,7 +105,7 @@ leaf-word-requires : tie.Need-leaf-word-requires Inv-loop μ-loop
 leaf-word-requires c κs =
     let t = c .before .before .before .before .before .before in let c4 = c .before .before .before .before in let c3 = c .before .before .before in
     let j = t .pre .0 in let g = c4 .loop .inv j in let h = c3 .loop-test .taken in let o = sym (c .before .is-join .ensures) ∙ c .if1 .left in
-    (leaf-job j g h o, leaf-value j g h (t .pre .1))
+    (leaf-job j g h o, value-here (t .pre .1) (g .begun) h)
 
 mul-words-2 : tie.Need-mul-words-2 Inv-loop μ-loop
 mul-words-2 c =
