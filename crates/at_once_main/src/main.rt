@@ -11,6 +11,30 @@ use universe::Universe;
 
 const LENT: usize = 2_048;
 
+// The rows of a mover between t and t + 1, and of a wall from 2 to 3.
+const MOVER_AND_WALL: [i64; 20] = [
+    0,
+    1,
+    -1,
+    0,
+    0,
+    1,
+    -1,
+    1,
+    0,
+    0,
+    -2,
+    1,
+    0,
+    0,
+    0,
+    3,
+    -1,
+    0,
+    0,
+    0,
+];
+
 fn universe(axes: u64, bits: u64, frame_bits: u64) -> Universe {
     Universe {
         axes: axes,
@@ -133,32 +157,10 @@ fn over(
 
 // A mover between t and t + 1 and a wall from 2 to 3, in a window.
 fn moved(label: &[u8], universe: Universe, first_frame: u64, last_frame: u64) {
-    let rows: [i64; 20] = [
-        0,
-        1,
-        -1,
-        0,
-        0,
-        1,
-        -1,
-        1,
-        0,
-        0,
-        -2,
-        1,
-        0,
-        0,
-        0,
-        3,
-        -1,
-        0,
-        0,
-        0,
-    ];
     over(
         label,
         universe,
-        &rows,
+        &MOVER_AND_WALL,
         &[],
         &[256, 257, 3],
         &[258, 259, 3],
@@ -189,127 +191,172 @@ fn windows() {
     moved(b"first after last", universe(2, 3, 4), 2, 1);
 }
 
-// One tree and BLACK over all frames of four axes, 2 bits each.
-fn alone(label: &[u8], rows: &[i64], balls: &[i64], words: &[u16]) {
-    over(label, universe(4, 2, 2), rows, balls, words, &[1], 0, 3);
+// A tree of one plane and BLACK over all frames of four axes, 2 bits each.
+fn plane_alone(label: &[u8], plane: [i64; 5], words: &[u16]) {
+    over(label, universe(4, 2, 2), &plane, &[], words, &[1], 0, 3);
 }
 
-// Planes and balls as they are, reversed, and less themselves.
-fn surfaces() {
-    alone(b"through centres", &[-9, 2, 2, 2, 0], &[], &[256]);
-    alone(b"reversed", &[-9, 2, 2, 2, 0], &[], &[1, 256, 4]);
-    alone(b"less itself", &[-9, 2, 2, 2, 0], &[], &[256, 256, 4]);
-    alone(b"in motion", &[-3, 1, 0, 0, 2], &[], &[256]);
-    alone(b"five zeros", &[0, 0, 0, 0, 0], &[], &[256]);
-    alone(b"a ball", &[], &[2, 2, 2, 2], &[512]);
-    alone(b"reversed", &[], &[2, 2, 2, 2], &[1, 512, 4]);
-    alone(b"less itself", &[], &[2, 2, 2, 2], &[512, 512, 4]);
-    alone(
-        b"a ball while it stays",
-        &[2, 0, 0, 0, -1],
+// The same of one ball.
+fn ball_alone(label: &[u8], ball: [i64; 4], words: &[u16]) {
+    over(label, universe(4, 2, 2), &[], &ball, words, &[1], 0, 3);
+}
+
+// The same of a ball and a plane.
+fn ball_and_plane(label: &[u8], plane: [i64; 5], words: [u16; 3]) {
+    over(
+        label,
+        universe(4, 2, 2),
+        &plane,
         &[1, 1, 1, 1],
-        &[512, 256, 3],
+        &words,
+        &[1],
+        0,
+        3,
     );
-    alone(
-        b"a ball or after",
-        &[-3, 0, 0, 0, 1],
-        &[1, 1, 1, 1],
-        &[512, 256, 2],
+}
+
+// Planes as they are, reversed, and less themselves.
+fn planes() {
+    plane_alone(b"through centres", [-9, 2, 2, 2, 0], &[256]);
+    plane_alone(b"reversed", [-9, 2, 2, 2, 0], &[1, 256, 4]);
+    plane_alone(b"less itself", [-9, 2, 2, 2, 0], &[256, 256, 4]);
+    plane_alone(b"in motion", [-3, 1, 0, 0, 2], &[256]);
+    plane_alone(b"five zeros", [0, 0, 0, 0, 0], &[256]);
+}
+
+// A ball as it is, reversed, and less itself; and balls with a plane.
+fn balls() {
+    ball_alone(b"a ball", [2, 2, 2, 2], &[512]);
+    ball_alone(b"reversed", [2, 2, 2, 2], &[1, 512, 4]);
+    ball_alone(b"less itself", [2, 2, 2, 2], &[512, 512, 4]);
+    ball_and_plane(b"a ball while it stays", [2, 0, 0, 0, -1], [512, 256, 3]);
+    ball_and_plane(b"a ball or after", [-3, 0, 0, 0, 1], [512, 256, 2]);
+}
+
+// A plane and BLACK in a window.
+fn plane_over(
+    label: &[u8],
+    universe: Universe,
+    plane: [i64; 5],
+    first_frame: u64,
+    last_frame: u64,
+) {
+    over(
+        label,
+        universe,
+        &plane,
+        &[],
+        &[256],
+        &[1],
+        first_frame,
+        last_frame,
+    );
+}
+
+// BLACK and a constant in a window.
+fn black_over(label: &[u8], universe: Universe, constant: u16, first_frame: u64, last_frame: u64) {
+    over(
+        label,
+        universe,
+        &[],
+        &[],
+        &[1],
+        &[constant],
+        first_frame,
+        last_frame,
     );
 }
 
 // Each number of axes, no bits, and more than is lent.
 fn axes() {
-    over(
-        b"frames alone",
-        universe(1, 0, 7),
-        &[-3, 2, 0, 0, 0],
-        &[],
-        &[256],
-        &[1],
-        0,
-        127,
-    );
-    over(
-        b"three axes",
-        universe(3, 3, 2),
-        &[-7, 1, 1, 1, 0],
-        &[],
-        &[256],
-        &[1],
-        1,
-        2,
-    );
-    over(b"one voxel", universe(4, 0, 0), &[], &[], &[1], &[1], 0, 0);
-    over(b"none", universe(4, 0, 0), &[], &[], &[1], &[0], 0, 0);
-    over(
+    plane_over(b"frames alone", universe(1, 0, 7), [-3, 2, 0, 0, 0], 0, 127);
+    plane_over(b"three axes", universe(3, 3, 2), [-7, 1, 1, 1, 0], 1, 2);
+    black_over(b"one voxel", universe(4, 0, 0), 1, 0, 0);
+    black_over(b"none", universe(4, 0, 0), 0, 0, 0);
+    plane_over(
         b"more than is lent",
         universe(4, 3, 3),
-        &[-29, 2, 2, 2, 1],
-        &[],
-        &[256],
-        &[1],
+        [-29, 2, 2, 2, 1],
         0,
         7,
     );
-    over(
-        b"all of the largest",
-        universe(4, 10, 12),
-        &[],
-        &[],
-        &[1],
-        &[1],
-        0,
-        4_095,
-    );
-    over(
-        b"its last frame",
-        universe(4, 10, 12),
-        &[],
-        &[],
-        &[1],
-        &[1],
-        4_095,
-        4_095,
-    );
+    black_over(b"all of the largest", universe(4, 10, 12), 1, 0, 4_095);
+    black_over(b"its last frame", universe(4, 10, 12), 1, 4_095, 4_095);
 }
 
-// Each number with a fault behind it.
-fn refusals() {
+// Each number up to the balls', with a fault behind it.
+fn refused_surfaces() {
+    let none: &[i64] = &[];
+    let torn: &[i64] = &[0];
+    let black: &[u16] = &[1];
     over(
         b"the universe",
         universe(5, 2, 2),
-        &[0],
-        &[],
-        &[1],
-        &[1],
+        torn,
+        none,
+        black,
+        black,
         0,
         3,
     );
-    over(b"the rows", universe(2, 2, 2), &[0], &[0], &[1], &[1], 0, 3);
-    over(b"the balls", universe(2, 2, 2), &[], &[0], &[], &[1], 0, 3);
+    over(
+        b"the rows",
+        universe(2, 2, 2),
+        torn,
+        torn,
+        black,
+        black,
+        0,
+        3,
+    );
+    over(
+        b"the balls",
+        universe(2, 2, 2),
+        none,
+        torn,
+        &[],
+        black,
+        0,
+        3,
+    );
+}
+
+// Each number of the trees and of the window.
+fn refused_trees() {
+    let none: &[i64] = &[];
+    let black: &[u16] = &[1];
+    let overfull: &[u16] = &[1; 256];
     over(
         b"tree 1",
         universe(2, 2, 2),
-        &[],
-        &[],
+        none,
+        none,
         &[256],
-        &[1; 256],
+        overfull,
         0,
         3,
     );
-    over(b"tree 2", universe(2, 2, 2), &[], &[], &[1], &[], 0, 4);
+    over(b"tree 2", universe(2, 2, 2), none, none, black, &[], 0, 4);
     over(
         b"tree 2 overfull",
         universe(2, 2, 2),
-        &[],
-        &[],
-        &[1],
-        &[1; 256],
+        none,
+        none,
+        black,
+        overfull,
         0,
         4,
     );
-    over(b"the window", universe(2, 2, 2), &[], &[], &[1], &[1], 0, 4);
+    over(
+        b"the window",
+        universe(2, 2, 2),
+        none,
+        none,
+        black,
+        black,
+        0,
+        4,
+    );
 }
 
 // What a merged conversion answered and left.
@@ -318,6 +365,16 @@ fn tell_room(written: Written, room: &[u8]) {
     next_number(written.length);
     say(b" ");
     say(room);
+}
+
+// A line: what the conversion over codes answered and left, and what the first one did.
+fn tell_rooms(label: &[u8], found: Written, room: &[u8], plain: Written, other: &[u8]) {
+    say(label);
+    say(b":");
+    tell_room(found, room);
+    say(b" /");
+    tell_room(plain, other);
+    say(b"\n");
 }
 
 // The merged expression of two trees in a room, and by the first conversion in another.
@@ -333,12 +390,7 @@ fn merged_two(
 ) {
     let found = at_once::merged_of_two(universe, rows, balls, first, second, room);
     let plain = convert::merged_of_two(universe, rows, balls, first, second, other);
-    say(label);
-    say(b":");
-    tell_room(found, room);
-    say(b" /");
-    tell_room(plain, other);
-    say(b"\n");
+    tell_rooms(label, found, room, plain, other);
 }
 
 // The same of one tree.
@@ -353,275 +405,196 @@ fn merged_one(
 ) {
     let found = at_once::merged_of_one(universe, rows, balls, words, room);
     let plain = convert::merged_of_one(universe, rows, balls, words, other);
-    say(label);
-    say(b":");
-    tell_room(found, room);
-    say(b" /");
-    tell_room(plain, other);
-    say(b"\n");
+    tell_rooms(label, found, room, plain, other);
 }
 
-// Both of the mover and the wall, in rooms of one length.
-fn merged_moved(label: &[u8], universe: Universe, room: &mut [u8], other: &mut [u8]) {
-    let rows: [i64; 20] = [
-        0,
-        1,
-        -1,
-        0,
-        0,
-        1,
-        -1,
-        1,
-        0,
-        0,
-        -2,
-        1,
-        0,
-        0,
-        0,
-        3,
-        -1,
-        0,
-        0,
-        0,
-    ];
-    merged_two(
+// The merged expressions of two trees in rooms of this length.
+fn merged_two_in(
+    label: &[u8],
+    universe: Universe,
+    rows: &[i64],
+    balls: &[i64],
+    first: &[u16],
+    second: &[u16],
+    lent: usize,
+) {
+    let mut room = [b'.'; LENT];
+    let mut other = [b'.'; LENT];
+    if lent <= LENT {
+        merged_two(
+            label,
+            universe,
+            rows,
+            balls,
+            first,
+            second,
+            &mut room[..lent],
+            &mut other[..lent],
+        );
+    }
+}
+
+// The same of one tree.
+fn merged_one_in(
+    label: &[u8],
+    universe: Universe,
+    rows: &[i64],
+    balls: &[i64],
+    words: &[u16],
+    lent: usize,
+) {
+    let mut room = [b'.'; LENT];
+    let mut other = [b'.'; LENT];
+    if lent <= LENT {
+        merged_one(
+            label,
+            universe,
+            rows,
+            balls,
+            words,
+            &mut room[..lent],
+            &mut other[..lent],
+        );
+    }
+}
+
+// Both of the mover and the wall.
+fn merged_moved(label: &[u8], universe: Universe, lent: usize) {
+    merged_two_in(
         label,
         universe,
-        &rows,
+        &MOVER_AND_WALL,
         &[],
         &[256, 257, 3],
         &[258, 259, 3],
-        room,
-        other,
+        lent,
     );
+}
+
+// A tree of one plane.
+fn merged_plane(label: &[u8], universe: Universe, plane: [i64; 5], words: &[u16], lent: usize) {
+    merged_one_in(label, universe, &plane, &[], words, lent);
+}
+
+// BLACK.
+fn merged_black(label: &[u8], universe: Universe, lent: usize) {
+    merged_one_in(label, universe, &[], &[], &[1], lent);
 }
 
 // Universes of no level to five, which one word holds.
 fn merged_small() {
-    merged_one(
-        b"no level",
-        universe(4, 0, 0),
-        &[],
-        &[],
-        &[1],
-        &mut [b'.'; 1],
-        &mut [b'.'; 1],
-    );
-    merged_moved(
-        b"four levels",
-        universe(2, 2, 2),
-        &mut [b'.'; 13],
-        &mut [b'.'; 13],
-    );
-    merged_moved(
-        b"five levels",
-        universe(2, 2, 3),
-        &mut [b'.'; 14],
-        &mut [b'.'; 14],
-    );
+    merged_black(b"no level", universe(4, 0, 0), 1);
+    merged_moved(b"four levels", universe(2, 2, 2), 13);
+    merged_moved(b"five levels", universe(2, 2, 3), 14);
 }
 
 // Universes of six levels and more.
 fn merged_levels() {
-    merged_moved(
-        b"six levels",
-        universe(2, 3, 3),
-        &mut [b'.'; 17],
-        &mut [b'.'; 17],
-    );
-    merged_moved(
-        b"eight levels",
-        universe(2, 4, 4),
-        &mut [b'.'; 22],
-        &mut [b'.'; 22],
-    );
-    merged_moved(
-        b"long frames",
-        universe(2, 2, 6),
-        &mut [b'.'; 19],
-        &mut [b'.'; 19],
-    );
-    merged_moved(
-        b"wide places",
-        universe(2, 7, 2),
-        &mut [b'.'; 33],
-        &mut [b'.'; 33],
-    );
+    merged_moved(b"six levels", universe(2, 3, 3), 17);
+    merged_moved(b"eight levels", universe(2, 4, 4), 22);
+    merged_moved(b"long frames", universe(2, 2, 6), 19);
+    merged_moved(b"wide places", universe(2, 7, 2), 33);
 }
 
 // Each number of axes.
 fn merged_axes() {
-    merged_one(
+    let row: &[u16] = &[256];
+    merged_plane(
         b"frames alone",
         universe(1, 0, 7),
-        &[-3, 2, 0, 0, 0],
-        &[],
-        &[256],
-        &mut [b'.'; 15],
-        &mut [b'.'; 15],
+        [-3, 2, 0, 0, 0],
+        row,
+        15,
     );
-    merged_one(
-        b"three axes",
-        universe(3, 3, 2),
-        &[-7, 1, 1, 1, 0],
-        &[],
-        &[256],
-        &mut [b'.'; 82],
-        &mut [b'.'; 82],
-    );
-    merged_one(
-        b"four axes",
-        universe(4, 2, 2),
-        &[-9, 2, 2, 2, 0],
-        &[],
-        &[256],
-        &mut [b'.'; 69],
-        &mut [b'.'; 69],
-    );
+    merged_plane(b"three axes", universe(3, 3, 2), [-7, 1, 1, 1, 0], row, 82);
+    merged_plane(b"four axes", universe(4, 2, 2), [-9, 2, 2, 2, 0], row, 69);
 }
 
 // A plane reversed, less itself, and with the rest.
 fn merged_planes() {
-    merged_one(
-        b"reversed",
-        universe(4, 2, 2),
-        &[-9, 2, 2, 2, 0],
-        &[],
-        &[1, 256, 4],
-        &mut [b'.'; 69],
-        &mut [b'.'; 69],
-    );
-    merged_one(
-        b"less itself",
-        universe(4, 2, 2),
-        &[-9, 2, 2, 2, 0],
-        &[],
-        &[256, 256, 4],
-        &mut [b'.'; 2],
-        &mut [b'.'; 2],
-    );
-    merged_one(
+    let plane: [i64; 5] = [-9, 2, 2, 2, 0];
+    merged_plane(b"reversed", universe(4, 2, 2), plane, &[1, 256, 4], 69);
+    merged_plane(b"less itself", universe(4, 2, 2), plane, &[256, 256, 4], 2);
+    merged_plane(
         b"with the rest",
         universe(4, 2, 2),
-        &[-9, 2, 2, 2, 0],
-        &[],
+        plane,
         &[256, 1, 256, 4, 2],
-        &mut [b'.'; 2],
-        &mut [b'.'; 2],
+        2,
     );
 }
 
 // Balls.
 fn merged_balls() {
-    merged_one(
-        b"a ball",
-        universe(4, 2, 2),
-        &[],
-        &[2, 2, 2, 2],
-        &[512],
-        &mut [b'.'; 191],
-        &mut [b'.'; 191],
-    );
-    merged_one(
+    let none: &[i64] = &[];
+    let ball: &[i64] = &[2, 2, 2, 2];
+    merged_one_in(b"a ball", universe(4, 2, 2), none, ball, &[512], 191);
+    merged_one_in(
         b"a ball less itself",
         universe(4, 2, 2),
-        &[],
-        &[2, 2, 2, 2],
+        none,
+        ball,
         &[512, 512, 4],
-        &mut [b'.'; 2],
-        &mut [b'.'; 2],
+        2,
     );
-    merged_two(
+    merged_two_in(
         b"a ball beside a wall",
         universe(3, 3, 2),
         &[-3, 1, 0, 0, 0],
         &[4, 4, 0, 3],
         &[512],
         &[256],
-        &mut [b'.'; 200],
-        &mut [b'.'; 200],
+        200,
     );
 }
 
 // Rooms that are exact, a symbol short, and none.
 fn merged_rooms() {
-    merged_moved(
-        b"exact",
-        universe(2, 3, 4),
-        &mut [b'.'; 17],
-        &mut [b'.'; 17],
-    );
-    merged_moved(
-        b"a symbol short",
-        universe(2, 3, 4),
-        &mut [b'.'; 16],
-        &mut [b'.'; 16],
-    );
-    merged_moved(
-        b"no room",
-        universe(2, 3, 4),
-        &mut [b'.'; 0],
-        &mut [b'.'; 0],
-    );
-    merged_one(
-        b"no room for one",
-        universe(2, 3, 4),
-        &[],
-        &[],
-        &[1],
-        &mut [b'.'; 0],
-        &mut [b'.'; 0],
-    );
+    merged_moved(b"exact", universe(2, 3, 4), 17);
+    merged_moved(b"a symbol short", universe(2, 3, 4), 16);
+    merged_moved(b"no room", universe(2, 3, 4), 0);
+    merged_black(b"no room for one", universe(2, 3, 4), 0);
 }
 
 // Rooms for every expression of the universe, and words whose own room is short.
 fn merged_at_once() {
-    merged_one(
+    let plane: [i64; 5] = [-3, 2, 0, 0, 0];
+    let row: &[u16] = &[256];
+    merged_plane(
         b"room for all of four levels",
         universe(2, 2, 2),
-        &[-3, 2, 0, 0, 0],
-        &[],
-        &[256],
-        &mut [b'.'; 31],
-        &mut [b'.'; 31],
+        plane,
+        row,
+        31,
     );
-    merged_one(
+    merged_plane(
         b"room for all of seven levels",
         universe(2, 3, 4),
-        &[-3, 2, 0, 0, 0],
-        &[],
-        &[256],
-        &mut [b'.'; 255],
-        &mut [b'.'; 255],
+        plane,
+        row,
+        255,
     );
-    merged_one(
-        b"exact",
-        universe(2, 2, 2),
-        &[-3, 2, 0, 0, 0],
+    merged_plane(b"exact", universe(2, 2, 2), plane, row, 9);
+    merged_plane(b"a symbol short", universe(2, 2, 2), plane, row, 8);
+}
+
+// Words and one more row in the largest universe.
+fn merged_largest(label: &[u8], words: &[u16]) {
+    merged_two_in(
+        label,
+        universe(4, 10, 12),
+        &[-512, 1, 0, 0, 0],
         &[],
+        words,
         &[256],
-        &mut [b'.'; 9],
-        &mut [b'.'; 9],
-    );
-    merged_one(
-        b"a symbol short",
-        universe(2, 2, 2),
-        &[-3, 2, 0, 0, 0],
-        &[],
-        &[256],
-        &mut [b'.'; 8],
-        &mut [b'.'; 8],
+        5,
     );
 }
 
 // The most words whose codes few places hold, and two more, in the largest universe.
 fn merged_codes() {
-    merged_two(
+    merged_largest(
         b"few codes",
-        universe(4, 10, 12),
-        &[-512, 1, 0, 0, 0],
-        &[],
         &[
             256,
             256,
@@ -645,15 +618,9 @@ fn merged_codes() {
             256,
             2,
         ],
-        &[256],
-        &mut [b'.'; 5],
-        &mut [b'.'; 5],
     );
-    merged_two(
+    merged_largest(
         b"more codes",
-        universe(4, 10, 12),
-        &[-512, 1, 0, 0, 0],
-        &[],
         &[
             256,
             256,
@@ -679,74 +646,42 @@ fn merged_codes() {
             256,
             2,
         ],
-        &[256],
-        &mut [b'.'; 5],
-        &mut [b'.'; 5],
     );
 }
 
 // Each number with a fault behind it.
 fn merged_refusals() {
-    merged_one(
-        b"the universe",
-        universe(5, 2, 2),
-        &[0],
-        &[],
-        &[1],
-        &mut [b'.'; 2],
-        &mut [b'.'; 2],
-    );
-    merged_one(
-        b"the rows",
-        universe(2, 2, 2),
-        &[0],
-        &[0],
-        &[1],
-        &mut [b'.'; 2],
-        &mut [b'.'; 2],
-    );
-    merged_one(
-        b"the balls",
-        universe(2, 2, 2),
-        &[],
-        &[0],
-        &[],
-        &mut [b'.'; 2],
-        &mut [b'.'; 2],
-    );
+    let none: &[i64] = &[];
+    let torn: &[i64] = &[0];
+    let black: &[u16] = &[1];
+    merged_one_in(b"the universe", universe(5, 2, 2), torn, none, black, 2);
+    merged_one_in(b"the rows", universe(2, 2, 2), torn, torn, black, 2);
+    merged_one_in(b"the balls", universe(2, 2, 2), none, torn, &[], 2);
 }
 
 // The trees refused in their order, before room is asked for.
 fn merged_trees() {
-    merged_two(
+    let none: &[i64] = &[];
+    let black: &[u16] = &[1];
+    let overfull: &[u16] = &[1; 256];
+    merged_two_in(
         b"tree 1",
         universe(2, 2, 2),
-        &[],
-        &[],
+        none,
+        none,
         &[256],
-        &[1; 256],
-        &mut [b'.'; 2],
-        &mut [b'.'; 2],
+        overfull,
+        2,
     );
-    merged_two(
-        b"tree 2",
-        universe(2, 2, 2),
-        &[],
-        &[],
-        &[1],
-        &[],
-        &mut [b'.'; 0],
-        &mut [b'.'; 0],
-    );
-    merged_two(
+    merged_two_in(b"tree 2", universe(2, 2, 2), none, none, black, &[], 0);
+    merged_two_in(
         b"tree 2 overfull",
         universe(2, 2, 2),
-        &[],
-        &[],
-        &[1],
-        &[1; 256],
-        &mut [b'.'; 0],
-        &mut [b'.'; 0],
+        none,
+        none,
+        black,
+        overfull,
+        0,
     );
 }
 
@@ -767,9 +702,11 @@ fn merged() {
 fn main() {
     levels();
     windows();
-    surfaces();
+    planes();
+    balls();
     axes();
-    refusals();
+    refused_surfaces();
+    refused_trees();
     merged();
     rooms::rooms();
 }

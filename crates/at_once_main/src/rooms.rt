@@ -1,6 +1,7 @@
 // Conversions over codes, raw and merged, beside the first conversion, in rooms at both sides of each edge: a line for
 // each scene, and for each room lent the number and the length, and where answer or room is not that of the first
 // conversion, so.
+use crate::MOVER_AND_WALL;
 use crate::next_number;
 use crate::say;
 use crate::universe;
@@ -181,104 +182,46 @@ fn one(label: &[u8], universe: Universe, rows: &[i64], balls: &[i64], words: &[u
     say(b"\n");
 }
 
-// A mover between two planes and a wall, in universes of no level and of four to fifteen.
+// A mover between two planes and a wall.
+fn moved(label: &[u8], universe: Universe) {
+    two(
+        label,
+        universe,
+        &MOVER_AND_WALL,
+        &[],
+        &[256, 257, 3],
+        &[258, 259, 3],
+    );
+}
+
+// The same in universes of no level and of four to fifteen.
 fn levels() {
-    let rows: [i64; 20] = [
-        0,
-        1,
-        -1,
-        0,
-        0,
-        1,
-        -1,
-        1,
-        0,
-        0,
-        -2,
-        1,
-        0,
-        0,
-        0,
-        3,
-        -1,
-        0,
-        0,
-        0,
-    ];
-    let mover: [u16; 3] = [256, 257, 3];
-    let wall: [u16; 3] = [258, 259, 3];
-    two(b"no level", universe(2, 0, 0), &rows, &[], &mover, &wall);
-    two(b"four levels", universe(2, 2, 2), &rows, &[], &mover, &wall);
-    two(b"six levels", universe(2, 3, 3), &rows, &[], &mover, &wall);
-    two(
-        b"seven levels",
-        universe(2, 3, 4),
-        &rows,
-        &[],
-        &mover,
-        &wall,
-    );
-    two(
-        b"fifteen levels",
-        universe(2, 10, 5),
-        &rows,
-        &[],
-        &mover,
-        &wall,
-    );
+    moved(b"no level", universe(2, 0, 0));
+    moved(b"four levels", universe(2, 2, 2));
+    moved(b"six levels", universe(2, 3, 3));
+    moved(b"seven levels", universe(2, 3, 4));
+    moved(b"fifteen levels", universe(2, 10, 5));
+}
+
+// A plane and BLACK.
+fn plane(label: &[u8], universe: Universe, plane: [i64; 5]) {
+    two(label, universe, &plane, &[], &[256], &[1]);
+}
+
+// A plane alone.
+fn plane_alone(label: &[u8], universe: Universe, plane: [i64; 5]) {
+    one(label, universe, &plane, &[], &[256]);
 }
 
 // Each number of axes, and expressions that each scratch room holds and that none does.
 fn axes() {
-    let plane: [i64; 5] = [-37, 2, 0, 0, 0];
-    two(
-        b"frames alone",
-        universe(1, 0, 8),
-        &plane,
-        &[],
-        &[256],
-        &[1],
-    );
-    one(b"frames alone", universe(1, 0, 12), &plane, &[], &[256]);
-    two(
-        b"two axes",
-        universe(2, 7, 7),
-        &[-90, 2, 3, 0, 0],
-        &[],
-        &[256],
-        &[1],
-    );
-    two(
-        b"three axes",
-        universe(3, 4, 4),
-        &[-21, 1, 2, 1, 0],
-        &[],
-        &[256],
-        &[1],
-    );
-    two(
-        b"five bits",
-        universe(3, 5, 5),
-        &[-45, 1, 2, 1, 0],
-        &[],
-        &[256],
-        &[1],
-    );
-    two(
-        b"four axes",
-        universe(4, 3, 3),
-        &[-13, 2, 1, 1, 1],
-        &[],
-        &[256],
-        &[1],
-    );
-    one(
-        b"four axes",
-        universe(4, 2, 2),
-        &[-9, 2, 2, 2, 0],
-        &[],
-        &[256],
-    );
+    plane(b"frames alone", universe(1, 0, 8), [-37, 2, 0, 0, 0]);
+    plane_alone(b"frames alone", universe(1, 0, 12), [-37, 2, 0, 0, 0]);
+    plane(b"two axes", universe(2, 7, 7), [-90, 2, 3, 0, 0]);
+    plane(b"three axes", universe(3, 4, 4), [-21, 1, 2, 1, 0]);
+    plane(b"five bits", universe(3, 5, 5), [-45, 1, 2, 1, 0]);
+    plane(b"four axes", universe(4, 3, 3), [-13, 2, 1, 1, 1]);
+    plane_alone(b"four axes", universe(4, 2, 2), [-9, 2, 2, 2, 0]);
 }
 
 // A plane less itself, which raw expressions show, and balls.
@@ -301,10 +244,40 @@ fn surfaces() {
     );
 }
 
-// The most words whose codes the fewest places hold, and two more; and the same of few places.
+// The most words whose codes the fewest places hold, and two more.
+fn fewest_codes(more: &[u16]) {
+    let plane: &[i64] = &[-37, 2, 0, 0, 0];
+    let none: &[i64] = &[];
+    let fewest: &[u16] = &[256, 256, 2, 256, 2, 256, 2, 256, 2, 256, 2, 256, 2, 256, 2];
+    let row: &[u16] = &[256];
+    two(b"fewest codes", universe(1, 0, 7), plane, none, fewest, row);
+    two(b"more codes", universe(1, 0, 7), plane, none, more, row);
+}
+
+// The same of few places.
+fn few_codes(more: &[u16]) {
+    let plane: &[i64] = &[-512, 1, 0, 0, 0];
+    let none: &[i64] = &[];
+    two(
+        b"few codes",
+        universe(4, 10, 12),
+        plane,
+        none,
+        &[256, 256, 2, 256, 2],
+        more,
+    );
+    two(
+        b"most codes",
+        universe(4, 10, 12),
+        plane,
+        none,
+        &[256, 256, 2, 256, 2, 256, 2],
+        more,
+    );
+}
+
+// Codes at both sides of what their places hold.
 fn codes() {
-    let plane: [i64; 5] = [-37, 2, 0, 0, 0];
-    let fewest: [u16; 15] = [256, 256, 2, 256, 2, 256, 2, 256, 2, 256, 2, 256, 2, 256, 2];
     let more: [u16; 17] = [
         256,
         256,
@@ -324,41 +297,28 @@ fn codes() {
         256,
         2,
     ];
-    two(
-        b"fewest codes",
-        universe(1, 0, 7),
-        &plane,
-        &[],
-        &fewest,
-        &[256],
-    );
-    two(b"more codes", universe(1, 0, 7), &plane, &[], &more, &[256]);
-    two(
-        b"few codes",
-        universe(4, 10, 12),
-        &[-512, 1, 0, 0, 0],
-        &[],
-        &[256, 256, 2, 256, 2],
-        &more,
-    );
-    two(
-        b"most codes",
-        universe(4, 10, 12),
-        &[-512, 1, 0, 0, 0],
-        &[],
-        &[256, 256, 2, 256, 2, 256, 2],
-        &more,
-    );
+    fewest_codes(&more);
+    few_codes(&more);
 }
 
-// Each number with a fault behind it.
-fn refusals() {
-    two(b"the universe", universe(5, 2, 2), &[0], &[], &[1], &[1]);
-    two(b"the rows", universe(2, 2, 2), &[0], &[0], &[1], &[1]);
-    two(b"the balls", universe(2, 2, 2), &[], &[0], &[], &[1]);
-    two(b"tree 1", universe(2, 2, 2), &[], &[], &[256], &[1; 256]);
-    two(b"tree 2", universe(2, 2, 2), &[], &[], &[1], &[]);
-    one(b"the tree", universe(2, 2, 2), &[], &[], &[256]);
+// Each number up to the balls', with a fault behind it.
+fn refused_surfaces() {
+    let none: &[i64] = &[];
+    let torn: &[i64] = &[0];
+    let black: &[u16] = &[1];
+    two(b"the universe", universe(5, 2, 2), torn, none, black, black);
+    two(b"the rows", universe(2, 2, 2), torn, torn, black, black);
+    two(b"the balls", universe(2, 2, 2), none, torn, &[], black);
+}
+
+// Each number of the trees.
+fn refused_trees() {
+    let none: &[i64] = &[];
+    let black: &[u16] = &[1];
+    let row: &[u16] = &[256];
+    two(b"tree 1", universe(2, 2, 2), none, none, row, &[1; 256]);
+    two(b"tree 2", universe(2, 2, 2), none, none, black, &[]);
+    one(b"the tree", universe(2, 2, 2), none, none, row);
 }
 
 // All of them.
@@ -367,5 +327,6 @@ pub(crate) fn rooms() {
     axes();
     surfaces();
     codes();
-    refusals();
+    refused_surfaces();
+    refused_trees();
 }

@@ -8,6 +8,34 @@ use universe::Universe;
 
 const LENT: usize = 20;
 
+// The rows of the program's mover and of its wall, and the words of each.
+const MOVER_AND_WALL: [i64; 20] = [
+    0,
+    1,
+    -1,
+    0,
+    0,
+    1,
+    -1,
+    1,
+    0,
+    0,
+    -2,
+    1,
+    0,
+    0,
+    0,
+    3,
+    -1,
+    0,
+    0,
+    0,
+];
+
+const MOVER: [u16; 3] = [256, 257, 3];
+
+const WALL: [u16; 3] = [258, 259, 3];
+
 // d 2, k 2, f 2.
 fn square() -> Universe {
     Universe {
@@ -53,9 +81,9 @@ fn one_tree(label: &[u8], rows: &[i64], words: &[u16]) {
     written(b"merged", answer, &room);
 }
 
-// Two trees, raw, in the room lent.
-fn two_trees(label: &[u8], rows: &[i64], first: &[u16], second: &[u16], room: &mut [u8]) {
-    let answer = convert::raw_of_two(square(), rows, &[], first, second, room);
+// The program's scene, raw, in the room lent.
+fn two_trees(label: &[u8], room: &mut [u8]) {
+    let answer = convert::raw_of_two(square(), &MOVER_AND_WALL, &[], &MOVER, &WALL, room);
     written(label, answer, room);
 }
 
@@ -83,30 +111,6 @@ fn verdict(answer: Clearance, room: &[u8]) {
 
 // The program's scene over a window, in the room lent.
 fn window(first_frame: u64, last_frame: u64, room: &mut [u8]) {
-    let rows = [
-        0i64,
-        1,
-        -1,
-        0,
-        0,
-        1,
-        -1,
-        1,
-        0,
-        0,
-        -2,
-        1,
-        0,
-        0,
-        0,
-        3,
-        -1,
-        0,
-        0,
-        0,
-    ];
-    let first = [256u16, 257, 3];
-    let second = [258u16, 259, 3];
     say(b"window ");
     number(first_frame);
     say(b" ");
@@ -114,10 +118,10 @@ fn window(first_frame: u64, last_frame: u64, room: &mut [u8]) {
     say(b" ");
     let answer = convert::verdict_of_two(
         square(),
-        &rows,
+        &MOVER_AND_WALL,
         &[],
-        &first,
-        &second,
+        &MOVER,
+        &WALL,
         first_frame,
         last_frame,
         room,
@@ -139,23 +143,31 @@ fn scene(label: &[u8], universe: Universe, rows: &[i64], first: &[u16], second: 
     say(b"\n");
 }
 
-// Each number in its order, with all that comes later wrong too.
+// Each number up to the rows', with all that comes later wrong too.
 fn scenes() {
+    let none: &[u16] = &[];
+    let unknown: &[u16] = &[9];
     scene(b"taken", square(), &[0, 0, 0, 0, 0], &[256], &[1]);
     scene(
         b"universe",
         Universe::with_equal_bits(5, 2),
         &[0],
-        &[],
-        &[9],
+        none,
+        unknown,
     );
-    scene(b"rows", square(), &[0, 0, 0, 1, 0], &[], &[9]);
-    scene(b"tree 1", square(), &[], &[9], &[1; 33]);
-    scene(b"tree 2", square(), &[], &[1], &[1; 33]);
+    scene(b"rows", square(), &[0, 0, 0, 1, 0], none, unknown);
 }
 
-// Cases 1, 2, 4, 6 and 10: conversions.
-fn conversions() {
+// Each number of the trees.
+fn scene_trees() {
+    let none: &[i64] = &[];
+    let pending: &[u16] = &[1; 33];
+    scene(b"tree 1", square(), none, &[9], pending);
+    scene(b"tree 2", square(), none, &[1], pending);
+}
+
+// Cases 1, 2 and 6: conversions of one tree.
+fn one_tree_cases() {
     one_tree(b"case 1", &[-2, 2, -1, 0, 0], &[256]);
     one_tree(
         b"case 2",
@@ -163,69 +175,65 @@ fn conversions() {
         &[256, 257, 258, 3, 3],
     );
     one_tree(b"case 6", &[0, 0, 0, 0, 0], &[256]);
-    let rows = [
-        0i64,
-        1,
-        -1,
-        0,
-        0,
-        1,
-        -1,
-        1,
-        0,
-        0,
-        -2,
-        1,
-        0,
-        0,
-        0,
-        3,
-        -1,
-        0,
-        0,
-        0,
-    ];
-    let first = [256u16, 257, 3];
-    let second = [258u16, 259, 3];
-    two_trees(b"case 4", &rows, &first, &second, &mut [b'.'; LENT]);
-    two_trees(b"case 10, 13 lent", &rows, &first, &second, &mut [b'.'; 13]);
-    two_trees(b"case 10, 12 lent", &rows, &first, &second, &mut [b'.'; 12]);
-    two_trees(b"none lent", &rows, &first, &second, &mut []);
+}
+
+// Cases 4 and 10: conversions of two trees.
+fn two_tree_cases() {
+    two_trees(b"case 4", &mut [b'.'; LENT]);
+    two_trees(b"case 10, 13 lent", &mut [b'.'; 13]);
+    two_trees(b"case 10, 12 lent", &mut [b'.'; 12]);
+    two_trees(b"none lent", &mut []);
+}
+
+// A window in room enough.
+fn whole_window(first_frame: u64, last_frame: u64) {
+    window(first_frame, last_frame, &mut [b'.'; LENT]);
 }
 
 // Cases 4, 5 and 10: verdicts over a window.
 fn verdicts() {
-    window(0, 3, &mut [b'.'; LENT]);
-    window(0, 0, &mut [b'.'; LENT]);
-    window(1, 1, &mut [b'.'; LENT]);
-    window(2, 2, &mut [b'.'; LENT]);
-    window(3, 3, &mut [b'.'; LENT]);
-    window(0, 4, &mut [b'.'; LENT]);
-    window(2, 1, &mut [b'.'; LENT]);
+    whole_window(0, 3);
+    whole_window(0, 0);
+    whole_window(1, 1);
+    whole_window(2, 2);
+    whole_window(3, 3);
+    whole_window(0, 4);
+    whole_window(2, 1);
     window(0, 3, &mut [b'.'; 12]);
     window(0, 4, &mut [b'.'; 12]);
 }
 
-// Refusals of what is converted, in their order.
-fn refusals() {
+// One row, which is the tree.
+fn one_row(label: &[u8], row: [i64; 5]) {
+    one_tree(label, &row, &[256]);
+}
+
+// Refusals of rows, in their order, and numbers at their limits.
+fn refused_rows() {
     one_tree(b"a number short of fives", &[0, 0, 0, 0], &[9]);
     one_tree(b"nonzero above d", &[0, 0, 0, 1, 0], &[9]);
-    one_tree(b"a0 at its limit", &[1_099_511_627_776, 0, 0, 0, 0], &[256]);
-    one_tree(b"a0 one over", &[-1_099_511_627_777, 0, 0, 0, 0], &[256]);
-    one_tree(b"a1 at its limit", &[0, -16_777_216, 0, 0, 0], &[256]);
-    one_tree(b"a1 one over", &[0, 16_777_217, 0, 0, 0], &[256]);
-    one_tree(
-        b"the least i64",
-        &[-9_223_372_036_854_775_808, 0, 0, 0, 0],
-        &[256],
-    );
-    one_tree(b"no words", &[], &[]);
-    one_tree(b"an unknown word", &[], &[5]);
+    one_row(b"a0 at its limit", [1_099_511_627_776, 0, 0, 0, 0]);
+    one_row(b"a0 one over", [-1_099_511_627_777, 0, 0, 0, 0]);
+    one_row(b"a1 at its limit", [0, -16_777_216, 0, 0, 0]);
+    one_row(b"a1 one over", [0, 16_777_217, 0, 0, 0]);
+    one_row(b"the least i64", [-9_223_372_036_854_775_808, 0, 0, 0, 0]);
+}
+
+// Refusals of words, in their order.
+fn refused_words() {
+    let none: &[i64] = &[];
+    one_tree(b"no words", none, &[]);
+    one_tree(b"an unknown word", none, &[5]);
     one_tree(b"an index past the rows", &[0, 0, 0, 0, 0], &[257]);
-    one_tree(b"an operator with one pending", &[], &[1, 2]);
-    one_tree(b"two left", &[], &[1, 1]);
-    one_tree(b"WHITE less BLACK", &[], &[0, 1, 4]);
-    one_tree(b"BLACK less WHITE", &[], &[1, 0, 4]);
+    one_tree(b"an operator with one pending", none, &[1, 2]);
+    one_tree(b"two left", none, &[1, 1]);
+}
+
+// A constant less another.
+fn constants() {
+    let none: &[i64] = &[];
+    one_tree(b"WHITE less BLACK", none, &[0, 1, 4]);
+    one_tree(b"BLACK less WHITE", none, &[1, 0, 4]);
 }
 
 // As many words as a tree may have.
@@ -291,30 +299,44 @@ fn long_cuts(rows: &[i64]) {
     front(b"a 33rd shape", rows, words, end);
 }
 
-// A prop cut from itself leaves nothing, also where centres lie on its plane.
-fn cuts() {
-    let rows = [-3i64, 2, 0, 0, 0, 0, 1, -1, 0, 0, 0, 0, 0, 0, 0];
-    one_tree(b"a plane less itself", &rows, &[256, 256, 4]);
-    one_tree(b"all-zero reversed", &rows, &[1, 258, 4]);
-    one_tree(b"UNION less itself", &rows, &[256, 257, 2, 256, 257, 2, 4]);
+// A prop of one word or one operator cut from itself leaves nothing, also where centres lie on its plane.
+fn short_cuts(rows: &[i64]) {
+    one_tree(b"a plane less itself", rows, &[256, 256, 4]);
+    one_tree(b"all-zero reversed", rows, &[1, 258, 4]);
+    one_tree(b"UNION less itself", rows, &[256, 257, 2, 256, 257, 2, 4]);
+}
+
+// The same of the other operators, and of constants.
+fn other_cuts(rows: &[i64]) {
     one_tree(
         b"INTERSECTION less itself",
-        &rows,
+        rows,
         &[256, 257, 3, 256, 257, 3, 4],
     );
-    one_tree(b"MINUS less itself", &rows, &[256, 257, 4, 256, 257, 4, 4]);
+    one_tree(b"MINUS less itself", rows, &[256, 257, 4, 256, 257, 4, 4]);
     one_tree(
         b"constants less themselves",
-        &rows,
+        rows,
         &[1, 256, 4, 0, 2, 1, 256, 4, 0, 2, 4],
     );
-    long_cuts(&rows);
+}
+
+// Props cut from themselves.
+fn cuts() {
+    let rows: &[i64] = &[-3, 2, 0, 0, 0, 0, 1, -1, 0, 0, 0, 0, 0, 0, 0];
+    short_cuts(rows);
+    other_cuts(rows);
+    long_cuts(rows);
 }
 
 fn main() {
-    conversions();
+    one_tree_cases();
+    two_tree_cases();
     verdicts();
-    refusals();
+    refused_rows();
+    refused_words();
+    constants();
     cuts();
     scenes();
+    scene_trees();
 }

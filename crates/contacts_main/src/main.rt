@@ -98,27 +98,30 @@ fn strip(label: &[u8], rows: &[i64], words: &[u16]) {
     over(label, universe(2, 2, 2), rows, &[], words, &[1], 0, 3);
 }
 
-// Planes through centres and through faces, five zeros, each as it is, reversed and less itself; a wall that ends
-// inside a place.
+// A plane as it is and reversed.
+fn turned(label: &[u8], plane: &[i64]) {
+    strip(label, plane, &[256]);
+    strip(b"reversed", plane, &[1, 256, 4]);
+}
+
+// The same, and less itself.
+fn cut(label: &[u8], plane: &[i64]) {
+    turned(label, plane);
+    strip(b"less itself", plane, &[256, 256, 4]);
+}
+
+// Planes through centres and through faces, and five zeros.
 fn planes() {
-    strip(b"through centres", &[-3, 2, 0, 0, 0], &[256]);
-    strip(b"reversed", &[-3, 2, 0, 0, 0], &[1, 256, 4]);
-    strip(b"less itself", &[-3, 2, 0, 0, 0], &[256, 256, 4]);
-    strip(b"through faces", &[-2, 1, 0, 0, 0], &[256]);
-    strip(b"reversed", &[-2, 1, 0, 0, 0], &[1, 256, 4]);
-    strip(b"less itself", &[-2, 1, 0, 0, 0], &[256, 256, 4]);
-    strip(b"five zeros", &[0, 0, 0, 0, 0], &[256]);
-    strip(b"reversed", &[0, 0, 0, 0, 0], &[1, 256, 4]);
-    strip(
-        b"a quarter of a place",
-        &[5, -4, 0, 0, 0, -1, 1, 0, 0, 0],
-        &[256, 257, 3],
-    );
-    strip(
-        b"the places beside it",
-        &[5, -4, 0, 0, 0, -1, 1, 0, 0, 0],
-        &[256, 257, 2],
-    );
+    cut(b"through centres", &[-3, 2, 0, 0, 0]);
+    cut(b"through faces", &[-2, 1, 0, 0, 0]);
+    turned(b"five zeros", &[0, 0, 0, 0, 0]);
+}
+
+// A wall that ends inside a place.
+fn quarters() {
+    let rows: &[i64] = &[5, -4, 0, 0, 0, -1, 1, 0, 0, 0];
+    strip(b"a quarter of a place", rows, &[256, 257, 3]);
+    strip(b"the places beside it", rows, &[256, 257, 2]);
 }
 
 // A mover and a wall in a window.
@@ -167,205 +170,189 @@ fn windows() {
     moved(b"first after last", 2, 1);
 }
 
-// A ball alone over all frames.
-fn alone(label: &[u8], universe: Universe, balls: &[i64], words: &[u16], last_frame: u64) {
-    over(label, universe, &[], balls, words, &[1], 0, last_frame);
+// A tree of one ball alone, up to a frame.
+fn alone(label: &[u8], universe: Universe, ball: [i64; 4], words: &[u16], last_frame: u64) {
+    over(label, universe, &[], &ball, words, &[1], 0, last_frame);
 }
 
-// Balls that touch a voxel from outside and from inside, reversed too, on one, two and three place axes; two heads.
-fn balls() {
-    alone(
-        b"touches a place",
-        universe(2, 2, 1),
-        &[1, 0, 0, 1],
-        &[512],
-        1,
-    );
-    alone(
-        b"reversed",
-        universe(2, 2, 1),
-        &[1, 0, 0, 1],
-        &[1, 512, 4],
-        1,
-    );
-    alone(b"one voxel", universe(3, 2, 1), &[4, 4, 0, 0], &[512], 0);
-    alone(
-        b"reversed",
-        universe(3, 2, 1),
-        &[4, 4, 0, 0],
-        &[1, 512, 4],
-        0,
-    );
-    alone(b"three places", universe(4, 2, 1), &[2, 2, 2, 2], &[512], 1);
+// Balls that touch a voxel from outside and from inside, reversed too, on one and two place axes.
+fn touching() {
+    let ball: &[u16] = &[512];
+    let reversed: &[u16] = &[1, 512, 4];
+    alone(b"touches a place", universe(2, 2, 1), [1, 0, 0, 1], ball, 1);
+    alone(b"reversed", universe(2, 2, 1), [1, 0, 0, 1], reversed, 1);
+    alone(b"one voxel", universe(3, 2, 1), [4, 4, 0, 0], ball, 0);
+    alone(b"reversed", universe(3, 2, 1), [4, 4, 0, 0], reversed, 0);
+}
+
+// Balls on three place axes and on none.
+fn other_axes() {
+    let ball: &[u16] = &[512];
+    alone(b"three places", universe(4, 2, 1), [2, 2, 2, 2], ball, 1);
     alone(
         b"less itself",
         universe(4, 2, 1),
-        &[2, 2, 2, 2],
+        [2, 2, 2, 2],
         &[512, 512, 4],
         1,
     );
-    alone(b"no place", universe(1, 0, 2), &[0, 0, 0, 0], &[512], 3);
+    alone(b"no place", universe(1, 0, 2), [0, 0, 0, 0], ball, 3);
+}
+
+// Two balls, one against the other.
+fn two_heads(label: &[u8], balls: [i64; 8]) {
+    over(label, universe(3, 3, 2), &[], &balls, &[512], &[513], 1, 2);
+}
+
+// Two heads.
+fn heads() {
+    two_heads(b"heads that touch", [2, 4, 0, 2, 6, 4, 0, 2]);
+    two_heads(b"heads that meet", [3, 4, 0, 2, 5, 4, 0, 2]);
+}
+
+// A plane and BLACK from the first frame to a last.
+fn plane_over(label: &[u8], universe: Universe, plane: [i64; 5], last_frame: u64) {
+    over(label, universe, &plane, &[], &[256], &[1], 0, last_frame);
+}
+
+// BLACK and a constant in a window.
+fn black_over(label: &[u8], universe: Universe, constant: u16, first_frame: u64, last_frame: u64) {
     over(
-        b"heads that touch",
-        universe(3, 3, 2),
+        label,
+        universe,
         &[],
-        &[2, 4, 0, 2, 6, 4, 0, 2],
-        &[512],
-        &[513],
-        1,
-        2,
-    );
-    over(
-        b"heads that meet",
-        universe(3, 3, 2),
         &[],
-        &[3, 4, 0, 2, 5, 4, 0, 2],
-        &[512],
-        &[513],
-        1,
-        2,
+        &[1],
+        &[constant],
+        first_frame,
+        last_frame,
     );
 }
 
-// No bits, and one axis.
+// No bits, one axis, and the largest.
 fn smallest() {
-    over(
+    plane_over(
         b"one voxel in doubt",
         universe(2, 0, 0),
-        &[-1, 2, 0, 0, 0],
-        &[],
-        &[256],
-        &[1],
-        0,
+        [-1, 2, 0, 0, 0],
         0,
     );
-    over(b"one voxel", universe(4, 0, 0), &[], &[], &[1], &[1], 0, 0);
-    over(b"none", universe(4, 0, 0), &[], &[], &[1], &[0], 0, 0);
-    over(
-        b"frames alone",
-        universe(1, 0, 2),
-        &[-3, 2, 0, 0, 0],
-        &[],
-        &[256],
-        &[1],
-        0,
-        3,
-    );
-    over(
-        b"all of the largest",
-        universe(4, 10, 12),
-        &[],
-        &[],
-        &[1],
-        &[1],
-        0,
-        4_095,
-    );
-    over(
-        b"its last frame",
-        universe(4, 10, 12),
-        &[],
-        &[],
-        &[1],
-        &[1],
-        4_095,
-        4_095,
-    );
+    black_over(b"one voxel", universe(4, 0, 0), 1, 0, 0);
+    black_over(b"none", universe(4, 0, 0), 0, 0, 0);
+    plane_over(b"frames alone", universe(1, 0, 2), [-3, 2, 0, 0, 0], 3);
+    black_over(b"all of the largest", universe(4, 10, 12), 1, 0, 4_095);
+    black_over(b"its last frame", universe(4, 10, 12), 1, 4_095, 4_095);
 }
 
-// Each number with a fault behind it.
-fn refusals() {
+// Each number up to the balls', with a fault behind it.
+fn refused_surfaces() {
+    let none: &[i64] = &[];
+    let torn: &[i64] = &[0];
+    let black: &[u16] = &[1];
     over(
         b"the universe",
         universe(5, 2, 2),
-        &[0],
-        &[],
-        &[1],
-        &[1],
-        0,
-        3,
-    );
-    over(b"the rows", universe(2, 2, 2), &[0], &[0], &[1], &[1], 0, 3);
-    over(b"the balls", universe(2, 2, 2), &[], &[0], &[], &[1], 0, 3);
-    over(
-        b"tree 1",
-        universe(2, 2, 2),
-        &[],
-        &[],
-        &[256],
-        &[1; 256],
+        torn,
+        none,
+        black,
+        black,
         0,
         3,
     );
     over(
-        b"tree 1 overfull",
+        b"the rows",
         universe(2, 2, 2),
-        &[],
-        &[],
-        &[1; 256],
-        &[],
+        torn,
+        torn,
+        black,
+        black,
         0,
         3,
     );
-    over(b"tree 2", universe(2, 2, 2), &[], &[], &[1], &[], 0, 4);
     over(
-        b"tree 2 overfull",
+        b"the balls",
         universe(2, 2, 2),
+        none,
+        torn,
         &[],
-        &[],
-        &[1],
-        &[1; 256],
+        black,
         0,
-        4,
+        3,
     );
-    over(b"the window", universe(2, 2, 2), &[], &[], &[1], &[1], 0, 4);
 }
 
-// Levels at both sides of a word's six, more frames than places and fewer, and windows that cut a word: planes that
-// move, a ball, and what is left of one.
-fn words() {
-    let rows = [-7i64, 2, 1, -1, 0, 9, -1, -3, 2, 0];
-    let balls = [2i64, 2, 0, 2];
+// Two trees over no rows and no balls, up to a frame.
+fn bare(label: &[u8], first: &[u16], second: &[u16], last_frame: u64) {
     over(
-        b"five levels",
-        universe(3, 1, 3),
-        &rows,
-        &balls,
-        &[512],
-        &[257],
-        1,
-        6,
+        label,
+        universe(2, 2, 2),
+        &[],
+        &[],
+        first,
+        second,
+        0,
+        last_frame,
     );
+}
+
+// Each number of the trees and of the window.
+fn refused_trees() {
+    let none: &[u16] = &[];
+    let black: &[u16] = &[1];
+    let overfull: &[u16] = &[1; 256];
+    bare(b"tree 1", &[256], overfull, 3);
+    bare(b"tree 1 overfull", overfull, none, 3);
+    bare(b"tree 2", black, none, 4);
+    bare(b"tree 2 overfull", black, overfull, 4);
+    bare(b"the window", black, black, 4);
+}
+
+// Two trees over planes that move and a ball, in a window.
+fn moving(
+    label: &[u8],
+    universe: Universe,
+    first: &[u16],
+    second: &[u16],
+    first_frame: u64,
+    last_frame: u64,
+) {
     over(
+        label,
+        universe,
+        &[-7, 2, 1, -1, 0, 9, -1, -3, 2, 0],
+        &[2, 2, 0, 2],
+        first,
+        second,
+        first_frame,
+        last_frame,
+    );
+}
+
+// Levels at both sides of a word's six, and windows that cut a word.
+fn levels() {
+    let plane: &[u16] = &[257];
+    moving(b"five levels", universe(3, 1, 3), &[512], plane, 1, 6);
+    moving(
         b"six levels",
         universe(3, 2, 2),
-        &rows,
-        &balls,
         &[1, 256, 4],
         &[257, 512, 2],
         1,
         2,
     );
-    over(
+    moving(
         b"seven levels",
         universe(3, 2, 3),
-        &rows,
-        &balls,
         &[256, 512, 2],
-        &[257],
+        plane,
         1,
         6,
     );
-    over(
-        b"ten levels",
-        universe(3, 4, 2),
-        &rows,
-        &balls,
-        &[257, 512, 4],
-        &[1],
-        2,
-        3,
-    );
+}
+
+// More levels, more frames than places and fewer: planes that move, a ball, and what is left of one.
+fn more_levels() {
+    moving(b"ten levels", universe(3, 4, 2), &[257, 512, 4], &[1], 2, 3);
     over(
         b"twelve levels",
         universe(4, 2, 6),
@@ -390,9 +377,14 @@ fn words() {
 
 fn main() {
     planes();
+    quarters();
     windows();
-    balls();
+    touching();
+    other_axes();
+    heads();
     smallest();
-    words();
-    refusals();
+    levels();
+    more_levels();
+    refused_surfaces();
+    refused_trees();
 }

@@ -221,7 +221,32 @@ fn one(label: &[u8], universe: Universe, rows: &[i64], balls: &[i64], words: &[u
     say(b"\n");
 }
 
-// The same of two trees, and their verdict over all frames.
+// Two trees, and their verdict over all frames, with so much room.
+fn judged_in(
+    label: &[u8],
+    universe: Universe,
+    rows: &[i64],
+    balls: &[i64],
+    first: &[u16],
+    second: &[u16],
+    last_frame: u64,
+    lent: usize,
+) {
+    two_in(label, universe, rows, balls, first, second, lent);
+    over(
+        b"judged",
+        universe,
+        rows,
+        balls,
+        first,
+        second,
+        0,
+        last_frame,
+        lent,
+    );
+}
+
+// Two trees as one, and their verdict where room is exact, a symbol short, and as the formula says.
 fn two(
     label: &[u8],
     universe: Universe,
@@ -236,41 +261,35 @@ fn two(
     let need = asked.length as usize;
     let words = first.len() + second.len();
     tell_scene(label, universe, words, asked.length);
-    two_in(b"exact", universe, rows, balls, first, second, need);
-    over(
-        b"judged",
+    judged_in(
+        b"exact",
         universe,
         rows,
         balls,
         first,
         second,
-        0,
         last_frame,
         need,
     );
     if 0 < need {
-        two_in(b"short", universe, rows, balls, first, second, need - 1);
-        over(
-            b"judged",
+        judged_in(
+            b"short",
             universe,
             rows,
             balls,
             first,
             second,
-            0,
             last_frame,
             need - 1,
         );
     }
-    two_in(b"formula", universe, rows, balls, first, second, all);
-    over(
-        b"judged",
+    judged_in(
+        b"formula",
         universe,
         rows,
         balls,
         first,
         second,
-        0,
         last_frame,
         all,
     );
@@ -353,27 +372,26 @@ fn pairs(
 // At both sides of the smallest work room: 32 and 33 nodes of one tree, 32 and 36 of two.
 fn fewest() {
     unions(b"one of fewest", universe(4, 7, 10), &[-48, 1, 0, 0, 0], 0);
-    let rows = [-3i64, 1, 0, 0, 0, 70, -1, 0, 0, 0];
-    unions(b"one past fewest", universe(1, 0, 10), &rows, 1);
-    pairs(b"two of fewest", universe(1, 0, 7), &rows, 1, 0, 3, 127);
-    pairs(b"two past fewest", universe(1, 0, 8), &rows, 0, 1, 3, 255);
+    let rows: &[i64] = &[-3, 1, 0, 0, 0, 70, -1, 0, 0, 0];
+    unions(b"one past fewest", universe(1, 0, 10), rows, 1);
+    pairs(b"two of fewest", universe(1, 0, 7), rows, 1, 0, 3, 127);
+    pairs(b"two past fewest", universe(1, 0, 8), rows, 0, 1, 3, 255);
 }
 
 // At both sides of the second: 126 and 129 nodes of one tree, 128 and 130 of two.
 fn few() {
-    let rows = [-23i64, 2, 1, 0, 0];
-    unions(b"one of few", universe(2, 5, 12), &rows, 3);
-    let rows = [-3i64, 1, 0, 0, 0, 70, -1, 0, 0, 0];
-    unions(b"one past few", universe(1, 0, 2), &rows, 21);
-    pairs(b"two of few", universe(1, 0, 7), &rows, 4, 3, 9, 127);
-    pairs(b"two past few", universe(1, 0, 12), &rows, 2, 2, 6, 2_000);
+    unions(b"one of few", universe(2, 5, 12), &[-23, 2, 1, 0, 0], 3);
+    let rows: &[i64] = &[-3, 1, 0, 0, 0, 70, -1, 0, 0, 0];
+    unions(b"one past few", universe(1, 0, 2), rows, 21);
+    pairs(b"two of few", universe(1, 0, 7), rows, 4, 3, 9, 127);
+    pairs(b"two past few", universe(1, 0, 12), rows, 2, 2, 6, 2_000);
 }
 
 // At both sides of the third: 511 and 513 nodes of one tree, 512 and 516 of two.
 fn some() {
-    let rows = [-23i64, 2, 1, 0, 0, 900, -3, -1, 0, 0];
-    unions(b"one of some", universe(2, 2, 4), &rows, 36);
-    pairs(b"two of some", universe(2, 3, 12), &rows, 8, 7, 17, 2_000);
+    let rows: &[i64] = &[-23, 2, 1, 0, 0, 900, -3, -1, 0, 0];
+    unions(b"one of some", universe(2, 2, 4), rows, 36);
+    pairs(b"two of some", universe(2, 3, 12), rows, 8, 7, 17, 2_000);
     let walls = [-16i64, 1, 0, 0, 0];
     unions(b"one past some", universe(4, 5, 11), &walls, 9);
     let walls = [-512i64, 1, 0, 0, 0, -256, 0, 1, 0, 0];
@@ -390,53 +408,77 @@ fn some() {
 
 // At both sides of the largest: 1,245 and 1,251 nodes of one tree, 1,248 and 1,250 of two.
 fn many() {
-    let rows = [-5i64, 2, 1, 0, 0, 9, -1, -1, 0, 0];
-    unions(b"one of many", universe(2, 2, 2), &rows, 124);
-    unions(b"one past many", universe(2, 4, 4), &rows, 69);
-    pairs(b"two of many", universe(2, 2, 3), &rows, 52, 51, 105, 7);
+    let rows: &[i64] = &[-5, 2, 1, 0, 0, 9, -1, -1, 0, 0];
+    unions(b"one of many", universe(2, 2, 2), rows, 124);
+    unions(b"one past many", universe(2, 4, 4), rows, 69);
+    pairs(b"two of many", universe(2, 2, 3), rows, 52, 51, 105, 7);
     let walls = [-16i64, 1, 0, 0, 0, -8, 0, 1, 0, 0];
     pairs(b"two past many", universe(4, 5, 9), &walls, 12, 12, 26, 400);
 }
 
 // Balls, and a tree that is decided at once.
 fn others() {
-    let ball = [4i64, 4, 0, 3];
-    one(b"a ball", universe(3, 3, 2), &[], &ball, &[512]);
+    let none: &[i64] = &[];
+    let ball: &[i64] = &[4, 4, 0, 3];
+    let black: &[u16] = &[1];
+    one(b"a ball", universe(3, 3, 2), none, ball, &[512]);
     two(
         b"a ball less itself",
         universe(3, 3, 2),
         &[-4, 1, 0, 0, 0],
-        &ball,
+        ball,
         &[512, 512, 4],
         &[256],
         3,
         900,
     );
-    two(b"BLACK", universe(2, 2, 2), &[], &[], &[1], &[1], 3, 1);
+    two(b"BLACK", universe(2, 2, 2), none, none, black, black, 3, 1);
 }
 
-// Refusals: the universe, words that no work room holds, a tree, and the window before and behind a tree.
-fn refused() {
-    one(b"no universe", universe(5, 2, 2), &[], &[], &[1]);
-    one(b"too many words", universe(2, 2, 2), &[], &[], &[1; 257]);
-    one(b"more than nodes", universe(2, 2, 2), &[], &[], &[1; 2_689]);
+// Refusals: the universe, and words that no work room holds.
+fn refused_words() {
+    let none: &[i64] = &[];
+    one(b"no universe", universe(5, 2, 2), none, none, &[1]);
+    one(b"too many words", universe(2, 2, 2), none, none, &[1; 257]);
+    one(
+        b"more than nodes",
+        universe(2, 2, 2),
+        none,
+        none,
+        &[1; 2_689],
+    );
+}
+
+// Refusals: a tree, and the window before and behind a tree.
+fn refused_windows() {
+    let none: &[i64] = &[];
+    let black: &[u16] = &[1];
     two(
         b"no second tree",
         universe(2, 2, 2),
-        &[],
-        &[],
-        &[1],
+        none,
+        none,
+        black,
         &[],
         3,
         1,
     );
-    two(b"no window", universe(2, 2, 2), &[], &[], &[1], &[1], 4, 1);
+    two(
+        b"no window",
+        universe(2, 2, 2),
+        none,
+        none,
+        black,
+        black,
+        4,
+        1,
+    );
     two(
         b"no tree and no window",
         universe(2, 2, 2),
-        &[],
-        &[],
-        &[1],
+        none,
+        none,
+        black,
         &[2],
         4,
         1,
@@ -449,5 +491,6 @@ fn main() {
     some();
     many();
     others();
-    refused();
+    refused_words();
+    refused_windows();
 }

@@ -114,17 +114,18 @@ fn against(name: &[u8], rows: &[i64], balls: &[i64], words: &[u16]) {
 
 // The universe and the Box.
 fn boxes() {
-    let keys = [0.0, 0.0, 0.0, 0.0, 0.0, 0.0];
-    against_all(b"three axes", universe_of(3, 1, 1), 0.0, &[0, 2], &keys);
-    against_all(b"too many bits", universe_of(4, 11, 1), 0.0, &[0, 2], &keys);
-    against_all(b"stands still", universe_of(4, 1, 1), 0.0, &[0, 2], &keys);
-    against_all(b"displaced", universe_of(4, 1, 1), 0.0625, &[0, 2], &keys);
+    let moments: &[u64] = &[0, 2];
+    let keys: &[f64] = &[0.0; 6];
+    against_all(b"three axes", universe_of(3, 1, 1), 0.0, moments, keys);
+    against_all(b"too many bits", universe_of(4, 11, 1), 0.0, moments, keys);
+    against_all(b"stands still", universe_of(4, 1, 1), 0.0, moments, keys);
+    against_all(b"displaced", universe_of(4, 1, 1), 0.0625, moments, keys);
     against_all(
         b"displaced by no number",
         universe_of(4, 1, 1),
         0.03125,
-        &[0, 2],
-        &keys,
+        moments,
+        keys,
     );
 }
 
@@ -205,108 +206,106 @@ fn counts() {
     against_all(b"65 keys", universe, 0.0, &moments, &corners);
 }
 
-// Their corners, and their moments.
-fn keys() {
+// A cube of two keys against everything.
+fn two_keys(name: &[u8], universe: Universe, moments: [u64; 2], corners: [f64; 6]) {
+    against_all(name, universe, 0.0, &moments, &corners);
+}
+
+// Their corners.
+fn corners() {
     let universe = universe_of(4, 0, 6);
-    let corners = [0.0; 7];
+    let moments: &[u64] = &[0, 1];
     against_all(
         b"a corner lacks a number",
         universe,
         0.0,
-        &[0, 1],
-        &corners[..5],
+        moments,
+        &[0.0; 5],
     );
-    against_all(b"a number too many", universe, 0.0, &[0, 1], &corners);
-    against_all(
+    against_all(b"a number too many", universe, 0.0, moments, &[0.0; 7]);
+    two_keys(
         b"a number that is not taken",
         universe,
-        0.0,
-        &[0, 1],
-        &[0.0, 0.0, 0.0, 0.0, 0.0, 0.03125],
+        [0, 1],
+        [0.0, 0.0, 0.0, 0.0, 0.0, 0.03125],
     );
-    against_all(
+    two_keys(
         b"a number past the limit",
         universe,
-        0.0,
-        &[0, 1],
-        &[0.0, 0.0, 0.0, 0.0, 0.0, 4096.0625],
-    );
-    against_all(b"equal moments", universe, 0.0, &[1, 1], &corners[..6]);
-    against_all(
-        b"to the end of the last frame",
-        universe,
-        0.0,
-        &[0, 64],
-        &corners[..6],
-    );
-    against_all(b"past it", universe, 0.0, &[0, 65], &corners[..6]);
-    against_all(
-        b"10 before 11",
-        universe,
-        0.0,
-        &[1, 1],
-        &[0.0, 0.0, 0.0, 0.0, 0.0, 0.03125],
+        [0, 1],
+        [0.0, 0.0, 0.0, 0.0, 0.0, 4096.0625],
     );
 }
 
-// Steps, and a corner that is worked back.
-fn steps() {
+// Their moments, behind their corners.
+fn moments() {
+    let universe = universe_of(4, 0, 6);
+    two_keys(b"equal moments", universe, [1, 1], [0.0; 6]);
+    two_keys(b"to the end of the last frame", universe, [0, 64], [0.0; 6]);
+    two_keys(b"past it", universe, [0, 65], [0.0; 6]);
+    two_keys(
+        b"10 before 11",
+        universe,
+        [1, 1],
+        [0.0, 0.0, 0.0, 0.0, 0.0, 0.03125],
+    );
+}
+
+// Steps at both sides of the most.
+fn far_steps() {
     let universe = universe_of(4, 1, 2);
-    against_all(
+    two_keys(
         b"a step of 64",
         universe,
-        0.0,
-        &[3, 4],
-        &[0.0, 0.0, 0.0, 64.0, 0.0, 0.0],
+        [3, 4],
+        [0.0, 0.0, 0.0, 64.0, 0.0, 0.0],
     );
-    against_all(
+    two_keys(
         b"a step of 64 1/16",
         universe,
-        0.0,
-        &[3, 4],
-        &[0.0, 0.0, 0.0, 64.0625, 0.0, 0.0],
+        [3, 4],
+        [0.0, 0.0, 0.0, 64.0625, 0.0, 0.0],
     );
-    against_all(
+    two_keys(
         b"a step of -64 along z",
         universe,
-        0.0,
-        &[3, 4],
-        &[0.0, 0.0, 64.0, 0.0, 0.0, 0.0],
+        [3, 4],
+        [0.0, 0.0, 64.0, 0.0, 0.0, 0.0],
     );
-    against_all(
+    two_keys(
         b"a step of -64 1/16 along z",
         universe,
-        0.0,
-        &[3, 4],
-        &[0.0, 0.0, 64.0625, 0.0, 0.0, 0.0],
+        [3, 4],
+        [0.0, 0.0, 64.0625, 0.0, 0.0, 0.0],
     );
-    against_all(
+}
+
+// Steps that are taken and not, and a corner that is worked back.
+fn steps() {
+    let universe = universe_of(4, 1, 2);
+    two_keys(
         b"a step of 1/16",
         universe,
-        0.0,
-        &[0, 2],
-        &[0.0, 0.0, 0.0, 0.0, -0.125, 0.0],
+        [0, 2],
+        [0.0, 0.0, 0.0, 0.0, -0.125, 0.0],
     );
-    against_all(
+    two_keys(
         b"a step of 1/32",
         universe,
-        0.0,
-        &[0, 2],
-        &[0.0, 0.0, 0.0, 0.0, 0.0, -0.0625],
+        [0, 2],
+        [0.0, 0.0, 0.0, 0.0, 0.0, -0.0625],
     );
-    against_all(
+    two_keys(
         b"11 before 12",
         universe,
-        0.0,
-        &[2, 2],
-        &[0.0, 0.0, 0.0, 0.0, 0.0, -0.0625],
+        [2, 2],
+        [0.0, 0.0, 0.0, 0.0, 0.0, -0.0625],
     );
-    against_all(
+    two_keys(
         b"a corner of 4096",
         universe_of(4, 1, 7),
-        0.0,
-        &[64, 128],
-        &[4096.0, 0.0, 0.0, 0.0, 0.0, 0.0],
+        [64, 128],
+        [4096.0, 0.0, 0.0, 0.0, 0.0, 0.0],
     );
 }
 
@@ -323,30 +322,47 @@ fn stretches() {
     );
     let away = [-3.0, 0.0, 0.0, 1.0, 0.0, 0.0, 1.0, 0.0, 0.0];
     against_all(b"away, and there", universe, 0.0, &[0, 1, 3], &away);
-    against_all(
+    two_keys(
         b"the last key's moment",
         universe,
-        0.0,
-        &[1, 2],
-        &[-3.0, 0.0, 0.0, 1.0, 0.0, 0.0],
+        [1, 2],
+        [-3.0, 0.0, 0.0, 1.0, 0.0, 0.0],
     );
 }
 
-// The static tree: its rows, its words, and what refuses it first.
+// A static tree of one word over rows.
+fn against_word(name: &[u8], rows: &[i64], word: u16) {
+    against(name, rows, &[], &[word]);
+}
+
+// A static tree of the first ball.
+fn against_ball(name: &[u8], rows: &[i64], balls: &[i64]) {
+    against(name, rows, balls, &[512]);
+}
+
+// The static tree: its rows.
+fn rows() {
+    let most: &[i64] = &[0; 1250];
+    against_word(b"250 rows", most, 256);
+    against_word(b"251 rows", &[0; 1255], 256);
+    against_word(b"row 249", most, 505);
+    against_word(b"the mover's first row", most, 506);
+}
+
+// What refuses it first, and its words.
 fn trees() {
-    let rows = [0i64; 1255];
-    let leaves = [1u16; 33];
-    against(b"250 rows", &rows[..1250], &[], &[256]);
-    against(b"251 rows", &rows, &[], &[256]);
-    against(b"row 249", &rows[..1250], &[], &[505]);
-    against(b"the mover's first row", &rows[..1250], &[], &[506]);
-    against(b"a torn row", &rows[..4], &[0, 0, 0, 1], &[512]);
-    against(b"a torn ball", &[], &[0, 0, 0], &[512]);
-    against(b"no words", &rows[..5], &[], &[]);
-    against(b"33 pending", &[], &[], &leaves);
-    against(b"a ball that is not there", &rows[..5], &[], &[512]);
-    against(b"a ball", &[], &[0, 0, 0, 1], &[512]);
-    against(b"half of space", &[-1, 1, 0, 0, 0], &[], &[256]);
+    let none: &[i64] = &[];
+    against_ball(b"a torn row", &[0; 4], &[0, 0, 0, 1]);
+    against_ball(b"a torn ball", none, &[0, 0, 0]);
+    against(b"no words", &[0; 5], none, &[]);
+    against(b"33 pending", none, none, &[1; 33]);
+}
+
+// Its balls, and a plane.
+fn leaves() {
+    against_word(b"a ball that is not there", &[0; 5], 512);
+    against_ball(b"a ball", &[], &[0, 0, 0, 1]);
+    against_word(b"half of space", &[-1, 1, 0, 0, 0], 256);
 }
 
 // A room for the longest stretch, which is the first, and one symbol less.
@@ -378,9 +394,13 @@ fn rooms() {
 fn main() {
     boxes();
     counts();
-    keys();
+    corners();
+    moments();
+    far_steps();
     steps();
     stretches();
+    rows();
     trees();
+    leaves();
     rooms();
 }

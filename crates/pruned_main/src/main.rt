@@ -12,6 +12,15 @@ const BEFORE: i64 = 77;
 // The numbers of a node.
 const NODE_LENGTH: usize = 3;
 
+// The most nodes of work room that are lent.
+const MOST_NODES: usize = 25;
+
+// The most symbols that are lent.
+const LENT: usize = 64;
+
+// The rows of a plane that moves and of the frames from 1.
+const TWO_ROWS: [i64; 10] = [-7, 2, 2, 0, 0, -1, 0, 1, 0, 0];
+
 fn universe(axes: u64, bits: u64, frame_bits: u64) -> Universe {
     Universe {
         axes: axes,
@@ -61,8 +70,40 @@ fn tell(label: &[u8], found: Conversion, work: &[i64], out: &[u8], first: Writte
     say(b"\n");
 }
 
-// The raw expression of one tree, with this work room and rooms for symbols.
-fn raw_one(
+// The expression of one tree by the pruned conversion, merged or raw.
+fn pruned_of_one(
+    merging: bool,
+    universe: Universe,
+    rows: &[i64],
+    balls: &[i64],
+    words: &[u16],
+    work: &mut [i64],
+    out: &mut [u8],
+) -> Conversion {
+    if merging {
+        return pruned::merged_of_one(universe, rows, balls, words, work, out);
+    }
+    pruned::raw_of_one(universe, rows, balls, words, work, out)
+}
+
+// The same by the first conversion.
+fn plain_of_one(
+    merging: bool,
+    universe: Universe,
+    rows: &[i64],
+    balls: &[i64],
+    words: &[u16],
+    out: &mut [u8],
+) -> Written {
+    if merging {
+        return convert::merged_of_one(universe, rows, balls, words, out);
+    }
+    convert::raw_of_one(universe, rows, balls, words, out)
+}
+
+// One tree by both, with this work room and rooms for symbols.
+fn one(
+    merging: bool,
     label: &[u8],
     universe: Universe,
     rows: &[i64],
@@ -72,13 +113,47 @@ fn raw_one(
     out: &mut [u8],
     other: &mut [u8],
 ) {
-    let found = pruned::raw_of_one(universe, rows, balls, words, work, out);
-    let first = convert::raw_of_one(universe, rows, balls, words, other);
-    tell(label, found, work, out, first, other);
+    let found = pruned_of_one(merging, universe, rows, balls, words, work, out);
+    let plain = plain_of_one(merging, universe, rows, balls, words, other);
+    tell(label, found, work, out, plain, other);
 }
 
-// The same of two trees.
-fn raw_two(
+// The expression of two trees by the pruned conversion, merged or raw.
+fn pruned_of_two(
+    merging: bool,
+    universe: Universe,
+    rows: &[i64],
+    balls: &[i64],
+    first: &[u16],
+    second: &[u16],
+    work: &mut [i64],
+    out: &mut [u8],
+) -> Conversion {
+    if merging {
+        return pruned::merged_of_two(universe, rows, balls, first, second, work, out);
+    }
+    pruned::raw_of_two(universe, rows, balls, first, second, work, out)
+}
+
+// The same by the first conversion.
+fn plain_of_two(
+    merging: bool,
+    universe: Universe,
+    rows: &[i64],
+    balls: &[i64],
+    first: &[u16],
+    second: &[u16],
+    out: &mut [u8],
+) -> Written {
+    if merging {
+        return convert::merged_of_two(universe, rows, balls, first, second, out);
+    }
+    convert::raw_of_two(universe, rows, balls, first, second, out)
+}
+
+// Two trees by both, with this work room and rooms for symbols.
+fn two(
+    merging: bool,
     label: &[u8],
     universe: Universe,
     rows: &[i64],
@@ -89,347 +164,303 @@ fn raw_two(
     out: &mut [u8],
     other: &mut [u8],
 ) {
-    let found = pruned::raw_of_two(universe, rows, balls, first, second, work, out);
-    let plain = convert::raw_of_two(universe, rows, balls, first, second, other);
+    let found = pruned_of_two(merging, universe, rows, balls, first, second, work, out);
+    let plain = plain_of_two(merging, universe, rows, balls, first, second, other);
     tell(label, found, work, out, plain, other);
 }
 
-// The merged expression of one tree, with this work room and rooms for symbols.
-fn merged_one(
+// One tree, with work room for so many nodes and so much room for symbols.
+fn one_in(
+    merging: bool,
     label: &[u8],
     universe: Universe,
     rows: &[i64],
     balls: &[i64],
     words: &[u16],
-    work: &mut [i64],
-    out: &mut [u8],
-    other: &mut [u8],
+    nodes: usize,
+    lent: usize,
 ) {
-    let found = pruned::merged_of_one(universe, rows, balls, words, work, out);
-    let first = convert::merged_of_one(universe, rows, balls, words, other);
-    tell(label, found, work, out, first, other);
+    let mut work = [BEFORE; NODE_LENGTH * MOST_NODES];
+    let mut out = [b'.'; LENT];
+    let mut other = [b'.'; LENT];
+    if nodes <= MOST_NODES {
+        if lent <= LENT {
+            let numbers = NODE_LENGTH * nodes;
+            one(
+                merging,
+                label,
+                universe,
+                rows,
+                balls,
+                words,
+                &mut work[..numbers],
+                &mut out[..lent],
+                &mut other[..lent],
+            );
+        }
+    }
 }
 
 // The same of two trees.
-fn merged_two(
+fn two_in(
+    merging: bool,
     label: &[u8],
     universe: Universe,
     rows: &[i64],
     balls: &[i64],
     first: &[u16],
     second: &[u16],
-    work: &mut [i64],
-    out: &mut [u8],
-    other: &mut [u8],
+    nodes: usize,
+    lent: usize,
 ) {
-    let found = pruned::merged_of_two(universe, rows, balls, first, second, work, out);
-    let plain = convert::merged_of_two(universe, rows, balls, first, second, other);
-    tell(label, found, work, out, plain, other);
+    let mut work = [BEFORE; NODE_LENGTH * MOST_NODES];
+    let mut out = [b'.'; LENT];
+    let mut other = [b'.'; LENT];
+    if nodes <= MOST_NODES {
+        if lent <= LENT {
+            let numbers = NODE_LENGTH * nodes;
+            two(
+                merging,
+                label,
+                universe,
+                rows,
+                balls,
+                first,
+                second,
+                &mut work[..numbers],
+                &mut out[..lent],
+                &mut other[..lent],
+            );
+        }
+    }
+}
+
+// A tree of one plane.
+fn plane(merging: bool, label: &[u8], plane: [i64; 5], words: &[u16], nodes: usize, lent: usize) {
+    one_in(
+        merging,
+        label,
+        universe(2, 2, 2),
+        &plane,
+        &[],
+        words,
+        nodes,
+        lent,
+    );
+}
+
+// A plane that moves, from frame 1 on.
+fn moved(merging: bool, label: &[u8], nodes: usize, lent: usize) {
+    one_in(
+        merging,
+        label,
+        universe(2, 2, 2),
+        &TWO_ROWS,
+        &[],
+        &[256, 257, 3],
+        nodes,
+        lent,
+    );
 }
 
 // Constants alone.
 fn constants() {
-    raw_one(
-        b"WHITE",
-        universe(2, 2, 2),
-        &[],
-        &[],
-        &[0],
-        &mut [BEFORE; NODE_LENGTH * 5],
-        &mut [b'.'; 1],
-        &mut [b'.'; 1],
-    );
-    merged_one(
+    let none: &[i64] = &[];
+    one_in(false, b"WHITE", universe(2, 2, 2), none, none, &[0], 5, 1);
+    one_in(
+        true,
         b"BLACK less WHITE",
         universe(2, 2, 2),
-        &[],
-        &[],
+        none,
+        none,
         &[1, 0, 4],
-        &mut [BEFORE; NODE_LENGTH * 15],
-        &mut [b'.'; 2],
-        &mut [b'.'; 2],
+        15,
+        2,
     );
 }
 
 // Trees that are decided over the universe.
 fn decided() {
-    raw_one(
-        b"decided at once",
-        universe(2, 2, 2),
-        &[5, 1, 0, 0, 0],
-        &[],
-        &[256],
-        &mut [BEFORE; NODE_LENGTH * 5],
-        &mut [b'.'; 1],
-        &mut [b'.'; 1],
-    );
-    raw_one(
+    plane(false, b"decided at once", [5, 1, 0, 0, 0], &[256], 5, 1);
+    one_in(
+        false,
         b"decided at once by one son",
         universe(2, 2, 2),
         &[5, 1, 0, 0, 0, -2, 1, 0, 0, 0],
         &[],
         &[257, 256, 2],
-        &mut [BEFORE; NODE_LENGTH * 15],
-        &mut [b'.'; 1],
-        &mut [b'.'; 1],
+        15,
+        1,
     );
 }
 
 // Walls, and centres that lie on a plane.
 fn walls() {
-    raw_one(
-        b"a wall",
-        universe(2, 2, 2),
-        &[-2, 1, 0, 0, 0],
-        &[],
-        &[256],
-        &mut [BEFORE; NODE_LENGTH * 5],
-        &mut [b'.'; 3],
-        &mut [b'.'; 3],
-    );
-    raw_one(
-        b"through centres",
-        universe(2, 2, 2),
-        &[-3, 2, 0, 0, 0],
-        &[],
-        &[256],
-        &mut [BEFORE; NODE_LENGTH * 5],
-        &mut [b'.'; 13],
-        &mut [b'.'; 13],
-    );
-    merged_one(
-        b"through centres",
-        universe(2, 2, 2),
-        &[-3, 2, 0, 0, 0],
-        &[],
-        &[256],
-        &mut [BEFORE; NODE_LENGTH * 5],
-        &mut [b'.'; 13],
-        &mut [b'.'; 13],
-    );
+    let row: &[u16] = &[256];
+    plane(false, b"a wall", [-2, 1, 0, 0, 0], row, 5, 3);
+    plane(false, b"through centres", [-3, 2, 0, 0, 0], row, 5, 13);
+    plane(true, b"through centres", [-3, 2, 0, 0, 0], row, 5, 13);
 }
 
 // MINUS, and MINUS within MINUS.
 fn cuts() {
-    raw_one(
+    one_in(
+        false,
         b"MINUS within MINUS",
         universe(2, 2, 2),
         &[-2, 1, 0, 0, 0, -1, 0, 1, 0, 0, 3, -1, 0, 0, 0],
         &[],
         &[256, 257, 258, 4, 4],
-        &mut [BEFORE; NODE_LENGTH * 25],
-        &mut [b'.'; 11],
-        &mut [b'.'; 11],
+        25,
+        11,
     );
-    raw_one(
-        b"less itself",
-        universe(2, 2, 2),
-        &[-3, 2, 0, 0, 0],
-        &[],
-        &[256, 256, 4],
-        &mut [BEFORE; NODE_LENGTH * 15],
-        &mut [b'.'; 13],
-        &mut [b'.'; 13],
-    );
-    merged_one(
-        b"less itself",
-        universe(2, 2, 2),
-        &[-3, 2, 0, 0, 0],
-        &[],
-        &[256, 256, 4],
-        &mut [BEFORE; NODE_LENGTH * 15],
-        &mut [b'.'; 1],
-        &mut [b'.'; 1],
-    );
+    let cut: &[u16] = &[256, 256, 4];
+    plane(false, b"less itself", [-3, 2, 0, 0, 0], cut, 15, 13);
+    plane(true, b"less itself", [-3, 2, 0, 0, 0], cut, 15, 1);
 }
 
 // Two trees side by side, one of them BLACK or decided early.
 fn pairs() {
-    raw_two(
+    let none: &[i64] = &[];
+    let row: &[u16] = &[256];
+    two_in(
+        false,
         b"BLACK beside a wall",
         universe(2, 3, 3),
         &[-3, 1, 0, 0, 0],
-        &[],
+        none,
         &[1],
-        &[256],
-        &mut [BEFORE; NODE_LENGTH * 14],
-        &mut [b'.'; 21],
-        &mut [b'.'; 21],
+        row,
+        14,
+        21,
     );
-    merged_two(
+    two_in(
+        true,
         b"a wall beside a frame",
         universe(2, 3, 3),
         &[-3, 1, 0, 0, 0, -5, 0, 1, 0, 0],
-        &[],
-        &[256],
+        none,
+        row,
         &[257],
-        &mut [BEFORE; NODE_LENGTH * 14],
-        &mut [b'.'; 35],
-        &mut [b'.'; 35],
+        14,
+        35,
     );
 }
 
 // Balls.
 fn balls() {
-    merged_one(
+    one_in(
+        true,
         b"a ball",
         universe(3, 2, 1),
         &[],
         &[2, 2, 0, 2],
         &[512],
-        &mut [BEFORE; NODE_LENGTH * 6],
-        &mut [b'.'; 47],
-        &mut [b'.'; 47],
+        6,
+        47,
     );
-    merged_two(
+    two_in(
+        true,
         b"a ball less a ball beside a wall",
         universe(3, 2, 1),
         &[-1, 1, 0, 0, 0],
         &[2, 2, 0, 2, 2, 2, 0, 1],
         &[512, 513, 4],
         &[256],
-        &mut [BEFORE; NODE_LENGTH * 24],
-        &mut [b'.'; 55],
-        &mut [b'.'; 55],
+        24,
+        55,
     );
 }
 
 // The work room exact, and a node short with the room for symbols short too.
 fn work_rooms() {
-    raw_one(
-        b"exact",
-        universe(2, 2, 2),
-        &[-7, 2, 2, 0, 0, -1, 0, 1, 0, 0],
-        &[],
-        &[256, 257, 3],
-        &mut [BEFORE; NODE_LENGTH * 15],
-        &mut [b'.'; 23],
-        &mut [b'.'; 23],
-    );
-    raw_one(
-        b"a node short",
-        universe(2, 2, 2),
-        &[-7, 2, 2, 0, 0, -1, 0, 1, 0, 0],
-        &[],
-        &[256, 257, 3],
-        &mut [BEFORE; NODE_LENGTH * 14],
-        &mut [b'.'; 23],
-        &mut [b'.'; 23],
-    );
-    raw_one(
-        b"both short",
-        universe(2, 2, 2),
-        &[-7, 2, 2, 0, 0, -1, 0, 1, 0, 0],
-        &[],
-        &[256, 257, 3],
-        &mut [BEFORE; NODE_LENGTH * 14],
-        &mut [b'.'; 0],
-        &mut [b'.'; 0],
-    );
+    moved(false, b"exact", 15, 23);
+    moved(false, b"a node short", 14, 23);
+    moved(false, b"both short", 14, 0);
 }
 
 // The room for symbols a symbol short.
 fn symbol_rooms() {
-    raw_one(
-        b"a symbol short",
-        universe(2, 2, 2),
-        &[-7, 2, 2, 0, 0, -1, 0, 1, 0, 0],
-        &[],
-        &[256, 257, 3],
-        &mut [BEFORE; NODE_LENGTH * 15],
-        &mut [b'.'; 22],
-        &mut [b'.'; 22],
-    );
-    merged_one(
-        b"merged, a symbol short",
-        universe(2, 2, 2),
-        &[-7, 2, 2, 0, 0, -1, 0, 1, 0, 0],
-        &[],
-        &[256, 257, 3],
-        &mut [BEFORE; NODE_LENGTH * 15],
-        &mut [b'.'; 16],
-        &mut [b'.'; 16],
-    );
-    merged_one(
-        b"merged, exact",
-        universe(2, 2, 2),
-        &[-7, 2, 2, 0, 0, -1, 0, 1, 0, 0],
-        &[],
-        &[256, 257, 3],
-        &mut [BEFORE; NODE_LENGTH * 15],
-        &mut [b'.'; 17],
-        &mut [b'.'; 17],
-    );
+    moved(false, b"a symbol short", 15, 22);
+    moved(true, b"merged, a symbol short", 15, 16);
+    moved(true, b"merged, exact", 15, 17);
 }
 
 // Refusals before both.
 fn refused() {
-    raw_one(
+    let rows: &[i64] = &TWO_ROWS;
+    let none: &[i64] = &[];
+    let row: &[u16] = &[256];
+    one_in(
+        false,
         b"no such row",
         universe(2, 2, 2),
-        &[-7, 2, 2, 0, 0, -1, 0, 1, 0, 0],
-        &[],
+        rows,
+        none,
         &[256, 258, 3],
-        &mut [BEFORE; NODE_LENGTH * 0],
-        &mut [b'.'; 1],
-        &mut [b'.'; 1],
+        0,
+        1,
     );
-    raw_one(
+    one_in(
+        false,
         b"no universe",
         universe(5, 2, 2),
-        &[-7, 2, 2, 0, 0, -1, 0, 1, 0, 0],
-        &[],
-        &[256],
-        &mut [BEFORE; NODE_LENGTH * 1],
-        &mut [b'.'; 1],
-        &mut [b'.'; 1],
+        rows,
+        none,
+        row,
+        1,
+        1,
     );
-    raw_two(
+    two_in(
+        false,
         b"no second tree",
         universe(2, 2, 2),
-        &[-7, 2, 2, 0, 0, -1, 0, 1, 0, 0],
+        rows,
+        none,
+        row,
         &[],
-        &[256],
-        &[],
-        &mut [BEFORE; NODE_LENGTH * 1],
-        &mut [b'.'; 1],
-        &mut [b'.'; 1],
+        1,
+        1,
     );
 }
 
 // The work room of two trees; a universe of one voxel.
 fn two_rooms() {
-    raw_two(
+    let rows: &[i64] = &TWO_ROWS;
+    let none: &[i64] = &[];
+    let row: &[u16] = &[256];
+    let other: &[u16] = &[257];
+    two_in(
+        false,
         b"two exact",
         universe(2, 2, 2),
-        &[-7, 2, 2, 0, 0, -1, 0, 1, 0, 0],
-        &[],
-        &[256],
-        &[257],
-        &mut [BEFORE; NODE_LENGTH * 10],
-        &mut [b'.'; 23],
-        &mut [b'.'; 23],
+        rows,
+        none,
+        row,
+        other,
+        10,
+        23,
     );
-    merged_two(
+    two_in(
+        true,
         b"two, a node short",
         universe(2, 2, 2),
-        &[-7, 2, 2, 0, 0, -1, 0, 1, 0, 0],
-        &[],
-        &[256],
-        &[257],
-        &mut [BEFORE; NODE_LENGTH * 9],
-        &mut [b'.'; 0],
-        &mut [b'.'; 0],
+        rows,
+        none,
+        row,
+        other,
+        9,
+        0,
     );
-    raw_one(
+    one_in(
+        false,
         b"no levels",
         universe(1, 0, 0),
         &[1, 0, 0, 0, 0],
-        &[],
-        &[256],
-        &mut [BEFORE; NODE_LENGTH * 1],
-        &mut [b'.'; 1],
-        &mut [b'.'; 1],
+        none,
+        row,
+        1,
+        1,
     );
 }
 

@@ -28,6 +28,11 @@ fn read(label: &[u8], bytes: &[u8], room: &mut [u8]) {
     say(b"\n");
 }
 
+// The same into room for ten symbols.
+fn read_ten(label: &[u8], bytes: &[u8]) {
+    read(label, bytes, &mut [b'.'; 10]);
+}
+
 // An expression written as a shape file into the room lent: the number, the length, then the bytes.
 fn write(label: &[u8], axes: u64, bits: u64, frame: u64, expression: &[u8], room: &mut [u8]) {
     let universe = Universe {
@@ -160,34 +165,29 @@ fn counts() {
 
 // One axis has frame bits alone; version 1 says them as its bits, of which ten are the most.
 fn one_axis() {
-    read(
+    read_ten(
         b"version 2, one axis, frame 12",
         b"BNT\x02\x00\x01\x00\x0c\x03\x00\x00\x00(WB",
-        &mut [b'.'; 10],
     );
-    read(
+    read_ten(
         b"version 2, one axis, frame 13",
         b"BNT\x02\x00\x01\x00\x0d\x03\x00\x00\x00(WB",
-        &mut [b'.'; 10],
     );
-    read(
+    read_ten(
         b"version 2, one axis, bits 1",
         b"BNT\x02\x00\x01\x01\x01\x03\x00\x00\x00(WB",
-        &mut [b'.'; 10],
     );
-    read(
+    read_ten(
         b"version 1, one axis, bits 10",
         b"BNT\x01\x00\x01\x0a\x03\x00\x00\x00(WB",
-        &mut [b'.'; 10],
     );
-    read(
+    read_ten(
         b"version 1, one axis, bits 11",
         b"BNT\x01\x00\x01\x0b\x03\x00\x00\x00(WB",
-        &mut [b'.'; 10],
     );
 }
 
-// Symbols that are no merged expression.
+// Symbols that are no expression.
 fn bodies() {
     second(12, b'B');
     second(16, b'W');
@@ -199,169 +199,129 @@ fn bodies() {
     first(11, b'B');
     first(18, b'W');
     first(19, b'(');
-    read(
-        b"not merged",
-        b"BNT\x02\x00\x02\x02\x02\x03\x00\x00\x00(BB",
-        &mut [b'.'; 10],
-    );
-    read(
+}
+
+// Symbols that are no merged expression.
+fn not_merged() {
+    let file: &[u8] = b"BNT\x02\x00\x02\x02\x02\x03\x00\x00\x00(BB";
+    read_ten(b"not merged", file);
+    read_ten(
         b"not merged, no universe",
         b"BNT\x02\x00\x05\x02\x02\x03\x00\x00\x00(BB",
-        &mut [b'.'; 10],
     );
-    read(
-        b"not merged, no room",
-        b"BNT\x02\x00\x02\x02\x02\x03\x00\x00\x00(BB",
-        &mut [b'.'; 2],
+    read(b"not merged, no room", file, &mut [b'.'; 2]);
+}
+
+// Files with no whole header or no symbols.
+fn second_headers() {
+    read_ten(b"empty", b"");
+    read_ten(b"four bytes", b"BNT\x02");
+    read_ten(
+        b"version 2, eleven bytes",
+        b"BNT\x02\x00\x02\x02\x02\x00\x00\x00",
+    );
+    read_ten(
+        b"version 2, no symbols",
+        b"BNT\x02\x00\x02\x02\x02\x00\x00\x00\x00",
     );
 }
 
 // Files too short or too long.
 fn second_lengths() {
-    read(b"empty", b"", &mut [b'.'; 10]);
-    read(b"four bytes", b"BNT\x02", &mut [b'.'; 10]);
-    read(
-        b"version 2, eleven bytes",
-        b"BNT\x02\x00\x02\x02\x02\x00\x00\x00",
-        &mut [b'.'; 10],
-    );
-    read(
-        b"version 2, no symbols",
-        b"BNT\x02\x00\x02\x02\x02\x00\x00\x00\x00",
-        &mut [b'.'; 10],
-    );
-    read(
+    read_ten(
         b"version 2, one symbol",
         b"BNT\x02\x00\x02\x02\x02\x01\x00\x00\x00B",
-        &mut [b'.'; 10],
     );
-    read(
+    read_ten(
         b"version 2, a byte short",
         b"BNT\x02\x00\x02\x02\x02\x09\x00\x00\x00(W(W(B(B",
-        &mut [b'.'; 10],
     );
-    read(
+    read_ten(
         b"version 2, a newline",
         b"BNT\x02\x00\x02\x02\x02\x09\x00\x00\x00(W(W(B(BW\n",
-        &mut [b'.'; 10],
     );
 }
 
+// The same of version 1.
 fn first_lengths() {
-    read(
-        b"version 1, ten bytes",
-        b"BNT\x01\x00\x02\x02\x00\x00\x00",
-        &mut [b'.'; 10],
-    );
-    read(
+    read_ten(b"version 1, ten bytes", b"BNT\x01\x00\x02\x02\x00\x00\x00");
+    read_ten(
         b"version 1, no symbols",
         b"BNT\x01\x00\x02\x02\x00\x00\x00\x00",
-        &mut [b'.'; 10],
     );
-    read(
+    read_ten(
         b"version 1, one symbol",
         b"BNT\x01\x00\x02\x02\x01\x00\x00\x00B",
-        &mut [b'.'; 10],
     );
-    read(
+    read_ten(
         b"version 1, a byte short",
         b"BNT\x01\x00\x02\x02\x09\x00\x00\x00(W(W(B(B",
-        &mut [b'.'; 10],
     );
-    read(
+    read_ten(
         b"version 1, a newline",
         b"BNT\x01\x00\x02\x02\x09\x00\x00\x00(W(W(B(BW\n",
-        &mut [b'.'; 10],
     );
 }
 
 // Room for exactly what is read, one less, and none.
-fn read_rooms() {
-    read(
-        b"version 2, 9 lent",
-        b"BNT\x02\x00\x02\x02\x02\x09\x00\x00\x00(W(W(B(BW",
-        &mut [b'.'; 9],
-    );
-    read(
-        b"version 2, 8 lent",
-        b"BNT\x02\x00\x02\x02\x02\x09\x00\x00\x00(W(W(B(BW",
-        &mut [b'.'; 8],
-    );
-    read(
-        b"version 2, none lent",
-        b"BNT\x02\x00\x02\x02\x02\x09\x00\x00\x00(W(W(B(BW",
-        &mut [],
-    );
-    read(
-        b"version 1, 9 lent",
-        b"BNT\x01\x00\x02\x02\x09\x00\x00\x00(W(W(B(BW",
-        &mut [b'.'; 9],
-    );
-    read(
-        b"version 1, 8 lent",
-        b"BNT\x01\x00\x02\x02\x09\x00\x00\x00(W(W(B(BW",
-        &mut [b'.'; 8],
-    );
+fn second_rooms() {
+    let file: &[u8] = b"BNT\x02\x00\x02\x02\x02\x09\x00\x00\x00(W(W(B(BW";
+    read(b"version 2, 9 lent", file, &mut [b'.'; 9]);
+    read(b"version 2, 8 lent", file, &mut [b'.'; 8]);
+    read(b"version 2, none lent", file, &mut []);
+}
+
+// The same of version 1, but none.
+fn first_rooms() {
+    let file: &[u8] = b"BNT\x01\x00\x02\x02\x09\x00\x00\x00(W(W(B(BW";
+    read(b"version 1, 9 lent", file, &mut [b'.'; 9]);
+    read(b"version 1, 8 lent", file, &mut [b'.'; 8]);
 }
 
 // Room for exactly what is written, one less, and none.
 fn write_rooms() {
-    write(b"write, 22 lent", 2, 2, 2, b"(W(W(B(BW", &mut [b'.'; 22]);
-    write(b"write, 21 lent", 2, 2, 2, b"(W(W(B(BW", &mut [b'.'; 21]);
-    write(b"write, 20 lent", 2, 2, 2, b"(W(W(B(BW", &mut [b'.'; 20]);
-    write(b"write, none lent", 2, 2, 2, b"(W(W(B(BW", &mut []);
+    let expression: &[u8] = b"(W(W(B(BW";
+    write(b"write, 22 lent", 2, 2, 2, expression, &mut [b'.'; 22]);
+    write(b"write, 21 lent", 2, 2, 2, expression, &mut [b'.'; 21]);
+    write(b"write, 20 lent", 2, 2, 2, expression, &mut [b'.'; 20]);
+    write(b"write, none lent", 2, 2, 2, expression, &mut []);
 }
 
-// Universes at both sides of their limits.
+// An expression written into room for a header and three symbols.
+fn write_three(label: &[u8], axes: u64, bits: u64, frame: u64, expression: &[u8]) {
+    write(label, axes, bits, frame, expression, &mut [b'.'; 15]);
+}
+
+// Universes at both sides of their upper limits.
 fn write_universes() {
-    write(b"write at 4, 10, 12", 4, 10, 12, b"(BW", &mut [b'.'; 15]);
-    write(b"write at axes 5", 5, 2, 2, b"(BB", &mut [b'.'; 15]);
-    write(b"write at bits 11", 2, 11, 2, b"(BB", &mut [b'.'; 15]);
-    write(b"write at frame 13", 2, 2, 13, b"(BB", &mut [b'.'; 15]);
-    write(b"write at frame 258", 2, 2, 258, b"B", &mut [b'.'; 15]);
-    write(b"write at axes 257", 257, 0, 2, b"B", &mut [b'.'; 15]);
-    write(b"write at one axis, bits 1", 1, 1, 1, b"B", &mut [b'.'; 15]);
-    write(
-        b"write at one axis, frame 12",
-        1,
-        0,
-        12,
-        b"(BW",
-        &mut [b'.'; 15],
-    );
-    write(b"write at no bits", 1, 0, 0, b"B", &mut [b'.'; 13]);
-    write(
-        b"write at bits 0, frame 1",
-        2,
-        0,
-        1,
-        b"(BW",
-        &mut [b'.'; 15],
-    );
-    write(
-        b"write at bits 1, frame 0",
-        2,
-        1,
-        0,
-        b"(BW",
-        &mut [b'.'; 15],
-    );
+    let not_merged: &[u8] = b"(BB";
+    let black: &[u8] = b"B";
+    write_three(b"write at 4, 10, 12", 4, 10, 12, b"(BW");
+    write_three(b"write at axes 5", 5, 2, 2, not_merged);
+    write_three(b"write at bits 11", 2, 11, 2, not_merged);
+    write_three(b"write at frame 13", 2, 2, 13, not_merged);
+    write_three(b"write at frame 258", 2, 2, 258, black);
+    write_three(b"write at axes 257", 257, 0, 2, black);
+}
+
+// Universes of one axis, and of no bits or one.
+fn write_small() {
+    let black: &[u8] = b"B";
+    let halves: &[u8] = b"(BW";
+    write_three(b"write at one axis, bits 1", 1, 1, 1, black);
+    write_three(b"write at one axis, frame 12", 1, 0, 12, halves);
+    write(b"write at no bits", 1, 0, 0, black, &mut [b'.'; 13]);
+    write_three(b"write at bits 0, frame 1", 2, 0, 1, halves);
+    write_three(b"write at bits 1, frame 0", 2, 1, 0, halves);
 }
 
 // Expressions that are refused.
 fn write_bodies() {
-    write(
-        b"write one level too deep",
-        1,
-        0,
-        0,
-        b"(BW",
-        &mut [b'.'; 15],
-    );
-    write(b"write not merged", 2, 2, 2, b"(BB", &mut [b'.'; 15]);
+    write_three(b"write one level too deep", 1, 0, 0, b"(BW");
+    write_three(b"write not merged", 2, 2, 2, b"(BB");
     write(b"write not merged, no room", 2, 2, 2, b"(W(BB", &mut []);
-    write(b"write no symbols", 2, 2, 2, b"", &mut [b'.'; 15]);
-    write(b"write two expressions", 2, 2, 2, b"BB", &mut [b'.'; 15]);
+    write_three(b"write no symbols", 2, 2, 2, b"");
+    write_three(b"write two expressions", 2, 2, 2, b"BB");
 }
 
 // What was read from either version is written as version 2.
@@ -384,26 +344,28 @@ fn round_trips() {
 }
 
 fn main() {
-    read(
+    read_ten(
         b"version 2, whole",
         b"BNT\x02\x00\x02\x02\x02\x09\x00\x00\x00(W(W(B(BW",
-        &mut [b'.'; 10],
     );
-    read(
+    read_ten(
         b"version 1, whole",
         b"BNT\x01\x00\x02\x02\x09\x00\x00\x00(W(W(B(BW",
-        &mut [b'.'; 10],
     );
     marks();
     universes();
     counts();
     one_axis();
     bodies();
+    not_merged();
+    second_headers();
     second_lengths();
     first_lengths();
-    read_rooms();
+    second_rooms();
+    first_rooms();
     write_rooms();
     write_universes();
+    write_small();
     write_bodies();
     round_trips();
 }
