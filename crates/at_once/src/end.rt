@@ -346,8 +346,8 @@ pub(crate) fn end_block(
     )
 }
 
-// Betters a frame by both halves of a block, the later one first where the last frame is sought; where they have the
-// levels of a word, by both at once.
+// Betters a frame by both halves of a block, the later one first where the last frame is sought. Where they have the
+// levels of a word, by both at once; not where there are balls, which share nothing there.
 fn end_halves(
     backward: bool,
     axes: usize,
@@ -389,25 +389,27 @@ fn end_halves(
     ensures { λ _. ⌜ Unmoved (now (values .entry)) (now (rounds .entry)) (now (values .exit)) (now (rounds .exit)) ⌝ }
 {
     if left == WORD_LEVELS as u64 + 1 {
-        return end_words(
-            backward,
-            axes,
-            rows,
-            balls,
-            table,
-            lengths,
-            low,
-            side,
-            codes,
-            from,
-            count,
-            belows,
-            aboves,
-            first,
-            last,
-            known,
-            values,
-        );
+        if balls.len() == 0 {
+            return end_words(
+                backward,
+                axes,
+                rows,
+                balls,
+                table,
+                lengths,
+                low,
+                side,
+                codes,
+                from,
+                count,
+                belows,
+                aboves,
+                first,
+                last,
+                known,
+                values,
+            );
+        }
     }
     let axis = table[(left - 1) as usize];
     let near = low[axis];

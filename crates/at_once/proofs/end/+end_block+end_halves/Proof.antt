@@ -212,12 +212,12 @@ module _ (t : ℕ) where
   -- ---- `end_halves`
   end-halves-end-words-requires : end-halves-lts.Need-end-words-requires end-halves-claims end-halves-at end-halves.Post
   end-halves-end-words-requires c κs =
-      let i = c .before .before .before .before .before .before in let k = i .before .before in
+      let i = c .before .before .before .before .before .before .before in let k = i .before .before in
       (words-job (i .if1 .taken) (k .pre .1 .0), (k .pre .1 .1 .1 .1 .0, k .pre .1 .1 .1 .1 .1 .right))
 
   end-halves-returns : end-halves-lts.Need-returns end-halves-claims end-halves-at end-halves.Post
   end-halves-returns c =
-      let i = c .before .before .before .before .before .before .before in let k = i .before .before in
+      let i = c .before .before .before .before .before .before .before .before in let k = i .before .before in
       let e = c .end-words .ensures in (
         as-bettered (k .args .first) (k .args .last) (k .args .backward) (k .args .known) (i .if1 .taken) (e .0),
         (
