@@ -1,6 +1,6 @@
 -- The word of a ball over a block is made of those of its halves. Across a place axis the high half's first voxel is twice the half's length further off along
 -- it, and the sum of the squares more by 4·s·(o + s); across the frame axis both halves have the same word.
-use mathlib.Core.Path.{_≡_, refl, sym, ap, ap₂, _∙_}
+use mathlib.Core.Path.{_≡_, refl, sym, ap, ap₂, _∙_, subst}
 use mathlib.Core.Bool.{Bool, true, false, cond, _&&_}
 use mathlib.Core.List.{List}
 use Prim.Native.Nat.{ℕ, zero, suc, _+_, _-_, _*_, _%_, _^_, _≤_, _<_}
@@ -12,7 +12,7 @@ use lib.Seq.{getD-set-same, getD-set-other}
 use lib.IntN.{ℤ, pos, natAbs, _+ℤ_, _-ℤ_, _*ℤ_}
 use lib.Signed.{leZ}
 use mir.Syntax.{w64}
-use mir.Val.{SFits, toZ, boolByte}
+use mir.Val.{SFits, toZ}
 use mir.ValLaws.{toZ-ofZ}
 use Rattle.lemmas.specs.Sums.{total, every}
 use Rattle.lemmas.specs.Grid.{count}
@@ -45,7 +45,6 @@ use Rattle.masks.proofs.Steps.{axis-is, side-is, axis-tabled, axis-long}
 use Rattle.masks.proofs.Leaves.{ball-mask, ball-voxel, distance-high}
 use Rattle.masks.proofs.Limits.{off-few, distance-few}
 use Rattle.at_once.specs.Words.{wordLevels, WordBlock, wordBlock, stepAt, BallNamed, OffsOf, squareAlong, squaresOf, BallOver}
-use Rattle.at_once.proofs.Windows.{byte-count}
 use Rattle.at_once.proofs.WordBlocks.{taken, levels-left, first-voxel, low-small}
 use Rattle.at_once.proofs.BallValues.{most-held}
 
@@ -61,6 +60,12 @@ same-places o n b c e h =
   where
     squareAt : Universe → ℕ → ℕ → ℕ → ℤ
     squareAt u a x i = off 2 (2 * (x + stepsAlong u a n i) + 1) (o .centre a) *ℤ off 2 (2 * (x + stepsAlong u a n i) + 1) (o .centre a)
+
+-- one voxel
+pub gives-digit : {places : ℕ} {table lengths : List ℕ} {offs : List ℤ} {distance most : ℤ} (over : BallOver places table lengths 0 offs distance most) →
+    {r : ℕ} → r ≡ count (leZ distance most) → r ≡ blockMask (ballColour (over .block .universe) (over .ball)) 0 (over .block)
+gives-digit over e =
+    e ∙ ap₂ (λ (x y : ℤ). count (leZ x y)) (over .distance-is) (over .most-is) ∙ sym (ball-voxel (over .ball) (over .block))
 
 module _ {places : ℕ} {table lengths : List ℕ} {left : ℕ} {offs : List ℤ} {distance most : ℤ}
     (over : BallOver places table lengths left offs distance most) where
@@ -88,13 +93,35 @@ module _ {places : ℕ} {table lengths : List ℕ} {left : ℕ} {offs : List ℤ
     most-same : held most ≡ pos (4 * radiusSquared (over .ball))
     most-same = toZ-ofZ w64 most f ∙ over .most-is
 
-    -- one voxel
-    pub gives-voxel : left ≡ 0 → boolByte (leZ (held distance) (held most)) ≡ blockMask colours left b
-    gives-voxel e =
-        byte-count (leZ (held distance) (held most))
-        ∙ ap₂ (λ (x y : ℤ). count (leZ x y)) (distance-near .same) most-same
-        ∙ sym (ball-voxel (over .ball) b)
-        ∙ ap (λ (n : ℕ). blockMask colours n b) (sym e)
+    -- the same ball over the same block, with as many levels left as are said
+    unfoldable held-block : BallOver places table lengths left offs (held distance) (held most)
+    held-block = record {
+      ball = over .ball;
+      block = b;
+      within = over .within;
+      given = over .given;
+      levels-left = over .levels-left;
+      few = over .few;
+      tabled = over .tabled;
+      places-are = over .places-are;
+      long = over .long;
+      offs-are = over .offs-are;
+      distance-is = distance-near .same;
+      most-is = most-same;
+    }
+
+    pub held-over : {n : ℕ} → left ≡ n → BallOver places table lengths n offs (held distance) (held most)
+    held-over e = subst (λ (n : ℕ). BallOver places table lengths n offs (held distance) (held most)) e held-block
+
+    pub as-held : {n r : ℕ} → left ≡ n →
+        ((o : BallOver places table lengths n offs (held distance) (held most)) → r ≡ blockMask (ballColour (o .block .universe) (o .ball)) n (o .block)) →
+        r ≡ blockMask colours left b
+    unfolding held-block
+    as-held {r = r} e g =
+        subst
+        (λ (n : ℕ). (o : BallOver places table lengths n offs (held distance) (held most)) → r ≡ blockMask (ballColour (o .block .universe) (o .ball)) n (o
+        .block))
+        (sym e) g held-block
 
     module _ (k : left ≡ 0 → ⊥) where
       abbrev axis : ℕ

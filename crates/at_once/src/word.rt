@@ -269,8 +269,67 @@ pub(crate) fn most_of_ball(balls: &[i64], i: usize) -> i64
     4 * radius * radius
 }
 
-// The word of a ball over a block: of one voxel the test of its distance; the high half is further off along the axis
-// that is halved, and as far where that axis counts frames.
+// The digit of a ball at a voxel, by the sum of the squares there.
+fn near_digit(distance: i64, most: i64) -> u64
+    ensures { λ r. ⌜ r ≡ count (leZ distance most) ⌝ }
+{
+    (distance <= most) as u64
+}
+
+// The digits of a ball over two voxels: the high one is further off along the axis that is halved, and as far where
+// that axis counts frames.
+fn ball_two(
+    places: usize,
+    table: &[usize; Universe::MOST_LEVELS as usize],
+    lengths: &[u64; WORD_LEVELS],
+    offs: [i64; csg::MOST_PLACES],
+    distance: i64,
+    most: i64,
+) -> u64
+    requires { ⌜ BallOver places (now table) (now lengths) 1 offs distance most ⌝ }
+    ensures { λ r. ⌜ ((over : BallOver places (now (table .entry)) (now (lengths .entry)) 1 offs distance most)
+        → r ≡ blockMask (ballColour (over .block .universe) (over .ball)) 1 (over .block)) ⌝ }
+{
+    let low = near_digit(distance, most);
+    let axis = table[0];
+    if places <= axis {
+        return side_by_side(low, low, 0);
+    }
+    let length = lengths[0] as i64;
+    let off = offs[axis];
+    let more = 4 * length * (off + length);
+    let high = near_digit(distance + more, most);
+    side_by_side(low, high, 0)
+}
+
+// The same of four, by both halves.
+fn ball_four(
+    places: usize,
+    table: &[usize; Universe::MOST_LEVELS as usize],
+    lengths: &[u64; WORD_LEVELS],
+    offs: [i64; csg::MOST_PLACES],
+    distance: i64,
+    most: i64,
+) -> u64
+    requires { ⌜ BallOver places (now table) (now lengths) 2 offs distance most ⌝ }
+    ensures { λ r. ⌜ ((over : BallOver places (now (table .entry)) (now (lengths .entry)) 2 offs distance most)
+        → r ≡ blockMask (ballColour (over .block .universe) (over .ball)) 2 (over .block)) ⌝ }
+{
+    let low = ball_two(places, table, lengths, offs, distance, most);
+    let axis = table[1];
+    if places <= axis {
+        return side_by_side(low, low, 1);
+    }
+    let length = lengths[1] as i64;
+    let off = offs[axis];
+    let mut further = offs;
+    further[axis] = off + 2 * length;
+    let more = 4 * length * (off + length);
+    let high = ball_two(places, table, lengths, further, distance + more, most);
+    side_by_side(low, high, 1)
+}
+
+// The word of a ball over a block, by both halves down to four voxels, which need no call of their own.
 fn ball_word(
     places: usize,
     table: &[usize; Universe::MOST_LEVELS as usize],
@@ -285,7 +344,13 @@ fn ball_word(
         → r ≡ blockMask (ballColour (over .block .universe) (over .ball)) left (over .block)) ⌝ }
 {
     if left == 0 {
-        return (distance <= most) as u64;
+        return near_digit(distance, most);
+    }
+    if left == 1 {
+        return ball_two(places, table, lengths, offs, distance, most);
+    }
+    if left == 2 {
+        return ball_four(places, table, lengths, offs, distance, most);
     }
     let n = left - 1;
     let low = ball_word(places, table, lengths, n, offs, distance, most);
