@@ -215,20 +215,25 @@ fn ball_and_plane(label: &[u8], plane: [i64; 5], words: [u16; 3]) {
     );
 }
 
-// Planes as they are, reversed, and less themselves.
+// A plane as it is, reversed, and less itself; and other planes.
 fn planes() {
-    plane_alone(b"through centres", [-9, 2, 2, 2, 0], &[256]);
+    let row: &[u16] = &[256];
+    plane_alone(b"through centres", [-9, 2, 2, 2, 0], row);
     plane_alone(b"reversed", [-9, 2, 2, 2, 0], &[1, 256, 4]);
     plane_alone(b"less itself", [-9, 2, 2, 2, 0], &[256, 256, 4]);
-    plane_alone(b"in motion", [-3, 1, 0, 0, 2], &[256]);
-    plane_alone(b"five zeros", [0, 0, 0, 0, 0], &[256]);
+    plane_alone(b"in motion", [-3, 1, 0, 0, 2], row);
+    plane_alone(b"five zeros", [0, 0, 0, 0, 0], row);
 }
 
-// A ball as it is, reversed, and less itself; and balls with a plane.
+// A ball as it is, reversed, and less itself.
 fn balls() {
     ball_alone(b"a ball", [2, 2, 2, 2], &[512]);
     ball_alone(b"reversed", [2, 2, 2, 2], &[1, 512, 4]);
     ball_alone(b"less itself", [2, 2, 2, 2], &[512, 512, 4]);
+}
+
+// Balls with a plane.
+fn balls_and_planes() {
     ball_and_plane(b"a ball while it stays", [2, 0, 0, 0, -1], [512, 256, 3]);
     ball_and_plane(b"a ball or after", [-3, 0, 0, 0, 1], [512, 256, 2]);
 }
@@ -537,6 +542,10 @@ fn merged_balls() {
         &[512, 512, 4],
         2,
     );
+}
+
+// A ball beside a wall.
+fn merged_beside() {
     merged_two_in(
         b"a ball beside a wall",
         universe(3, 3, 2),
@@ -593,60 +602,33 @@ fn merged_largest(label: &[u8], words: &[u16]) {
 
 // The most words whose codes few places hold, and two more, in the largest universe.
 fn merged_codes() {
-    merged_largest(
-        b"few codes",
-        &[
-            256,
-            256,
-            2,
-            256,
-            2,
-            256,
-            2,
-            256,
-            2,
-            256,
-            2,
-            256,
-            2,
-            256,
-            2,
-            256,
-            2,
-            256,
-            2,
-            256,
-            2,
-        ],
-    );
-    merged_largest(
-        b"more codes",
-        &[
-            256,
-            256,
-            2,
-            256,
-            2,
-            256,
-            2,
-            256,
-            2,
-            256,
-            2,
-            256,
-            2,
-            256,
-            2,
-            256,
-            2,
-            256,
-            2,
-            256,
-            2,
-            256,
-            2,
-        ],
-    );
+    let more: [u16; 23] = [
+        256,
+        256,
+        2,
+        256,
+        2,
+        256,
+        2,
+        256,
+        2,
+        256,
+        2,
+        256,
+        2,
+        256,
+        2,
+        256,
+        2,
+        256,
+        2,
+        256,
+        2,
+        256,
+        2,
+    ];
+    merged_largest(b"few codes", &more[..21]);
+    merged_largest(b"more codes", &more);
 }
 
 // Each number with a fault behind it.
@@ -692,6 +674,7 @@ fn merged() {
     merged_axes();
     merged_planes();
     merged_balls();
+    merged_beside();
     merged_rooms();
     merged_at_once();
     merged_codes();
@@ -704,6 +687,7 @@ fn main() {
     windows();
     planes();
     balls();
+    balls_and_planes();
     axes();
     refused_surfaces();
     refused_trees();

@@ -224,16 +224,21 @@ fn axes() {
     plane_alone(b"four axes", universe(4, 2, 2), [-9, 2, 2, 2, 0]);
 }
 
-// A plane less itself, which raw expressions show, and balls.
+// A plane less itself, which raw expressions show, and a ball.
 fn surfaces() {
+    let none: &[i64] = &[];
     one(
         b"less itself",
         universe(3, 3, 3),
         &[-9, 2, 2, 2, 0],
-        &[],
+        none,
         &[256, 256, 4],
     );
-    one(b"a ball", universe(4, 2, 2), &[], &[2, 2, 2, 2], &[512]);
+    one(b"a ball", universe(4, 2, 2), none, &[2, 2, 2, 2], &[512]);
+}
+
+// A ball beside a wall.
+fn beside() {
     two(
         b"a ball beside a wall",
         universe(3, 3, 2),
@@ -326,6 +331,7 @@ pub(crate) fn rooms() {
     levels();
     axes();
     surfaces();
+    beside();
     codes();
     refused_surfaces();
     refused_trees();

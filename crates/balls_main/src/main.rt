@@ -109,20 +109,28 @@ fn limits() {
     limit(b"one axis", 1, 1, 0, 0, 0);
 }
 
-// Each number in its order, words at both sides of those that name a ball, and 64 balls and 65.
+// Each number in its order.
 fn orders() {
-    refusal(b"the universe first", universe(5, 1, 1), &[0], &[]);
-    refusal(b"not in fours", universe(2, 1, 1), &[0], &[]);
+    let torn: &[i64] = &[0];
+    let none: &[u16] = &[];
+    refusal(b"the universe first", universe(5, 1, 1), torn, none);
+    refusal(b"not in fours", universe(2, 1, 1), torn, none);
     refusal(b"the trees after", universe(2, 1, 1), &[], &[512]);
+}
+
+// Words at both sides of those that name a ball, and 64 balls and 65.
+fn counts() {
+    let most: &[i64] = &[0; 256];
+    let last: &[u16] = &[575];
     refusal(
         b"an index past the balls",
         universe(2, 1, 1),
         &[0; 252],
-        &[575],
+        last,
     );
-    refusal(b"64 balls", universe(2, 1, 1), &[0; 256], &[575]);
-    refusal(b"576 names none", universe(2, 1, 1), &[0; 256], &[576]);
-    refusal(b"65 balls", universe(2, 1, 1), &[0; 260], &[575]);
+    refusal(b"64 balls", universe(2, 1, 1), most, last);
+    refusal(b"576 names none", universe(2, 1, 1), most, &[576]);
+    refusal(b"65 balls", universe(2, 1, 1), &[0; 260], last);
 }
 
 // The verdict of two trees over all frames, with its number and the raw length.
@@ -156,22 +164,15 @@ fn verdict(label: &[u8], rows: &[i64], balls: &[i64], first: &[u16], second: &[u
     say(b"\n");
 }
 
+// Two heads.
+fn heads(label: &[u8], balls: [i64; 8]) {
+    verdict(label, &[], &balls, &[512], &[513]);
+}
+
 // Two heads, and a head before a wall that comes nearer.
 fn verdicts() {
-    verdict(
-        b"heads apart",
-        &[],
-        &[1, 1, 0, 1, 3, 3, 0, 1],
-        &[512],
-        &[513],
-    );
-    verdict(
-        b"heads that meet",
-        &[],
-        &[1, 1, 0, 2, 3, 3, 0, 2],
-        &[512],
-        &[513],
-    );
+    heads(b"heads apart", [1, 1, 0, 1, 3, 3, 0, 1]);
+    heads(b"heads that meet", [1, 1, 0, 2, 3, 3, 0, 2]);
     verdict(
         b"a wall that comes",
         &[-4, 1, 0, 1, 0],
@@ -189,5 +190,6 @@ fn main() {
     trees(&[512, 512, 4]);
     limits();
     orders();
+    counts();
     verdicts();
 }

@@ -142,11 +142,17 @@ fn readings() {
     questions(b"(W(W(B(BW", &[1, 1, 1, 0]);
     questions(b"(BB", &[]);
     questions(b"(BB", &[2]);
-    questions(b"", &[]);
-    questions(b"(B", &[]);
-    questions(b"BB", &[]);
-    questions(b"B", &[0, 1, 0, 1]);
-    questions(b"B", &[0, 1, 0, 1, 0]);
+}
+
+// Expressions that are refused, and paths of as many steps as there are levels and one more.
+fn refused_readings() {
+    let root: &[u8] = &[];
+    let black: &[u8] = b"B";
+    questions(b"", root);
+    questions(b"(B", root);
+    questions(b"BB", root);
+    questions(black, &[0, 1, 0, 1]);
+    questions(black, &[0, 1, 0, 1, 0]);
 }
 
 // The numbers of an expression over a window, on a line.
@@ -186,56 +192,80 @@ fn framed(bits: u64, frame_bits: u64, expression: &[u8], first_frame: u64, last_
     over(universe, expression, first_frame, last_frame);
 }
 
-// Frames without space and space without frames, used-up axes passed over, and the last of 4,096 frames.
+// Frames without space and space without frames, and used-up axes passed over.
 fn long_shots() {
-    framed(0, 2, b"(W(WB", 0, 3);
-    framed(2, 0, b"(W(WB", 0, 0);
-    framed(2, 0, b"(W(WB", 0, 1);
-    framed(1, 2, b"(((BWW(B(BW", 0, 3);
-    framed(1, 2, b"(((BWW(B(BW", 3, 3);
+    let last: &[u8] = b"(W(WB";
+    let slope: &[u8] = b"(((BWW(B(BW";
+    framed(0, 2, last, 0, 3);
+    framed(2, 0, last, 0, 0);
+    framed(2, 0, last, 0, 1);
+    framed(1, 2, slope, 0, 3);
+    framed(1, 2, slope, 3, 3);
     framed(1, 2, b"(((BWW(B((BWW", 0, 3);
     framed(2, 1, b"((B(WBB", 1, 1);
-    framed(10, 12, b"B", 4_095, 4_095);
-    framed(10, 12, b"B", 0, 4_096);
-    framed(10, 13, b"B", 0, 0);
+}
+
+// The last of 4,096 frames, and universes that are refused.
+fn longest() {
+    let black: &[u8] = b"B";
+    framed(10, 12, black, 4_095, 4_095);
+    framed(10, 12, black, 0, 4_096);
+    framed(10, 13, black, 0, 0);
     over(
         Universe {
             axes: 1,
             bits: 1,
             frame_bits: 1,
         },
-        b"B",
+        black,
         0,
         0,
     );
 }
 
-// Windows at both ends, one with no black voxel, no bits, one axis, the most voxels; then 2, 7 and 9, each with another
-// fault behind it.
+// Windows at both ends, and one with no black voxel.
 fn windows() {
-    equal(2, 2, b"(((W(BWW(B((BWB", 0, 3);
-    equal(2, 2, b"(((W(BWW(B((BWB", 0, 0);
-    equal(2, 2, b"(((W(BWW(B((BWB", 3, 3);
+    let slopes: &[u8] = b"(((W(BWW(B((BWB";
+    let corner: &[u8] = b"(W(W(B(BW";
+    equal(2, 2, slopes, 0, 3);
+    equal(2, 2, slopes, 0, 0);
+    equal(2, 2, slopes, 3, 3);
     equal(2, 2, b"(W(W((BB(BW", 3, 3);
-    equal(2, 2, b"(W(W(B(BW", 2, 2);
-    equal(2, 2, b"(W(W(B(BW", 0, 1);
-    equal(4, 0, b"B", 0, 0);
+    equal(2, 2, corner, 2, 2);
+    equal(2, 2, corner, 0, 1);
+}
+
+// No bits, one axis, the most voxels.
+fn edges() {
+    let black: &[u8] = b"B";
+    let frames: &[u8] = b"((WBB";
+    equal(4, 0, black, 0, 0);
     equal(4, 0, b"W", 0, 0);
-    equal(1, 2, b"((WBB", 0, 3);
-    equal(1, 2, b"((WBB", 0, 0);
-    equal(4, 10, b"B", 1_023, 1_023);
-    equal(5, 2, b"(B", 2, 1);
-    equal(2, 11, b"B", 2, 1);
-    equal(2, 2, b"(B", 2, 1);
+    equal(1, 2, frames, 0, 3);
+    equal(1, 2, frames, 0, 0);
+    equal(4, 10, black, 1_023, 1_023);
+}
+
+// 2, 7 and 9, each with another fault behind it.
+fn refusals() {
+    let black: &[u8] = b"B";
+    let half: &[u8] = b"(B";
+    equal(5, 2, half, 2, 1);
+    equal(2, 11, black, 2, 1);
+    equal(2, 2, half, 2, 1);
     equal(2, 2, b"BB", 0, 4);
-    equal(2, 2, b"B", 2, 1);
-    equal(2, 2, b"B", 0, 4);
-    equal(4, 0, b"B", 0, 1);
+    equal(2, 2, black, 2, 1);
+    equal(2, 2, black, 0, 4);
+    equal(4, 0, black, 0, 1);
 }
 
 fn main() {
     readings();
+    refused_readings();
     windows();
+    edges();
+    refusals();
     long_shots();
+    longest();
     readers();
 }

@@ -55,40 +55,30 @@ fn square(label: &[u8], expressions: &[u8], first_frame: u64, last_frame: u64, c
     over(label, 2, 2, expressions, first_frame, last_frame, counts);
 }
 
-// Lists of no expression, of as many as there may be and one more, of the program's scene, and of two that differ.
+// The same over every frame, in a row that fits.
+fn whole(label: &[u8], expressions: &[u8]) {
+    square(label, expressions, 0, 3, &mut [9; FRAMES]);
+}
+
+// One frame of one voxel.
+fn voxel(label: &[u8], expressions: &[u8]) {
+    over(label, 1, 0, expressions, 0, 0, &mut [9; 1]);
+}
+
+// Lists of no expression, of as many as there may be and one more.
 fn lists() {
-    square(b"the empty list", b"", 0, 3, &mut [9; FRAMES]);
-    over(b"256 of one symbol", 1, 0, &[b'B'; 256], 0, 0, &mut [9; 1]);
-    over(b"257 of one symbol", 1, 0, &[b'B'; 257], 0, 0, &mut [9; 1]);
-    square(b"the scene", b"(W(((WBW((BWW", 0, 3, &mut [9; FRAMES]);
-    square(
-        b"the scene twice",
-        b"(W(((WBW((BWW(W(((WBW((BWW",
-        0,
-        3,
-        &mut [9; FRAMES],
-    );
-    square(
-        b"the scene and a slope",
-        b"(W(((WBW((BWW(((W(BWW(B((BWB",
-        0,
-        3,
-        &mut [9; FRAMES],
-    );
-    square(
-        b"rubbish behind the scene",
-        b"(W(((WBW((BWW)",
-        0,
-        3,
-        &mut [9; FRAMES],
-    );
-    square(
-        b"half a tree behind the scene",
-        b"(W(((WBW((BWW(W",
-        0,
-        3,
-        &mut [9; FRAMES],
-    );
+    whole(b"the empty list", b"");
+    voxel(b"256 of one symbol", &[b'B'; 256]);
+    voxel(b"257 of one symbol", &[b'B'; 257]);
+}
+
+// Lists of the program's scene, and of two that differ; the most voxels.
+fn scenes() {
+    whole(b"the scene", b"(W(((WBW((BWW");
+    whole(b"the scene twice", b"(W(((WBW((BWW(W(((WBW((BWW");
+    whole(b"the scene and a slope", b"(W(((WBW((BWW(((W(BWW(B((BWB");
+    whole(b"rubbish behind the scene", b"(W(((WBW((BWW)");
+    whole(b"half a tree behind the scene", b"(W(((WBW((BWW(W");
     over(
         b"the most voxels",
         4,
@@ -118,29 +108,62 @@ fn most() {
     say(b"\n");
 }
 
-// One frame at each end and two inside; a row that fits, one place short and one too long.
-fn windows() {
-    square(b"a slope", b"(((W(BWW(B((BWB", 0, 0, &mut [9; 1]);
-    square(b"a slope", b"(((W(BWW(B((BWB", 3, 3, &mut [9; 1]);
-    square(b"a slope", b"(((W(BWW(B((BWB", 1, 2, &mut [9; 2]);
-    square(b"a slope", b"(((W(BWW(B((BWB", 0, 3, &mut [9; FRAMES - 1]);
-    square(b"a slope", b"(((W(BWW(B((BWB", 0, 3, &mut [9; FRAMES]);
-    square(b"a slope", b"(((W(BWW(B((BWB", 0, 3, &mut [9; FRAMES + 1]);
+// A slope over a window in the row lent.
+fn slope(first_frame: u64, last_frame: u64, counts: &mut [u64]) {
+    square(
+        b"a slope",
+        b"(((W(BWW(B((BWB",
+        first_frame,
+        last_frame,
+        counts,
+    );
 }
 
-// 2, 7, 9 and 6, each with another fault behind it; the empty list has them too.
+// One frame at each end and two inside; a row that fits, one place short and one too long.
+fn windows() {
+    slope(0, 0, &mut [9; 1]);
+    slope(3, 3, &mut [9; 1]);
+    slope(1, 2, &mut [9; 2]);
+    slope(0, 3, &mut [9; FRAMES - 1]);
+    slope(0, 3, &mut [9; FRAMES]);
+    slope(0, 3, &mut [9; FRAMES + 1]);
+}
+
+// A report where no row is lent.
+fn rowless(label: &[u8], axes: u64, expressions: &[u8], first_frame: u64, last_frame: u64) {
+    over(
+        label,
+        axes,
+        2,
+        expressions,
+        first_frame,
+        last_frame,
+        &mut [9; 0],
+    );
+}
+
+// 2, 7 and 9, each with another fault behind it.
 fn refusals() {
-    over(b"five axes", 5, 2, b"(B", 2, 1, &mut [9; 0]);
-    square(b"half a tree", b"(B", 2, 1, &mut [9; 0]);
-    square(b"a frame too many", b"B", 0, 4, &mut [9; 0]);
-    over(b"the empty list", 5, 2, b"", 2, 1, &mut [9; 0]);
-    square(b"the empty list", b"", 2, 1, &mut [9; 0]);
-    square(b"the empty list", b"", 0, 3, &mut [9; 0]);
+    let half: &[u8] = b"(B";
+    rowless(b"five axes", 5, half, 2, 1);
+    rowless(b"half a tree", 2, half, 2, 1);
+    rowless(b"a frame too many", 2, b"B", 0, 4);
+}
+
+// The empty list has 2 and 9 too, and 6.
+fn refused_lists() {
+    let label: &[u8] = b"the empty list";
+    let none: &[u8] = b"";
+    rowless(label, 5, none, 2, 1);
+    rowless(label, 2, none, 2, 1);
+    rowless(label, 2, none, 0, 3);
 }
 
 fn main() {
     lists();
+    scenes();
     most();
     windows();
     refusals();
+    refused_lists();
 }
