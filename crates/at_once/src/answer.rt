@@ -7,7 +7,7 @@ ghost use Rattle.at_once.specs.Contacts.{refused_contacts, done_contacts};
 use bintree::{Contact, Verdict};
 
 // What a verdict at once answers. Read the refusal first: a refused verdict is Clear.
-#[derive(Drop)]
+#[derive(Clone, Copy)]
 pub struct Judged {
     pub refusal: u64,
     pub verdict: Verdict,
@@ -36,14 +36,14 @@ impl Judged {
 }
 
 // Clear, or the first and the last frame of the window that hold a black voxel.
-#[derive(Drop)]
+#[derive(Clone, Copy)]
 pub enum Span {
     Clear,
     Hit(u64, u64),
 }
 
 // What the question for a verdict's ends answers. Read the refusal first: a refused one is Clear.
-#[derive(Drop)]
+#[derive(Clone, Copy)]
 pub struct Spanned {
     pub refusal: u64,
     pub span: Span,
@@ -74,7 +74,7 @@ impl Spanned {
 // What the question for sure and possible contact answers: the voxels of the window over whose own block the trees'
 // intersection is BLACK, those that are black at their centre, and those over whose own block it is not WHITE. Read the
 // refusal first.
-#[derive(Drop)]
+#[derive(Clone, Copy)]
 pub struct Contacts {
     pub refusal: u64,
     pub sure: u64,

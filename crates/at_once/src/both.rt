@@ -29,7 +29,7 @@ use crate::word::{
 use universe::Universe;
 
 // The word of the low half, and that of the high half.
-#[derive(Drop)]
+#[derive(Clone, Copy)]
 pub(crate) struct Both {
     pub below: u64,
     pub above: u64,

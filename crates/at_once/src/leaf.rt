@@ -17,7 +17,7 @@ use crate::moves::amount;
 use universe::Universe;
 
 // The least and the greatest value of a halfspace over a block.
-#[derive(Drop)]
+#[derive(Clone, Copy)]
 struct Extremes {
     least: i64,
     greatest: i64,

@@ -17,7 +17,7 @@ use crate::window::frames_word;
 use universe::Universe;
 
 // How many voxels are sure, black at their centre, and possible.
-#[derive(Drop)]
+#[derive(Clone, Copy)]
 pub(crate) struct Tally {
     pub sure: u64,
     pub centre: u64,

@@ -37,7 +37,7 @@ use crate::word::{
 use universe::Universe;
 
 // The three words.
-#[derive(Drop)]
+#[derive(Clone, Copy)]
 pub(crate) struct Three {
     pub sure: u64,
     pub centre: u64,

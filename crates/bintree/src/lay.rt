@@ -12,7 +12,7 @@ use universe::{Universe, refusals};
 
 // What laying one merged tree tells: the place after the tree, the symbol of a merged tree that is one leaf (it waits
 // for its brother) or else 0 (all is written), and the place after the merged tree; or that there is no tree.
-#[derive(Drop)]
+#[derive(Clone, Copy)]
 pub(crate) enum Laid {
     Done(usize, u8, usize),
     Unread,

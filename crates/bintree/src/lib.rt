@@ -19,7 +19,7 @@ pub use walk::{tree_end, well_formed};
 pub use window::numbers_of;
 
 // The two colours of a voxel.
-#[derive(Drop)]
+#[derive(Clone, Copy)]
 pub enum Colour {
     White,
     Black,
@@ -27,7 +27,7 @@ pub enum Colour {
 
 // What a Hit tells: the first and the last frame of the window that hold a black voxel, and how many black voxels
 // the window holds.
-#[derive(Drop)]
+#[derive(Clone, Copy)]
 pub struct Contact {
     pub first: u64,
     pub last: u64,
@@ -35,7 +35,7 @@ pub struct Contact {
 }
 
 // Whether two shapes share space in a window.
-#[derive(Drop)]
+#[derive(Clone, Copy)]
 pub enum Verdict {
     Clear,
     Hit(Contact),
@@ -43,7 +43,7 @@ pub enum Verdict {
 
 // What a call answers that writes into lent room: 0 and the length written, 6 and the length needed, or another
 // refusal and 0.
-#[derive(Drop)]
+#[derive(Clone, Copy)]
 pub struct Written {
     pub refusal: u64,
     pub length: u64,
@@ -83,7 +83,7 @@ impl Written {
 
 // What `merge` answers: 0, the length written and the largest count of symbols that are held back; 6, the length needed
 // and 0; or another refusal, 0 and 0.
-#[derive(Drop)]
+#[derive(Clone, Copy)]
 pub struct Merged {
     pub refusal: u64,
     pub length: u64,
@@ -123,7 +123,7 @@ impl Merged {
 }
 
 // What `colour_at` answers: a refusal and White, or 0 and the colour.
-#[derive(Drop)]
+#[derive(Clone, Copy)]
 pub struct Coloured {
     pub refusal: u64,
     pub colour: Colour,
@@ -150,7 +150,7 @@ impl Coloured {
 }
 
 // What `part_place` answers: a refusal, 0 and 0, or 0 and where the part starts and how many symbols it has.
-#[derive(Drop)]
+#[derive(Clone, Copy)]
 pub struct Placed {
     pub refusal: u64,
     pub start: u64,
@@ -181,7 +181,7 @@ impl Placed {
 
 // What `numbers_of` answers: a refusal, 0 and Clear, or 0, the black voxels of the whole universe and the verdict over
 // the window.
-#[derive(Drop)]
+#[derive(Clone, Copy)]
 pub struct Numbers {
     pub refusal: u64,
     pub volume: u64,

@@ -10,7 +10,7 @@ use crate::window::greater;
 
 // What measuring one tree tells: the place after it, the symbol of a merged tree that is one leaf or else 0, the merged
 // tree's length, and the largest count so far, after all of its symbols but the last; or that there is no tree.
-#[derive(Drop)]
+#[derive(Clone, Copy)]
 pub(crate) enum Measured {
     Whole(usize, u8, usize, u64),
     Broken,

@@ -11,7 +11,7 @@ use universe::{Universe, refusals};
 
 // What following a path in one tree tells: the place after the tree, where the part stands and its length, or that
 // there is no tree.
-#[derive(Drop)]
+#[derive(Clone, Copy)]
 pub(crate) enum Traced {
     Led(usize, usize, usize),
     Lost,

@@ -10,7 +10,7 @@ ghost use Rattle.bintree.specs.Walks.{walked, tree_end};
 use universe::{Universe, refusals};
 
 // What a walk over one tree tells: the place after the tree, or that there is no tree.
-#[derive(Drop)]
+#[derive(Clone, Copy)]
 pub(crate) enum Walked {
     Past(usize),
     Nowhere,

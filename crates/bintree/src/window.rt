@@ -11,7 +11,7 @@ use crate::{Contact, Numbers, Verdict};
 use universe::{Universe, refusals};
 
 // A window of a universe's frames, both ends in.
-#[derive(Drop)]
+#[derive(Clone, Copy)]
 pub(crate) struct Window {
     pub(crate) universe: Universe,
     pub(crate) first: u64,
@@ -20,7 +20,7 @@ pub(crate) struct Window {
 
 // What a walk over one tree tells: the place after the tree, its volume and its contact with the window, or that there
 // is no tree.
-#[derive(Drop)]
+#[derive(Clone, Copy)]
 pub(crate) enum Watched {
     Until(usize, u64, Contact),
     Nothing,

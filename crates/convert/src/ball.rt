@@ -13,7 +13,7 @@ use universe::Universe;
 
 // The squares of the distances to the nearest and to the farthest point of a block along one place axis, and that to
 // the centre of the voxel that begins where the block does, less a quarter.
-#[derive(Drop)]
+#[derive(Clone, Copy)]
 pub(crate) struct Squares {
     pub near: u64,
     pub far: u64,

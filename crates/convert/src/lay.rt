@@ -29,7 +29,7 @@ use universe::Universe;
 
 // What laying a block's shape comes to: the symbol of a shape that is one leaf, which is held back, or else 0; and the
 // place past what is written or held back.
-#[derive(Drop)]
+#[derive(Clone, Copy)]
 pub(crate) struct Piece {
     pub held: u8,
     pub end: usize,

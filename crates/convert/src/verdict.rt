@@ -11,7 +11,7 @@ use universe::Universe;
 
 // What a verdict of two trees answers. Read the refusal first: a refused verdict is Clear. The length is the raw
 // expression's, written, or needed on 6.
-#[derive(Drop)]
+#[derive(Clone, Copy)]
 pub struct Clearance {
     pub refusal: u64,
     pub verdict: Verdict,

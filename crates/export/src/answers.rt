@@ -9,7 +9,7 @@ use at_once::Span;
 use universe::Universe;
 
 // The ends of a verdict as three numbers: hit (0 Clear, 1 Hit), first frame, last frame.
-#[derive(Drop)]
+#[derive(Clone, Copy)]
 pub(crate) struct Ends {
     pub(crate) hit: u64,
     pub(crate) first: u64,

@@ -11,7 +11,7 @@ use bintree::Verdict;
 use universe::Universe;
 
 // A verdict as four numbers: hit (0 Clear, 1 Hit), first frame, last frame, voxels.
-#[derive(Drop)]
+#[derive(Clone, Copy)]
 pub(crate) struct Told {
     pub(crate) hit: u64,
     pub(crate) first: u64,

@@ -13,7 +13,7 @@ pub use shape_file::{read_shape, write_shape};
 use universe::{Universe, refusals};
 
 // How many rows and balls a scene has, and how many words each of its trees.
-#[derive(Drop)]
+#[derive(Clone, Copy)]
 pub struct Counts {
     pub rows: u64,
     pub balls: u64,
@@ -22,14 +22,14 @@ pub struct Counts {
 }
 
 // A window of frames, both ends in.
-#[derive(Drop)]
+#[derive(Clone, Copy)]
 pub struct Window {
     pub first: u64,
     pub last: u64,
 }
 
 // What reading a scene answers: 0 and what the scene says, or a refusal and zeros.
-#[derive(Drop)]
+#[derive(Clone, Copy)]
 pub struct Scene {
     pub refusal: u64,
     pub version: u64,
@@ -62,7 +62,7 @@ impl Scene {
 }
 
 // Where the parts of a scene file begin.
-#[derive(Drop)]
+#[derive(Clone, Copy)]
 pub struct Places {
     pub rows: usize,
     pub balls: usize,
@@ -71,7 +71,7 @@ pub struct Places {
 }
 
 // What the header of a scene file says: the scene, or 1 and zeros, and the places of what follows it.
-#[derive(Drop)]
+#[derive(Clone, Copy)]
 pub struct SceneHeader {
     pub scene: Scene,
     pub places: Places,
@@ -79,7 +79,7 @@ pub struct SceneHeader {
 
 // What reading a shape file answers: 0, its universe and the number of its symbols; 6 and the number of its symbols; or
 // another refusal and zeros.
-#[derive(Drop)]
+#[derive(Clone, Copy)]
 pub struct ShapeRead {
     pub refusal: u64,
     pub universe: Universe,
@@ -119,7 +119,7 @@ impl ShapeRead {
 }
 
 // What the header of a shape file says: the shape, or 1 and zeros, and where its symbols begin.
-#[derive(Drop)]
+#[derive(Clone, Copy)]
 pub struct ShapeHeader {
     pub shape: ShapeRead,
     pub place: usize,

@@ -28,7 +28,7 @@ const CUBE_AXES: u64 = 3;
 
 // What laying a part comes to: the symbol that is held back, or 0; the place past what was read; and the place past
 // what is written or held back.
-#[derive(Drop)]
+#[derive(Clone, Copy)]
 pub(crate) struct Piece {
     pub held: u8,
     pub next: usize,

@@ -6,7 +6,7 @@ use universe::refusals;
 
 // 0, the length written and the nodes looked at; 6, and what is needed, nodes of work room where `short_of_work` and
 // else symbols; or another refusal. With a refusal no nodes were looked at.
-#[derive(Drop)]
+#[derive(Clone, Copy)]
 pub struct Conversion {
     pub refusal: u64,
     pub short_of_work: bool,

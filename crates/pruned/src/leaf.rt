@@ -26,7 +26,7 @@ use crate::marks::{BLACK_BIT, WHITE_BIT, side_code, tested_code, turned_code};
 use universe::Universe;
 
 // The least and the greatest value of a halfspace over a block.
-#[derive(Drop)]
+#[derive(Clone, Copy)]
 pub(crate) struct Extremes {
     pub least: i64,
     pub greatest: i64,
@@ -116,7 +116,7 @@ pub(crate) fn extremes_code(centre: bool, least: i64, greatest: i64) -> u8
 }
 
 // A leaf's node judged: its code, and its values over the block.
-#[derive(Drop)]
+#[derive(Clone, Copy)]
 pub(crate) struct Judged {
     pub code: u8,
     pub least: i64,

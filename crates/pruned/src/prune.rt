@@ -73,7 +73,7 @@ fn whole_mark(codes: &[u8; MOST_SHAPES], pending: usize) -> u8
 }
 
 // What pruning comes to: the mark's bits, and how many nodes are kept.
-#[derive(Drop)]
+#[derive(Clone, Copy)]
 pub(crate) struct Kept {
     pub mark: u8,
     pub nodes: usize,

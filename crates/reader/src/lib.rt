@@ -8,7 +8,7 @@ use bintree::well_formed;
 use universe::Universe;
 
 // What a reader answers: a symbol of the expression, or that there is none at its place.
-#[derive(Drop)]
+#[derive(Clone, Copy)]
 pub enum Symbol {
     Halved,
     Black,
@@ -17,7 +17,7 @@ pub enum Symbol {
 }
 
 // A lent expression and a place in it.
-#[derive(Drop)]
+#[derive(Clone, Copy)]
 pub struct Reader<'a> {
     pub expression: &'a [u8],
     pub place: usize,

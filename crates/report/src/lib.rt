@@ -11,7 +11,7 @@ pub use list::MOST_EXPRESSIONS;
 
 // What `report_of` answers: 0, how many places of the row were set and the total of all counts, 6, how many are needed
 // and 0, or another refusal and zeros.
-#[derive(Drop)]
+#[derive(Clone, Copy)]
 pub struct Report {
     pub refusal: u64,
     pub frames: u64,

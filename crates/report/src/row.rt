@@ -23,7 +23,7 @@ ghost use Rattle.report.specs.Filling.{
 use universe::Universe;
 
 // A window of a universe's frames, both ends in.
-#[derive(Drop)]
+#[derive(Clone, Copy)]
 pub(crate) struct Window {
     pub(crate) universe: Universe,
     pub(crate) first: u64,

@@ -11,7 +11,7 @@ ghost use Rattle.standin.specs.Held.{Limited, negated_numbers};
 use universe::Universe;
 
 // A corner, a normal or a displacement.
-#[derive(Drop)]
+#[derive(Clone, Copy)]
 pub struct Triple {
     pub x: f64,
     pub y: f64,
@@ -19,28 +19,28 @@ pub struct Triple {
 }
 
 // The two corners of a Box.
-#[derive(Drop)]
+#[derive(Clone, Copy)]
 pub struct Corners {
     pub near: Triple,
     pub far: Triple,
 }
 
 // The normal and the offset of a Cut.
-#[derive(Drop)]
+#[derive(Clone, Copy)]
 pub struct Plane {
     pub normal: Triple,
     pub offset: f64,
 }
 
 // A Box between its corners, or a Cut, which holds where n·x + c ≥ 0.
-#[derive(Drop)]
+#[derive(Clone, Copy)]
 pub enum Solid {
     Box(Corners),
     Cut(Plane),
 }
 
 // A solid, and its displacement per frame.
-#[derive(Drop)]
+#[derive(Clone, Copy)]
 pub struct Proxy {
     pub solid: Solid,
     pub displacement: Triple,
@@ -55,7 +55,7 @@ impl Proxy {
 }
 
 // Three numbers in sixteenths.
-#[derive(Drop)]
+#[derive(Clone, Copy)]
 pub struct Numbers {
     pub x: i64,
     pub y: i64,
@@ -63,21 +63,21 @@ pub struct Numbers {
 }
 
 // A triple in sixteenths; zeros where not all three are taken.
-#[derive(Drop)]
+#[derive(Clone, Copy)]
 pub struct ScaledTriple {
     pub taken: bool,
     pub numbers: Numbers,
 }
 
 // One number in sixteenths; 0 where it is not taken.
-#[derive(Drop)]
+#[derive(Clone, Copy)]
 struct Scaled {
     taken: bool,
     count: i64,
 }
 
 // A Box and a Cut in sixteenths, each with its displacement.
-#[derive(Drop)]
+#[derive(Clone, Copy)]
 struct ScaledBox {
     taken: bool,
     near: Numbers,
@@ -85,7 +85,7 @@ struct ScaledBox {
     displacement: Numbers,
 }
 
-#[derive(Drop)]
+#[derive(Clone, Copy)]
 struct ScaledCut {
     taken: bool,
     normal: Numbers,

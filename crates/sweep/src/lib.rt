@@ -20,7 +20,7 @@ const MOST_PLACES: usize = (Universe::MOST_AXES as usize - 1) * (1 << Universe::
 
 // What a sweep answers: 0, the universe of what is written and its length; 6, three zeros and the length needed; or
 // another refusal and zeros.
-#[derive(Drop)]
+#[derive(Clone, Copy)]
 pub struct Swept {
     pub refusal: u64,
     pub universe: Universe,

@@ -12,7 +12,7 @@ pub use room::RoomAnswer;
 
 // Axes, the bits of each but the last, and those of the last, which counts frames: any numbers; `refusal` says whether
 // they are a universe's.
-#[derive(Drop)]
+#[derive(Clone, Copy)]
 pub struct Universe {
     pub axes: u64,
     pub bits: u64,
@@ -20,7 +20,7 @@ pub struct Universe {
 }
 
 // A block: its universe, how many halvings gave it, and its least place along each axis.
-#[derive(Drop)]
+#[derive(Clone, Copy)]
 pub struct Block {
     pub universe: Universe,
     pub level: u64,
@@ -28,7 +28,7 @@ pub struct Block {
 }
 
 // Both halves of one block.
-#[derive(Drop)]
+#[derive(Clone, Copy)]
 pub struct Halves {
     pub low: Block,
     pub high: Block,

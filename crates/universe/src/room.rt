@@ -7,7 +7,7 @@ ghost use Rattle.universe.specs.Room.{count_of, room, room_answer, FewBlocks};
 use crate::Universe;
 
 // What the room question answers: 0 and room in symbols, or 2 and 0.
-#[derive(Drop)]
+#[derive(Clone, Copy)]
 pub struct RoomAnswer {
     pub refusal: u64,
     pub symbols: u64,
