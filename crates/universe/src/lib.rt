@@ -1,4 +1,6 @@
 // The universe of space and time, and its blocks.
+#![tactic(auto)]
+
 mod order;
 pub mod refusals;
 mod room;

@@ -35,14 +35,14 @@ module _ (b : Block) (asked : (universe_refusal b.universe ≡ 0) × (b.level < 
 
 ruleset standing = (rules, some, enough, place_few, stands)
 
-pub axis-spec : {M : Type 1} → statement M
-axis-spec =
+pub axis_spec : {M : Type 1} → statement M
+axis_spec =
     tie.close
     (tie.spec
     (λ c κs. search standing)
     (λ c κs. search standing)
     (λ c. search standing)
     (λ c. search standing)
-    (λ c. omega (arith, place_few c.before.before.before.args.self c.before.before.before.requires c.before.levels.ensures))
+    (λ c. omega (arith, place_few c.args.self c.requires c.levels.ensures))
     (λ c. search standing)
     (λ c. search standing))

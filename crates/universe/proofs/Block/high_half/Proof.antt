@@ -53,23 +53,23 @@ module _ (b : Block) {r : Bool} (e : r ≡ (is_given b && ltb b.level (levels b.
       halved : at_level b (b.level + 1) (set b.low x (low_along b x + s)) ≡ high_half b
       halved = ap₂ (at_level b) (add-one b.level) (ap₂ (set b.low) f place) ∙ sym (halved_is b (sym e ∙ t)).1
 
-pub high-half-spec : {M : Type 1} → statement M
-high-half-spec =
+pub high_half_spec : {M : Type 1} → statement M
+high_half_spec =
     tie.close
     (tie.spec
     (λ c κs. tt)
-    (λ c κs. axis_asked _ c.before.is-halved.ensures c.if1.true)
-    (λ c. omega (arith, in_array _ c.before.before.is-halved.ensures c.before.if1.true c.axis.ensures))
-    (λ c. in_array _ c.before.before.is-halved.ensures c.before.if1.true c.axis.ensures)
-    (λ c. omega (arith, level_few _ c.before.before.before.before.is-halved.ensures c.before.before.before.if1.true))
-    (λ c κs. let k = c.before.before in asked _ k.before.before.is-halved.ensures k.before.if1.true k.axis.ensures)
+    (λ c κs. axis_asked _ c.is_halved.ensures c.if-is_halved.true)
+    (λ c. omega (arith, in_array _ c.is_halved.ensures c.if-is_halved.true c.axis-axis.ensures))
+    (λ c. in_array _ c.is_halved.ensures c.if-is_halved.true c.axis-axis.ensures)
+    (λ c. omega (arith, level_few _ c.is_halved.ensures c.if-is_halved.true))
+    (λ c κs. let k = c in asked _ k.is_halved.ensures k.if-is_halved.true k.axis-axis.ensures)
     (λ c.
-    let k = c.before.before.before in
-    place_fits _ k.before.before.is-halved.ensures k.before.if1.true k.axis.ensures c.block-side.ensures)
-    (λ c. let k = c.before.before.before in omega (arith, in_array _ k.before.before.is-halved.ensures k.before.if1.true k.axis.ensures))
-    (λ c. let k = c.before.before.before in in_array _ k.before.before.is-halved.ensures k.before.if1.true k.axis.ensures)
-    (λ c. let k = c.before.before.before in omega (arith, level_few _ k.before.before.is-halved.ensures k.before.if1.true))
+    let k = c in
+    place_fits _ k.is_halved.ensures k.if-is_halved.true k.axis-axis.ensures c.block_side.ensures)
+    (λ c. let k = c in omega (arith, in_array _ k.is_halved.ensures k.if-is_halved.true k.axis-axis.ensures))
+    (λ c. let k = c in in_array _ k.is_halved.ensures k.if-is_halved.true k.axis-axis.ensures)
+    (λ c. let k = c in omega (arith, level_few _ k.is_halved.ensures k.if-is_halved.true))
     (λ c.
-    let k = c.before.before.before in
-    halved _ k.before.before.is-halved.ensures k.before.if1.true k.axis.ensures c.block-side.ensures)
-    (λ c. itself _ c.before.is-halved.ensures c.if1.false))
+    let k = c in
+    halved _ k.is_halved.ensures k.if-is_halved.true k.axis-axis.ensures c.block_side.ensures)
+    (λ c. itself _ c.is_halved.ensures c.if-is_halved.false))

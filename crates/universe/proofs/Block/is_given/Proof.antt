@@ -1,10 +1,10 @@
 -- `Block::is_given` gives is_given. The loop's invariant: along each axis passed the block is placed. The measure is the axes left.
 use mathlib.Core.Path.{◌≡◌, sym, ◌∙◌}
-use mathlib.Core.Bool.{Bool, true, false, not}
+use mathlib.Core.Bool.{Bool, true, false}
 use Prim.Native.Nat.{ℕ, ◌-◌, ◌≤◌, ◌<◌}
 use native.Mathlib.Omega.{arith}
 use borrow.Author.Count.{below_none, below_more}
-use borrow.Author.Tests.{ne_eqb, eq-eqb, le-leb, lt-leb, not-true, not-false}
+use borrow.Author.Tests.{ne_eqb, eq-eqb, le-leb, lt-leb}
 use borrow.Author.Rules.{rules}
 use Rattle.lemmas.proofs.Sums.{and_both, and_false, all_every, one_not_every}
 use Rattle.universe.specs.declared.Block.{Block}
@@ -42,19 +42,16 @@ module _ (b : Block) where
       let test = and_both (eq-eqb (universe_refusal b.universe) 0 (omega arith)) (le-leb b.level (levels b.universe) (omega arith)) in
       sym (and_both test (all_every most_axes (placed_along b) (λ k h. all k (omega arith))))
 
-abbrev invariant-loop : tie.invariant-loop
+abbrev invariant-loop : tie.invariant-loop-axis
 invariant-loop self axis₀ axis = (axis ≤ most_axes) × ((k : ℕ) → k < axis → placed_along self k ≡ true)
 
-abbrev decreases-loop : tie.decreases-loop
+abbrev decreases-loop : tie.decreases-loop-axis
 decreases-loop self axis₀ axis = most_axes - axis
 
 ruleset giving = (rules, refused, too_deep, given)
 
-elsewhere_not : (b : Block) (i : ℕ) {r : Bool} → i < most_axes → r ≡ placed_along b i → not r ≡ true → false ≡ is_given b
-elsewhere_not b i h e f = elsewhere b i h e (not-true _ f)
-
-pub is-given-spec : {M : Type 1} → statement M
-is-given-spec =
+pub is_given_spec : {M : Type 1} → statement M
+is_given_spec =
     tie.close
     (tie.spec
     invariant-loop
@@ -65,11 +62,11 @@ is-given-spec =
     (λ c. search giving)
     (λ c. (search rules, below_none _))
     (λ c κs.
-    let k = c.before.before.before.before in
-    let r = k.before.before in
-    asked r.before.args.self r.refusal.ensures k.before.if1.false k.levels.ensures c.before.before.if2.false c.loop-test.true)
-    (λ c. search (rules, elsewhere_not))
+    let k = c in
+    let r = k in
+    asked r.args.self r.refusal.ensures k.if-refusal-ne0.false k.levels.ensures c.if-levels-self.false c.loop-axis-test.true)
+    (λ c. search (rules, elsewhere))
     (λ c. search giving)
     (λ c. search giving)
-    (λ c. (search rules, below_more _ _ c.before.before.before.loop.invariant.1 (sym c.before.is-placed.ensures ∙ not-false _ c.if3.false)))
+    (λ c. (search rules, below_more _ _ c.loop-axis.invariant.1 (sym c.is_placed.ensures ∙ c.if-not-is_placed.false)))
     (λ c. search giving))

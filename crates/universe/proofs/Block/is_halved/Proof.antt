@@ -26,5 +26,5 @@ module _ (b : Block) {r : Bool} (e : r ≡ is_given b) where
 
 ruleset halving = (rules, above, other)
 
-pub is-halved-spec : {M : Type 1} → statement M
-is-halved-spec = tie.close (tie.spec (λ c κs. search halving) (λ c κs. search halving) (λ c. search halving) (λ c. search halving))
+pub is_halved_spec : {M : Type 1} → statement M
+is_halved_spec = tie.close (tie.spec (λ c κs. search halving) (λ c κs. search halving) (λ c. search halving) (λ c. search halving))

@@ -23,37 +23,37 @@ module _ (b : Block) (i : ℕ) where
       → ltb (low_along b i) t ≡ placed_along b i
   along l e m f = rw (lt-ltb i b.universe.axes l, ← e, eq-eqb _ _ m, f, side_first b.universe i)
 
-mul_low : tie.Need-overflow-mul-low
+mul_low : tie.Need-offset_bounds-self-axis
 mul_low c = search rules
 
-element-copy-out-low : tie.Need-element-copy-out-low
+element-copy-out-low : tie.Need-bounds-self-axis
 element-copy-out-low c = search rules
 
-returns : tie.Need-returns
-returns c = beyond c.before.before.args.t1 _ c.if1.true
+returns : tie.Need-returns-then-self-axis
+returns c = beyond c.args.self _ c.if-self-axis.true
 
-block-side-requires : tie.Need-block-side-requires
+block-side-requires : tie.Need-block_side-requires
 block-side-requires c κs = search rules
 
-rem-if2 : tie.Need-nonzero-rem-if2
-rem-if2 c = rw c.block-side.ensures (side_positive _ _ _)
+rem-if2 : tie.Need-nonzero_rem-low
+rem-if2 c = rw c.block_side.ensures (side_positive _ _ _)
 
-returns-2 : tie.Need-returns-2
+returns-2 : tie.Need-returns-then-low-block_side-ne0
 returns-2 c =
-    let k = c.before.before.before in
-    between k.before.before.args.t1 _ k.if1.false c.before.block-side.ensures c.if2.true
+    let k = c in
+    between k.args.self _ k.if-self-axis.false c.block_side.ensures c.if-low-block_side-ne0.true
 
-block-side-requires-2 : tie.Need-block-side-requires-2
+block-side-requires-2 : tie.Need-block_side-requires-2
 block-side-requires-2 c κs = search rules
 
-returns-3 : tie.Need-returns-3
+returns-3 : tie.Need-returns
 returns-3 c =
-    let k = c.before.before.before in
-    let j = k.before.before in
-    along j.before.before.args.t1 _ j.if1.false k.block-side.ensures c.before.before.if2.false c.block-side2.ensures
+    let k = c in
+    let j = k in
+    along j.args.self _ j.if-self-axis.false k.block_side.ensures c.if-low-block_side-ne0.false c.block_side-2.ensures
 
-pub is-placed-spec : {M : Type 1} → statement M
-is-placed-spec =
+pub is_placed_spec : {M : Type 1} → statement M
+is_placed_spec =
     tie.close
     (tie.spec
     mul_low

@@ -26,17 +26,17 @@ module _ (b : Block) {r : Bool} (e : r ≡ (is_given b && ltb b.level (levels b.
   itself : r ≡ false → b ≡ low_half b
   itself t = sym (stays_is b (sym e ∙ t)).0
 
-is-halved-requires : tie.Need-is-halved-requires
+is-halved-requires : tie.Need-is_halved-requires
 is-halved-requires c κs = tt
 
-add_half : tie.Need-overflow-add-half
-add_half c = record { fits = fits _ c.before.before.is-halved.ensures c.before.if1.true }
+add_half : tie.Need-overflow_add-half
+add_half c = record { fits = fits _ c.is_halved.ensures c.if-is_halved.true }
 
-returns : tie.Need-returns
-returns c = halved _ c.before.before.is-halved.ensures c.before.if1.true
+returns : tie.Need-returns-then-is_halved
+returns c = halved _ c.is_halved.ensures c.if-is_halved.true
 
-returns-2 : tie.Need-returns-2
-returns-2 c = itself _ c.before.is-halved.ensures c.if1.false
+returns-2 : tie.Need-returns-else-is_halved
+returns-2 c = itself _ c.is_halved.ensures c.if-is_halved.false
 
-pub low-half-spec : {M : Type 1} → statement M
-low-half-spec = tie.close (tie.spec is-halved-requires add_half returns returns-2)
+pub low_half_spec : {M : Type 1} → statement M
+low_half_spec = tie.close (tie.spec is-halved-requires add_half returns returns-2)

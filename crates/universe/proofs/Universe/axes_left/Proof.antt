@@ -1,17 +1,17 @@
 -- `Universe::axes_left` gives axes_left. The loop's invariant, `Laying`: the axes of the rounds passed stand at their places from the end on.
-use mathlib.Core.Logic.{⊎_elim}
 use Rattle.universe.proofs.Laying.{Laying, steps_left, laying, laying_here, laying_passed, round_falls, axis_falls}
 use Rattle.universe.proofs.Universe.axes_left.Statement.{statement}
+use Rattle.universe.proofs.Universe.axes_left.Lts.{then-round-axis_bits, else-round-axis_bits}
 use Rattle.universe.proofs.Universe.axes_left.Tie as tie
 
-abbrev invariant-loop : tie.invariant-loop
+abbrev invariant-loop : tie.invariant-loop-left
 invariant-loop self axes₀ left₀ round₀ axis₀ axes left round axis = Laying self axes left round axis
 
-abbrev decreases-loop : tie.decreases-loop
+abbrev decreases-loop : tie.decreases-loop-left
 decreases-loop self axes₀ left₀ round₀ axis₀ axes left round axis = steps_left round axis
 
-pub axes-left-spec : {M : Type 1} → statement M
-axes-left-spec =
+pub axes_left_spec : {M : Type 1} → statement M
+axes_left_spec =
     tie.close
     (tie.spec
     invariant-loop
@@ -21,17 +21,20 @@ axes-left-spec =
     (λ c κs. search laying)
     (λ c. search laying)
     (λ c. search laying)
-    (λ c. round_falls c.before.before.before.loop.invariant c.before.before.loop-test.true)
+    (λ c. round_falls c.loop-left.invariant c.loop-left-test.true)
     (λ c. search laying)
     (λ c κs. search laying)
     (λ c. search laying)
     (λ c. search laying)
     (λ c. search laying)
     (λ c. search laying)
-    (λ c. axis_falls c.before.before.before.before.before.loop.invariant c.before.before.before.before.loop-test.true)
+    (λ c. axis_falls c.loop-left.invariant c.loop-left-test.true)
     (λ c.
-    let s = c.before.before.before.before.before.loop.invariant in
-    let n = c.before.before.if2.false in
-    let e = c.before.axis-bits.ensures in
-    ⊎_elim (λ w. rw (w.1, w.2) (laying_here s n e w.0.taken)) (λ w. rw (w.1, w.2) (laying_passed s n e w.0.left)) c.if3.branch)
+    let s = c.loop-left.invariant in
+    let n = c.if-axis-self.false in
+    let e = c.axis_bits.ensures in
+    elim c.if-round-axis_bits.branch [
+      | then-round-axis_bits w ↦ rw (w.axes-is, w.left-is) (laying_here s n e w.if-round-axis_bits.true)
+      | else-round-axis_bits w ↦ rw (w.axes-is, w.left-is) (laying_passed s n e w.if-round-axis_bits.false)
+    ])
     (λ c. search laying))

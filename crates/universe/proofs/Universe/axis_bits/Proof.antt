@@ -23,5 +23,5 @@ module _ (u : Universe) {i : ℕ} where
 
 ruleset telling = (rules, some_axes, last, other)
 
-pub axis-bits-spec : {M : Type 1} → statement M
-axis-bits-spec = tie.close (tie.spec (λ c. search telling) (λ c. search telling) (λ c. search telling))
+pub axis_bits_spec : {M : Type 1} → statement M
+axis_bits_spec = tie.close (tie.spec (λ c. search telling) (λ c. search telling) (λ c. search telling))

@@ -6,7 +6,7 @@ use Rattle.universe.proofs.Universe.bits_along.Tie as tie
 
 ruleset telling = (rules, bits_refused, bits_beyond, bits_told)
 
-pub bits-along-spec : {M : Type 1} → statement M
-bits-along-spec =
+pub bits_along_spec : {M : Type 1} → statement M
+bits_along_spec =
     tie.close
     (tie.spec (λ c κs. search telling) (λ c. search telling) (λ c. search telling) (λ c κs. search telling) (λ c. search telling))

@@ -2,7 +2,6 @@
 -- halvings that goes across the axis.
 use mathlib.Core.Path.{◌≡◌, refl, sym, ap, ◌∙◌}
 use mathlib.Core.Bool.{cond}
-use mathlib.Core.Logic.{⊎_elim}
 use mathlib.Core.List.{List}
 use Prim.Native.Nat.{ℕ, zero, suc, ◌+◌, ◌-◌, ◌*◌, ◌^◌, ◌≤◌, ◌<◌}
 use native.Mathlib.Omega.{arith}
@@ -22,6 +21,7 @@ use Rattle.universe.specs.Questions.{levels_answer, axes_left}
 use Rattle.universe.proofs.Universes.{accepted, levels_few, some_axes, side_last, side_halved, side_kept}
 use Rattle.universe.proofs.Questions.{levels_told, axes_left_at}
 use Rattle.universe.proofs.Universe.block_side.Statement.{statement}
+use Rattle.universe.proofs.Universe.block_side.Lts.{then-axes-n, else-axes-n}
 use Rattle.universe.proofs.Universe.block_side.Tie as tie
 
 -- 1, doubled for each of the first n places that names the axis
@@ -106,31 +106,34 @@ module _ {axes : List ℕ} {axis left side n : ℕ} (d : Doubling axes axis left
 
 ruleset doubling = (rules, enough, doubling_first, doubling_all, place_few, doubled_fits, doubling_here, doubling_other)
 
-abbrev invariant-loop : tie.invariant-loop
+abbrev invariant-loop : tie.invariant-loop-n
 invariant-loop level axis axes left side₀ n₀ side n = Doubling axes axis left side n
 
-abbrev decreases-loop : tie.decreases-loop
+abbrev decreases-loop : tie.decreases-loop-n
 decreases-loop level axis axes left side₀ n₀ side n = left - n
 
-pub block-side-spec : {M : Type 1} → statement M
-block-side-spec =
+pub block_side_spec : {M : Type 1} → statement M
+block_side_spec =
     tie.close
     (tie.spec
     invariant-loop
     decreases-loop
     (λ c κs. search doubling)
     (λ c κs. search doubling)
-    (λ c. enough _ _ _ c.before.before.requires c.levels.ensures)
-    (λ c. doubling_first _ _ _ c.before.before.requires c.levels.ensures _)
-    (λ c. omega (arith, place_few c.before.loop.invariant c.loop-test.true))
+    (λ c. enough _ _ _ c.requires c.levels.ensures)
+    (λ c. doubling_first _ _ _ c.requires c.levels.ensures _)
+    (λ c. omega (arith, place_few c.loop-n.invariant c.loop-n-test.true))
     (λ c. search doubling)
     (λ c. search doubling)
     (λ c. search doubling)
     (λ c. search doubling)
     (λ c.
-    let d = c.before.before.loop.invariant in
-    let h = c.before.loop-test.true in
-    ⊎_elim (λ w. rw w.1 (doubling_here d h w.0.taken)) (λ w. rw w.1 (doubling_other d h w.0.left)) c.if1.branch)
+    let d = c.loop-n.invariant in
+    let h = c.loop-n-test.true in
+    elim c.if-axes-n.branch [
+      | then-axes-n w ↦ rw w.side-is (doubling_here d h w.if-axes-n.true)
+      | else-axes-n w ↦ rw w.side-is (doubling_other d h w.if-axes-n.false)
+    ])
     (λ c.
-    let k = c.before.before.before in
-    doubling_all _ _ _ k.before.requires c.before.before.levels.ensures k.axes-left.ensures c.before.loop.invariant c.loop-test.false))
+    let k = c in
+    doubling_all _ _ _ k.requires c.levels.ensures k.axes_left-axes.ensures c.loop-n.invariant c.loop-n-test.false))

@@ -46,14 +46,14 @@ more_fits {u} a h e = omega (arith, few (added_next a h e), levels_few u (accept
 
 ruleset adding = (rules, added_first, added_next, added_all, more_fits, levels_refused)
 
-abbrev invariant-loop : tie.invariant-loop
+abbrev invariant-loop : tie.invariant-loop-axis
 invariant-loop self levels₀ axis₀ levels axis = Added self levels axis
 
-abbrev decreases-loop : tie.decreases-loop
+abbrev decreases-loop : tie.decreases-loop-axis
 decreases-loop self levels₀ axis₀ levels axis = self.axes - axis
 
-pub levels-spec : {M : Type 1} → statement M
-levels-spec =
+pub levels_spec : {M : Type 1} → statement M
+levels_spec =
     tie.close
     (tie.spec
     invariant-loop

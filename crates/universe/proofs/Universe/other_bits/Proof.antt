@@ -3,5 +3,5 @@ use Rattle.universe.proofs.Questions.{without_laws}
 use Rattle.universe.proofs.Universe.other_bits.Statement.{statement}
 use Rattle.universe.proofs.Universe.other_bits.Tie as tie
 
-pub other-bits-spec : {M : Type 1} → statement M
-other-bits-spec = tie.close (tie.spec (λ c. search without_laws) (λ c. search without_laws))
+pub other_bits_spec : {M : Type 1} → statement M
+other_bits_spec = tie.close (tie.spec (λ c. search without_laws) (λ c. search without_laws))

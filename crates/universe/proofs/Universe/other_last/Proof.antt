@@ -3,5 +3,5 @@ use Rattle.universe.proofs.Questions.{without_laws}
 use Rattle.universe.proofs.Universe.other_last.Statement.{statement}
 use Rattle.universe.proofs.Universe.other_last.Tie as tie
 
-pub other-last-spec : {M : Type 1} → statement M
-other-last-spec = tie.close (tie.spec (λ c. search without_laws) (λ c. search without_laws) (λ c. search without_laws) (λ c. search without_laws))
+pub other_last_spec : {M : Type 1} → statement M
+other_last_spec = tie.close (tie.spec (λ c. search without_laws) (λ c. search without_laws) (λ c. search without_laws) (λ c. search without_laws))

@@ -35,8 +35,8 @@ module _ (u : Universe) where
 
 ruleset telling = (rules, no_axes, many_axes, many_bits, many_frame_bits, in_range)
 
-pub refusal-spec : {M : Type 1} → statement M
-refusal-spec =
+pub refusal_spec : {M : Type 1} → statement M
+refusal_spec =
     tie.close
     (tie.spec
     (λ c. search telling)

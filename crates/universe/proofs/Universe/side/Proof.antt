@@ -21,8 +21,8 @@ module _ (u : Universe) {r : ℕ} (e : r ≡ universe_refusal u) (z : r ≡ 0) (
 
 ruleset telling = (rules, side_refused, side_beyond, shifts, shifted)
 
-pub side-spec : {M : Type 1} → statement M
-side-spec =
+pub side_spec : {M : Type 1} → statement M
+side_spec =
     tie.close
     (tie.spec
     (λ c κs. search telling)

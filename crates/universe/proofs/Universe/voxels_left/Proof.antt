@@ -7,10 +7,10 @@ use Rattle.universe.proofs.Questions.{voxels_are, voxels_beyond}
 use Rattle.universe.proofs.Universe.voxels_left.Statement.{statement}
 use Rattle.universe.proofs.Universe.voxels_left.Tie as tie
 
-pub voxels-left-spec : {M : Type 1} → statement M
-voxels-left-spec =
+pub voxels_left_spec : {M : Type 1} → statement M
+voxels_left_spec =
     tie.close
     (tie.spec
-    (λ c. voxels_beyond _ c.if1.true)
+    (λ c. voxels_beyond _ c.if-left-gt-MOST_LEVELS.true)
     (λ c. search rules)
-    (λ c. shifted_one c.before.args.left (omega arith) ∙ sym (voxels_are c.before.args.left c.if1.false)))
+    (λ c. shifted_one c.args.left (omega arith) ∙ sym (voxels_are c.args.left c.if-left-gt-MOST_LEVELS.false)))

@@ -42,8 +42,8 @@ module _ (u : Universe) (first last : ℕ) where
 
 ruleset telling = (rules, turned, every_frame, before_end, past_end)
 
-pub window-refusal-spec : {M : Type 1} → statement M
-window-refusal-spec =
+pub window_refusal_spec : {M : Type 1} → statement M
+window_refusal_spec =
     tie.close
     (tie.spec
     (λ c. search telling)

@@ -3,8 +3,8 @@ use Rattle.universe.proofs.Questions.{without_laws}
 use Rattle.universe.proofs.Universe.without_axis.Statement.{statement}
 use Rattle.universe.proofs.Universe.without_axis.Tie as tie
 
-pub without-axis-spec : {M : Type 1} → statement M
-without-axis-spec =
+pub without_axis_spec : {M : Type 1} → statement M
+without_axis_spec =
     tie.close
     (tie.spec
     (λ c κs. search without_laws)

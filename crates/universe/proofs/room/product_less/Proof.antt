@@ -9,44 +9,44 @@ use Rattle.universe.proofs.Levels.{factor_less, product_next, product_fits}
 use Rattle.universe.proofs.room.product_less.Statement.{statement}
 use Rattle.universe.proofs.room.product_less.Tie as tie
 
-abbrev invariant-loop : tie.invariant-loop
+abbrev invariant-loop : tie.invariant-loop-axis
 invariant-loop axes less blocks found₀ axis₀ found axis = (axis ≤ axes) × (found ≡ product axis (λ i. get_or blocks i 0 - less))
 
-abbrev decreases-loop : tie.decreases-loop
+abbrev decreases-loop : tie.decreases-loop-axis
 decreases-loop axes less blocks found₀ axis₀ found axis = axes - axis
 
-loop-holds : tie.Need-loop-init invariant-loop decreases-loop
+loop-holds : tie.Need-loop-axis-init invariant-loop decreases-loop
 unfolding product
 loop-holds c = (search rules, refl)
 
-mul-found : tie.Need-overflow-mul-found invariant-loop decreases-loop
+mul-found : tie.Need-offset_bounds-blocks-axis invariant-loop decreases-loop
 mul-found c = search rules
 
-array-read-found : tie.Need-array-read-found invariant-loop decreases-loop
+array-read-found : tie.Need-bounds-blocks-axis invariant-loop decreases-loop
 array-read-found c = search rules
 
-sub-found : tie.Need-overflow-sub-found invariant-loop decreases-loop
+sub-found : tie.Need-overflow_sub-found invariant-loop decreases-loop
 sub-found c = search (rules, factor_less)
 
-mul-found-2 : tie.Need-overflow-mul-found-2 invariant-loop decreases-loop
+mul-found-2 : tie.Need-overflow_mul-found invariant-loop decreases-loop
 mul-found-2 c = search (rules, product_fits)
 
-add-axis : tie.Need-overflow-add-axis invariant-loop decreases-loop
+add-axis : tie.Need-overflow_add-axis invariant-loop decreases-loop
 add-axis c = search rules
 
-loop-less : tie.Need-loop-smaller invariant-loop decreases-loop
+loop-less : tie.Need-loop-axis-smaller invariant-loop decreases-loop
 loop-less c = search rules
 
-loop-again : tie.Need-loop-preserved invariant-loop decreases-loop
-loop-again c = (search rules, product_next c.before.loop.axis _ _ c.before.loop.invariant.1)
+loop-again : tie.Need-loop-axis-preserved invariant-loop decreases-loop
+loop-again c = (search rules, product_next c.loop-axis.axis _ _ c.loop-axis.invariant.1)
 
 returns : tie.Need-returns invariant-loop decreases-loop
 returns c =
-    let all : c.before.loop.axis ≡ c.before.before.args.axes = omega arith in
-    rw all at c.before.loop.invariant.1
+    let all : c.loop-axis.axis ≡ c.args.axes = omega arith in
+    rw all at c.loop-axis.invariant.1
 
-pub product-less-spec : {M : Type 1} → statement M
-product-less-spec =
+pub product_less_spec : {M : Type 1} → statement M
+product_less_spec =
     tie.close
     (tie.spec
     invariant-loop
