@@ -1,4 +1,6 @@
 // Expressions: what their symbols say.
+#![tactic(auto)]
+
 mod lay;
 mod measure;
 mod place;

@@ -21,8 +21,8 @@ lay_at t = and 2 lay-kinds.ps (is 2 lay-kinds.ps μ_lay t) lay.Pre
 abbrev lay_below : ℕ → In 2 lay-kinds.ps
 lay_below t = and 2 lay-kinds.ps (falls 2 lay-kinds.ps ◌<◌ μ_lay t) lay.Pre
 
-pub +lay-spec : {M : Type 1} → statement M
-+lay-spec = close μ_lay λ t. lay-lts.spec (
+pub +lay_spec : {M : Type 1} → statement M
++lay_spec = close μ_lay λ t. lay-lts.spec (
   lay_below t,
   lay.Post,
   is-alike-reads.Asked,

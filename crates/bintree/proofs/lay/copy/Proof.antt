@@ -5,10 +5,10 @@ use Rattle.bintree.proofs.Lays.{copy_laws}
 use Rattle.bintree.proofs.lay.copy.Statement.{statement}
 use Rattle.bintree.proofs.lay.copy.Tie as tie
 
-abbrev invariant-loop : tie.invariant-loop
+abbrev invariant-loop : tie.invariant-loop-i
 invariant-loop symbols out₀ at room count i₀ out i = Copying symbols out₀ at count i out
 
-abbrev decreases-loop : tie.decreases-loop
+abbrev decreases-loop : tie.decreases-loop-i
 decreases-loop symbols out₀ at room count i₀ out i = count - i
 
 pub copy_spec : {M : Type 1} → statement M

@@ -3,5 +3,5 @@ use Rattle.bintree.proofs.Lays.{note_laws}
 use Rattle.bintree.proofs.lay.is_alike.Statement.{statement}
 use Rattle.bintree.proofs.lay.is_alike.Tie as tie
 
-pub is-alike-spec : {M : Type 1} → statement M
-is-alike-spec = tie.close (tie.spec (λ c. search note_laws) (λ c. search note_laws))
+pub is_alike_spec : {M : Type 1} → statement M
+is_alike_spec = tie.close (tie.spec (λ c. search note_laws) (λ c. search note_laws))

@@ -12,8 +12,8 @@ use Rattle.bintree.proofs.measure.measure.Reads as measure-reads
 use Rattle.universe.proofs.Universe.levels.Reads as levels-reads
 use Rattle.universe.proofs.Universe.refusal.Reads as refusal-reads
 
-pub merge-spec : {M : Type 1} → statement M
-merge-spec =
+pub merge_spec : {M : Type 1} → statement M
+merge_spec =
     tie.close
     (tie.spec
     (λ c κs. search merge_laws)

@@ -3,5 +3,5 @@ use Rattle.bintree.proofs.Lays.{note_laws}
 use Rattle.bintree.proofs.lay.note.Statement.{statement}
 use Rattle.bintree.proofs.lay.note.Tie as tie
 
-pub note-spec : {M : Type 1} → statement M
-note-spec = tie.close (tie.spec (λ c. search note_laws) (λ c. search note_laws) (λ c. search note_laws) (λ c. search note_laws) (λ c. search note_laws))
+pub note_spec : {M : Type 1} → statement M
+note_spec = tie.close (tie.spec (λ c. search note_laws) (λ c. search note_laws) (λ c. search note_laws) (λ c. search note_laws) (λ c. search note_laws))

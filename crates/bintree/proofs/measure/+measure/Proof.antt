@@ -23,8 +23,8 @@ measure_at t = and 1 measure-kinds.ps (is 1 measure-kinds.ps μ_measure t) measu
 abbrev measure_below : ℕ → In 1 measure-kinds.ps
 measure_below t = and 1 measure-kinds.ps (falls 1 measure-kinds.ps ◌<◌ μ_measure t) measure.Pre
 
-pub +measure-spec : {M : Type 1} → statement M
-+measure-spec = close μ_measure λ t. measure-lts.spec (
+pub +measure_spec : {M : Type 1} → statement M
++measure_spec = close μ_measure λ t. measure-lts.spec (
   counted-reads.Asked,
   counted-reads.Learnt,
   measure_below t,

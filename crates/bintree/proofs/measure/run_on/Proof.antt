@@ -3,5 +3,5 @@ use Rattle.bintree.proofs.Measures.{run_laws}
 use Rattle.bintree.proofs.measure.run_on.Statement.{statement}
 use Rattle.bintree.proofs.measure.run_on.Tie as tie
 
-pub run-on-spec : {M : Type 1} → statement M
-run-on-spec = tie.close (tie.spec (λ c. search run_laws) (λ c. search run_laws) (λ c. search run_laws))
+pub run_on_spec : {M : Type 1} → statement M
+run_on_spec = tie.close (tie.spec (λ c. search run_laws) (λ c. search run_laws) (λ c. search run_laws))

@@ -21,8 +21,8 @@ trace_at t = and 2 trace-kinds.ps (is 2 trace-kinds.ps μ_trace t) trace.Pre
 abbrev trace_below : ℕ → In 2 trace-kinds.ps
 trace_below t = and 2 trace-kinds.ps (falls 2 trace-kinds.ps ◌<◌ μ_trace t) trace.Pre
 
-pub +trace-spec : {M : Type 1} → statement M
-+trace-spec = close μ_trace λ t. trace-lts.spec (
+pub +trace_spec : {M : Type 1} → statement M
++trace_spec = close μ_trace λ t. trace-lts.spec (
   all-reads.Asked,
   all-reads.Learnt,
   trace_below t,

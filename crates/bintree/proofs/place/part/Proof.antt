@@ -4,12 +4,12 @@ use Rattle.bintree.proofs.Places.{cut_within, part_laws}
 use Rattle.bintree.proofs.place.part.Statement.{statement}
 use Rattle.bintree.proofs.place.part.Tie as tie
 
-pub part-spec : {M : Type 1} → statement M
-part-spec =
+pub part_spec : {M : Type 1} → statement M
+part_spec =
     tie.close
     (tie.spec
     (λ c κs. search part_laws)
-    (λ c. omega (arith, cut_within _ _ _ _ c.part-place.ensures))
+    (λ c. omega (arith, cut_within _ _ _ _ c.part_place-placed.ensures))
     (λ c. search part_laws)
     (λ c. search part_laws)
     (λ c. search part_laws)

@@ -4,8 +4,8 @@ use Rattle.bintree.proofs.Places.{place_laws}
 use Rattle.bintree.proofs.place.part_place.Statement.{statement}
 use Rattle.bintree.proofs.place.part_place.Tie as tie
 
-pub part-place-spec : {M : Type 1} → statement M
-part-place-spec =
+pub part_place_spec : {M : Type 1} → statement M
+part_place_spec =
     tie.close
     (tie.spec
     (λ c κs. search place_laws)

@@ -3,5 +3,5 @@ use Rattle.bintree.proofs.Places.{place_laws}
 use Rattle.bintree.proofs.place.part_refusal.Statement.{statement}
 use Rattle.bintree.proofs.place.part_refusal.Tie as tie
 
-pub part-refusal-spec : {M : Type 1} → statement M
-part-refusal-spec = tie.close (tie.spec (λ c κs. search place_laws) (λ c. search place_laws))
+pub part_refusal_spec : {M : Type 1} → statement M
+part_refusal_spec = tie.close (tie.spec (λ c κs. search place_laws) (λ c. search place_laws))

@@ -5,14 +5,14 @@ use Rattle.bintree.proofs.Places.{Halves, path_refusal_laws}
 use Rattle.bintree.proofs.place.path_refusal.Statement.{statement}
 use Rattle.bintree.proofs.place.path_refusal.Tie as tie
 
-abbrev invariant-loop : tie.invariant-loop
+abbrev invariant-loop : tie.invariant-loop-step
 invariant-loop path step₀ step = Halves path step
 
-abbrev decreases-loop : tie.decreases-loop
+abbrev decreases-loop : tie.decreases-loop-step
 decreases-loop path step₀ step = length path - step
 
-pub path-refusal-spec : {M : Type 1} → statement M
-path-refusal-spec =
+pub path_refusal_spec : {M : Type 1} → statement M
+path_refusal_spec =
     tie.close
     (tie.spec
     invariant-loop

@@ -4,8 +4,8 @@ use Rattle.bintree.proofs.Voxels.{colour_laws}
 use Rattle.bintree.proofs.voxel.colour_at.Statement.{statement}
 use Rattle.bintree.proofs.voxel.colour_at.Tie as tie
 
-pub colour-at-spec : {M : Type 1} → statement M
-colour-at-spec =
+pub colour_at_spec : {M : Type 1} → statement M
+colour_at_spec =
     tie.close
     (tie.spec
     (λ c κs. search colour_laws)

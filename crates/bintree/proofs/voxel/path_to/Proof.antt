@@ -5,14 +5,14 @@ use Rattle.bintree.proofs.Voxels.{Leads, leading_laws}
 use Rattle.bintree.proofs.voxel.path_to.Statement.{statement}
 use Rattle.bintree.proofs.voxel.path_to.Tie as tie
 
-abbrev invariant-loop : tie.invariant-loop
+abbrev invariant-loop : tie.invariant-loop-left
 invariant-loop axes levels path₀ rest₀ left₀ path rest left = Leads axes levels rest₀ path rest left
 
-abbrev decreases-loop : tie.decreases-loop
+abbrev decreases-loop : tie.decreases-loop-left
 decreases-loop axes levels path₀ rest₀ left₀ path rest left = levels - left
 
-pub path-to-spec : {M : Type 1} → statement M
-path-to-spec =
+pub path_to_spec : {M : Type 1} → statement M
+path_to_spec =
     tie.close
     (tie.spec
     invariant-loop

@@ -3,6 +3,6 @@ use Rattle.bintree.proofs.Voxels.{voxel_laws}
 use Rattle.bintree.proofs.voxel.voxel_answer.Statement.{statement}
 use Rattle.bintree.proofs.voxel.voxel_answer.Tie as tie
 
-pub voxel-answer-spec : {M : Type 1} → statement M
-voxel-answer-spec =
+pub voxel_answer_spec : {M : Type 1} → statement M
+voxel_answer_spec =
     tie.close (tie.spec (λ c κs. search voxel_laws) (λ c κs. search voxel_laws) (λ c. search voxel_laws) (λ c κs. search voxel_laws) (λ c. search voxel_laws))

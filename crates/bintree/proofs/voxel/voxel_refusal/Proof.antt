@@ -5,14 +5,14 @@ use Rattle.universe.specs.Universe.{most_axes}
 use Rattle.bintree.proofs.voxel.voxel_refusal.Statement.{statement}
 use Rattle.bintree.proofs.voxel.voxel_refusal.Tie as tie
 
-abbrev invariant-loop : tie.invariant-loop
+abbrev invariant-loop : tie.invariant-loop-axis
 invariant-loop universe voxel axis₀ axis = Inside universe voxel axis
 
-abbrev decreases-loop : tie.decreases-loop
+abbrev decreases-loop : tie.decreases-loop-axis
 decreases-loop universe voxel axis₀ axis = most_axes - axis
 
-pub voxel-refusal-spec : {M : Type 1} → statement M
-voxel-refusal-spec =
+pub voxel_refusal_spec : {M : Type 1} → statement M
+voxel_refusal_spec =
     tie.close
     (tie.spec
     invariant-loop

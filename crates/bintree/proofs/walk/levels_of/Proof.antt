@@ -5,5 +5,5 @@ use lib.Count.{trailing_le}
 use Rattle.bintree.proofs.walk.levels_of.Statement.{statement}
 use Rattle.bintree.proofs.walk.levels_of.Tie as tie
 
-pub levels-of-spec : {M : Type 1} → statement M
-levels-of-spec = tie.close (tie.spec (λ c. omega (arith, trailing_le 64 c.args.owed)) (λ c. search rules))
+pub levels_of_spec : {M : Type 1} → statement M
+levels_of_spec = tie.close (tie.spec (λ c. omega (arith, trailing_le 64 c.args.owed)) (λ c. search rules))

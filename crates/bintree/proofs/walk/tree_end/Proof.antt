@@ -3,8 +3,8 @@ use Rattle.bintree.proofs.Walks.{end_laws}
 use Rattle.bintree.proofs.walk.tree_end.Statement.{statement}
 use Rattle.bintree.proofs.walk.tree_end.Tie as tie
 
-pub tree-end-spec : {M : Type 1} → statement M
-tree-end-spec =
+pub tree_end_spec : {M : Type 1} → statement M
+tree_end_spec =
     tie.close
     (tie.spec
     (λ c κs. search end_laws)

@@ -7,8 +7,8 @@ use Rattle.bintree.proofs.walk.walk.Reads as walk-reads
 use Rattle.universe.proofs.Universe.levels.Reads as levels-reads
 use Rattle.universe.proofs.Universe.refusal.Reads as refusal-reads
 
-pub well-formed-spec : {M : Type 1} → statement M
-well-formed-spec =
+pub well_formed_spec : {M : Type 1} → statement M
+well_formed_spec =
     tie.close
     (tie.spec
     (λ c κs. search formed_laws)

@@ -5,14 +5,14 @@ use Rattle.bintree.proofs.Frames.{Tabled, table_laws}
 use Rattle.bintree.proofs.window.frame_bits.Statement.{statement}
 use Rattle.bintree.proofs.window.frame_bits.Tie as tie
 
-abbrev invariant-loop : tie.invariant-loop
+abbrev invariant-loop : tie.invariant-loop-left
 invariant-loop universe axes levels table₀ left₀ table left = Tabled universe table left
 
-abbrev decreases-loop : tie.decreases-loop
+abbrev decreases-loop : tie.decreases-loop-left
 decreases-loop universe axes levels table₀ left₀ table left = levels - left
 
-pub frame-bits-spec : {M : Type 1} → statement M
-frame-bits-spec =
+pub frame_bits_spec : {M : Type 1} → statement M
+frame_bits_spec =
     tie.close
     (tie.spec
     invariant-loop

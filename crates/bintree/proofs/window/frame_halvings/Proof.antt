@@ -3,5 +3,5 @@ use Rattle.bintree.proofs.Frames.{halving_laws}
 use Rattle.bintree.proofs.window.frame_halvings.Statement.{statement}
 use Rattle.bintree.proofs.window.frame_halvings.Tie as tie
 
-pub frame-halvings-spec : {M : Type 1} → statement M
-frame-halvings-spec = tie.close (tie.spec (λ c. search halving_laws) (λ c. search halving_laws) (λ c. search halving_laws))
+pub frame_halvings_spec : {M : Type 1} → statement M
+frame_halvings_spec = tie.close (tie.spec (λ c. search halving_laws) (λ c. search halving_laws) (λ c. search halving_laws))

@@ -6,14 +6,14 @@ use Rattle.bintree.proofs.window.later_frames.Statement.{statement}
 use Rattle.bintree.proofs.window.later_frames.Tie as tie
 use Rattle.universe.proofs.Universe.levels.Reads as levels-reads
 
-abbrev invariant-loop : tie.invariant-loop
+abbrev invariant-loop : tie.invariant-loop-left
 invariant-loop bits levels table₀ left₀ table left = Later bits table levels left
 
-abbrev decreases-loop : tie.decreases-loop
+abbrev decreases-loop : tie.decreases-loop-left
 decreases-loop bits levels table₀ left₀ table left = levels - left
 
-pub later-frames-spec : {M : Type 1} → statement M
-later-frames-spec =
+pub later_frames_spec : {M : Type 1} → statement M
+later_frames_spec =
     tie.close
     (tie.spec
     invariant-loop

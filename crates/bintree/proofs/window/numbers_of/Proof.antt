@@ -8,8 +8,8 @@ use Rattle.bintree.proofs.window.watch.Reads as watch-reads
 use Rattle.bintree.proofs.window.window_answer.Reads as window-answer-reads
 use Rattle.universe.proofs.Universe.refusal.Reads as refusal-reads
 
-pub numbers-of-spec : {M : Type 1} → statement M
-numbers-of-spec =
+pub numbers_of_spec : {M : Type 1} → statement M
+numbers_of_spec =
     tie.close
     (tie.spec
     (λ c κs. search numbers_laws)

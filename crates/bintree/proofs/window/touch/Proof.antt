@@ -4,8 +4,8 @@ use Rattle.bintree.proofs.Watches.{touch_laws}
 use Rattle.bintree.proofs.window.touch.Statement.{statement}
 use Rattle.bintree.proofs.window.touch.Tie as tie
 
-pub touch-spec : {M : Type 1} → statement M
-touch-spec =
+pub touch_spec : {M : Type 1} → statement M
+touch_spec =
     tie.close
     (tie.spec
     (λ c κs. search touch_laws)

@@ -3,8 +3,8 @@ use Rattle.bintree.proofs.WindowAnswers.{window_laws}
 use Rattle.bintree.proofs.window.window_answer.Statement.{statement}
 use Rattle.bintree.proofs.window.window_answer.Tie as tie
 
-pub window-answer-spec : {M : Type 1} → statement M
-window-answer-spec =
+pub window_answer_spec : {M : Type 1} → statement M
+window_answer_spec =
     tie.close
     (tie.spec
     (λ c κs. search window_laws)
