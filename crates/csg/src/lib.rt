@@ -1,5 +1,7 @@
 // Halfspaces, balls and trees: whether rows are halfspaces of a universe, whether numbers are its balls, and whether
 // words are a tree over them.
+#![tactic(auto)]
+
 mod ball;
 
 ghost use Rattle.std.specs.Prelude.{◌≡◌, cond, ◌&&◌, ◌+◌, ◌*◌, ◌≤◌, leb, ltb, nat_abs, length};

@@ -9,47 +9,47 @@ use Rattle.csg.proofs.Limits.{GroupsSofar, groups_start, groups_off, groups_next
 use Rattle.csg.proofs.check_rows.Statement.{statement}
 use Rattle.csg.proofs.check_rows.Tie as tie
 
-abbrev invariant-loop : tie.invariant-loop
+abbrev invariant-loop : tie.invariant-loop-row
 invariant-loop universe rows count row₀ row = GroupsSofar row_length most_rows (λ i. within_limits universe (row_at rows i)) rows row
 
-abbrev decreases-loop : tie.decreases-loop
+abbrev decreases-loop : tie.decreases-loop-row
 decreases-loop universe rows count row₀ row = row_count rows - row
 
-returns : tie.Need-returns invariant-loop decreases-loop
-returns c = sym (rows_not_fives _ _ c.if1.true)
+returns : tie.Need-returns-then-rows-ne0 invariant-loop decreases-loop
+returns c = sym (rows_not_fives _ _ c.if-rows-ne0.true)
 
-returns-2 : tie.Need-returns-2 invariant-loop decreases-loop
-returns-2 c = sym (rows_too_many _ _ c.before.if1.false c.if2.true)
+returns-2 : tie.Need-returns-then-count-gt-MOST_ROWS invariant-loop decreases-loop
+returns-2 c = sym (rows_too_many _ _ c.if-rows-ne0.false c.if-count-gt-MOST_ROWS.true)
 
-loop-holds : tie.Need-loop-init invariant-loop decreases-loop
-loop-holds c = groups_start _ _ _ _ c.before.if1.false c.if2.false
+loop-holds : tie.Need-loop-row-init invariant-loop decreases-loop
+loop-holds c = groups_start _ _ _ _ c.if-rows-ne0.false c.if-count-gt-MOST_ROWS.false
 
-row-within-requires : tie.Need-row-within-requires invariant-loop decreases-loop
+row-within-requires : tie.Need-row_within-requires invariant-loop decreases-loop
 row-within-requires c κs = search rules
 
-returns-3 : tie.Need-returns-3 invariant-loop decreases-loop
+returns-3 : tie.Need-returns-then-not-row_within invariant-loop decreases-loop
 unfolding rows_refusal
 returns-3 c =
-    let l = c.before.before in
-    sym (groups_off l.before.loop.invariant l.loop-test.true c.before.row_within.ensures (not-true _ c.if3.true))
+    let l = c in
+    sym (groups_off l.loop-row.invariant l.loop-row-test.true c.row_within.ensures c.if-not-row_within.true)
 
-add_row : tie.Need-overflow-add-row invariant-loop decreases-loop
+add_row : tie.Need-overflow_add-row invariant-loop decreases-loop
 add_row c = search rules
 
-loop-less : tie.Need-loop-smaller invariant-loop decreases-loop
+loop-less : tie.Need-loop-row-smaller invariant-loop decreases-loop
 loop-less c = search rules
 
-loop-again : tie.Need-loop-preserved invariant-loop decreases-loop
+loop-again : tie.Need-loop-row-preserved invariant-loop decreases-loop
 loop-again c =
-    let l = c.before.before in
-    groups_next l.before.loop.invariant l.loop-test.true c.before.row_within.ensures (not-false _ c.if3.false)
+    let l = c in
+    groups_next l.loop-row.invariant l.loop-row-test.true c.row_within.ensures c.if-not-row_within.false
 
-returns-4 : tie.Need-returns-4 invariant-loop decreases-loop
+returns-4 : tie.Need-returns invariant-loop decreases-loop
 unfolding rows_refusal
-returns-4 c = sym (groups_end c.before.loop.invariant c.loop-test.false)
+returns-4 c = sym (groups_end c.loop-row.invariant c.loop-row-test.false)
 
-pub check-rows-spec : {M : Type 1} → statement M
-check-rows-spec =
+pub check_rows_spec : {M : Type 1} → statement M
+check_rows_spec =
     tie.close
     (tie.spec
     invariant-loop

@@ -10,18 +10,18 @@ use Rattle.csg.proofs.coefficient_within.Tie as tie
 between-requires : tie.Need-between-requires
 between-requires c κs = search rules
 
-returns : tie.Need-returns
-returns c = rw (le-ltb _ _ c.before.if1.true) (c.between.ensures ∙ size_read c.before.before.ranges.value 0)
+returns : tie.Need-returns-then-axes-axis
+returns c = rw (le-ltb _ _ c.if-axes-axis.true) (c.between.ensures ∙ size_read c.ranges.value 0)
 
-sub-between : tie.Need-overflow-sub-between
+sub-between : tie.Need-overflow_sub-between
 sub-between c = search rules
 
 between-requires-2 : tie.Need-between-requires-2
 between-requires-2 c κs = search rules
 
-returns-2 : tie.Need-returns-2
-returns-2 c = rw (lt-ltb _ _ c.before.if1.false) (c.between2.ensures ∙ size_read c.before.before.ranges.value coefficient_limit)
+returns-2 : tie.Need-returns
+returns-2 c = rw (lt-ltb _ _ c.if-axes-axis.false) (c.between-2.ensures ∙ size_read c.ranges.value coefficient_limit)
 
-pub coefficient-within-spec : {M : Type 1} → statement M
-coefficient-within-spec =
+pub coefficient_within_spec : {M : Type 1} → statement M
+coefficient_within_spec =
     tie.close (tie.spec between-requires returns sub-between between-requires-2 returns-2)

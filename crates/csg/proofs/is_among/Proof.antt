@@ -5,14 +5,14 @@ use Rattle.csg.proofs.Checking.{below_shifted}
 use Rattle.csg.proofs.is_among.Statement.{statement}
 use Rattle.csg.proofs.is_among.Tie as tie
 
-returns : tie.Need-returns
-returns c = simp (lt-leb _ _ c.if1.true)
+returns : tie.Need-returns-then-word-first
+returns c = simp (lt-leb _ _ c.if-word-first.true)
 
-cast-result : tie.Need-overflow-cast-result
+cast-result : tie.Need-overflow_cast-result
 cast-result c = search rules
 
-returns-2 : tie.Need-returns-2
-returns-2 c = simp (le-leb _ _ c.if1.false) (below_shifted _ _ _ c.if1.false)
+returns-2 : tie.Need-returns
+returns-2 c = simp (le-leb _ _ c.if-word-first.false) (below_shifted _ _ _ c.if-word-first.false)
 
-pub is-among-spec : {M : Type 1} → statement M
-is-among-spec = tie.close (tie.spec returns cast-result returns-2)
+pub is_among_spec : {M : Type 1} → statement M
+is_among_spec = tie.close (tie.spec returns cast-result returns-2)

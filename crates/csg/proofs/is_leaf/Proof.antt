@@ -5,21 +5,21 @@ use borrow.Author.Tests.{lt-leb, le-leb}
 use Rattle.csg.proofs.is_leaf.Statement.{statement}
 use Rattle.csg.proofs.is_leaf.Tie as tie
 
-returns : tie.Need-returns
-returns c = simp (le-leb _ 1 c.if1.true)
+returns : tie.Need-returns-then-word-le-BLACK
+returns c = simp (le-leb _ 1 c.if-word-le-BLACK.true)
 
-names-one-requires : tie.Need-names-one-requires
+names-one-requires : tie.Need-names_one-requires
 names-one-requires c κs = search rules
 
-returns-2 : tie.Need-returns-2
-returns-2 c = rw (lt-leb _ 1 c.before.before.if1.false, sym c.before.names-one.ensures ∙ c.if2.true)
+returns-2 : tie.Need-returns-then-names_one
+returns-2 c = rw (lt-leb _ 1 c.if-word-le-BLACK.false, sym c.names_one.ensures ∙ c.if-names_one.true)
 
-names-one-requires-2 : tie.Need-names-one-requires-2
+names-one-requires-2 : tie.Need-names_one-requires-2
 names-one-requires-2 c κs = search rules
 
-returns-3 : tie.Need-returns-3
+returns-3 : tie.Need-returns
 returns-3 c =
-    rw (lt-leb _ 1 c.before.before.before.if1.false, sym c.before.before.names-one.ensures ∙ c.before.if2.false) c.names-one2.ensures
+    rw (lt-leb _ 1 c.if-word-le-BLACK.false, sym c.names_one.ensures ∙ c.if-names_one.false) c.names_one-2.ensures
 
-pub is-leaf-spec : {M : Type 1} → statement M
-is-leaf-spec = tie.close (tie.spec returns names-one-requires returns-2 names-one-requires-2 returns-3)
+pub is_leaf_spec : {M : Type 1} → statement M
+is_leaf_spec = tie.close (tie.spec returns names-one-requires returns-2 names-one-requires-2 returns-3)

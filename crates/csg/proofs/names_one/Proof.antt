@@ -6,20 +6,20 @@ use Rattle.csg.proofs.Words.{among_is}
 use Rattle.csg.proofs.names_one.Statement.{statement}
 use Rattle.csg.proofs.names_one.Tie as tie
 
-is-among-requires : tie.Need-is-among-requires
+is-among-requires : tie.Need-is_among-requires
 is-among-requires c κs = search rules
 
-returns : tie.Need-returns
-returns c = rw (sym c.before.is_among.ensures ∙ not-true _ c.if1.true)
+returns : tie.Need-returns-then-not-is_among
+returns c = rw (sym c.is_among.ensures ∙ c.if-not-is_among.true)
 
-sub-result : tie.Need-overflow-sub-result
-sub-result c = (among_is _ _ _ (sym c.before.is_among.ensures ∙ not-false _ c.if1.false)).0
+sub-result : tie.Need-overflow_sub-result
+sub-result c = (among_is _ _ _ (sym c.is_among.ensures ∙ c.if-not-is_among.false)).0
 
-cast-result : tie.Need-overflow-cast-result
+cast-result : tie.Need-overflow_cast-result
 cast-result c = search rules
 
-returns-2 : tie.Need-returns-2
-returns-2 c = rw (sym c.before.is_among.ensures ∙ not-false _ c.if1.false)
+returns-2 : tie.Need-returns
+returns-2 c = rw (sym c.is_among.ensures ∙ c.if-not-is_among.false)
 
-pub names-one-spec : {M : Type 1} → statement M
-names-one-spec = tie.close (tie.spec is-among-requires returns sub-result cast-result returns-2)
+pub names_one_spec : {M : Type 1} → statement M
+names_one_spec = tie.close (tie.spec is-among-requires returns sub-result cast-result returns-2)

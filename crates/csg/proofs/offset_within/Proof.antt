@@ -6,14 +6,14 @@ use Rattle.csg.proofs.Rows.{size_read}
 use Rattle.csg.proofs.offset_within.Statement.{statement}
 use Rattle.csg.proofs.offset_within.Tie as tie
 
-sub-between : tie.Need-overflow-sub-between
+sub-between : tie.Need-overflow_sub-between
 sub-between c = search rules
 
 between-requires : tie.Need-between-requires
 between-requires c κs = search rules
 
 returns : tie.Need-returns
-returns c = c.between.ensures ∙ size_read c.before.ranges.value offset_limit
+returns c = c.between.ensures ∙ size_read c.ranges.value offset_limit
 
-pub offset-within-spec : {M : Type 1} → statement M
-offset-within-spec = tie.close (tie.spec sub-between between-requires returns)
+pub offset_within_spec : {M : Type 1} → statement M
+offset_within_spec = tie.close (tie.spec sub-between between-requires returns)

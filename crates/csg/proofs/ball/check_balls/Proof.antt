@@ -9,47 +9,47 @@ use Rattle.csg.proofs.Limits.{GroupsSofar, groups_start, groups_off, groups_next
 use Rattle.csg.proofs.ball.check_balls.Statement.{statement}
 use Rattle.csg.proofs.ball.check_balls.Tie as tie
 
-abbrev invariant-loop : tie.invariant-loop
+abbrev invariant-loop : tie.invariant-loop-ball
 invariant-loop universe balls count ball₀ ball = GroupsSofar ball_length most_balls (λ i. ball_within universe (ball_at balls i)) balls ball
 
-abbrev decreases-loop : tie.decreases-loop
+abbrev decreases-loop : tie.decreases-loop-ball
 decreases-loop universe balls count ball₀ ball = ball_count balls - ball
 
-returns : tie.Need-returns invariant-loop decreases-loop
-returns c = sym (balls_not_fours _ _ c.if1.true)
+returns : tie.Need-returns-then-balls-ne0 invariant-loop decreases-loop
+returns c = sym (balls_not_fours _ _ c.if-balls-ne0.true)
 
-returns-2 : tie.Need-returns-2 invariant-loop decreases-loop
-returns-2 c = sym (balls_too_many _ _ c.before.if1.false c.if2.true)
+returns-2 : tie.Need-returns-then-count-gt-MOST_BALLS invariant-loop decreases-loop
+returns-2 c = sym (balls_too_many _ _ c.if-balls-ne0.false c.if-count-gt-MOST_BALLS.true)
 
-loop-holds : tie.Need-loop-init invariant-loop decreases-loop
-loop-holds c = groups_start _ _ _ _ c.before.if1.false c.if2.false
+loop-holds : tie.Need-loop-ball-init invariant-loop decreases-loop
+loop-holds c = groups_start _ _ _ _ c.if-balls-ne0.false c.if-count-gt-MOST_BALLS.false
 
-ball-within-requires : tie.Need-ball-within-requires invariant-loop decreases-loop
+ball-within-requires : tie.Need-ball_within-requires invariant-loop decreases-loop
 ball-within-requires c κs = search rules
 
-returns-3 : tie.Need-returns-3 invariant-loop decreases-loop
+returns-3 : tie.Need-returns-then-not-ball_within invariant-loop decreases-loop
 unfolding balls_refusal
 returns-3 c =
-    let l = c.before.before in
-    sym (groups_off l.before.loop.invariant l.loop-test.true c.before.ball-within.ensures (not-true _ c.if3.true))
+    let l = c in
+    sym (groups_off l.loop-ball.invariant l.loop-ball-test.true c.ball_within.ensures c.if-not-ball_within.true)
 
-add-ball : tie.Need-overflow-add-ball invariant-loop decreases-loop
+add-ball : tie.Need-overflow_add-ball invariant-loop decreases-loop
 add-ball c = search rules
 
-loop-less : tie.Need-loop-smaller invariant-loop decreases-loop
+loop-less : tie.Need-loop-ball-smaller invariant-loop decreases-loop
 loop-less c = search rules
 
-loop-again : tie.Need-loop-preserved invariant-loop decreases-loop
+loop-again : tie.Need-loop-ball-preserved invariant-loop decreases-loop
 loop-again c =
-    let l = c.before.before in
-    groups_next l.before.loop.invariant l.loop-test.true c.before.ball-within.ensures (not-false _ c.if3.false)
+    let l = c in
+    groups_next l.loop-ball.invariant l.loop-ball-test.true c.ball_within.ensures c.if-not-ball_within.false
 
-returns-4 : tie.Need-returns-4 invariant-loop decreases-loop
+returns-4 : tie.Need-returns invariant-loop decreases-loop
 unfolding balls_refusal
-returns-4 c = sym (groups_end c.before.loop.invariant c.loop-test.false)
+returns-4 c = sym (groups_end c.loop-ball.invariant c.loop-ball-test.false)
 
-pub check-balls-spec : {M : Type 1} → statement M
-check-balls-spec =
+pub check_balls_spec : {M : Type 1} → statement M
+check_balls_spec =
     tie.close
     (tie.spec
     invariant-loop

@@ -9,7 +9,7 @@ between-requires : tie.Need-between-requires
 between-requires c κs = search rules
 
 returns : tie.Need-returns
-returns c = c.between.ensures ∙ radius_read c.before.ranges.value
+returns c = c.between.ensures ∙ radius_read c.ranges.value
 
-pub radius-within-spec : {M : Type 1} → statement M
-radius-within-spec = tie.close (tie.spec between-requires returns)
+pub radius_within_spec : {M : Type 1} → statement M
+radius_within_spec = tie.close (tie.spec between-requires returns)
