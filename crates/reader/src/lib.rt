@@ -1,5 +1,7 @@
 // A reader (rule 4.5): a lent expression, held together with a place in it. The functions over the struct are thin; the
 // work is done on the slice and the place.
+#![tactic(auto)]
+
 ghost use Rattle.std.specs.Prelude.{◌≡◌};
 ghost use Rattle.bintree.specs.Answers.{well_formed_refusal};
 ghost use Rattle.reader.specs.Symbols.{symbol_at, place_after, held_symbols, Holds};

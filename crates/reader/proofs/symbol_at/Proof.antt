@@ -3,8 +3,8 @@ use Rattle.reader.proofs.Symbols.{symbol_laws}
 use Rattle.reader.proofs.symbol_at.Statement.{statement}
 use Rattle.reader.proofs.symbol_at.Tie as tie
 
-pub symbol-at-spec : {M : Type 1} → statement M
-symbol-at-spec =
+pub symbol_at_spec : {M : Type 1} → statement M
+symbol_at_spec =
     tie.close
     (tie.spec
     (λ c. search symbol_laws)
