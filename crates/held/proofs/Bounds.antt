@@ -1,5 +1,5 @@
 -- The largest of the counts is the largest held count; it is at most twice the levels, and `(B(B..W` of as many levels has that many.
-use mathlib.Core.Path.{◌≡◌, refl, sym, ap, ◌∙◌}
+use mathlib.Core.Path.{◌≡◌, refl}
 use mathlib.Core.Bool.{Bool, true, false, cond}
 use mathlib.Core.List.{List, [], ◌∷◌, ◌++◌}
 use Prim.Native.Nat.{ℕ, zero, suc, ◌+◌, ◌-◌, ◌*◌, ◌≤◌, ◌<◌, max}
@@ -15,7 +15,7 @@ use Rattle.bintree.specs.Shape.{Shape, leaf, halved, symbols, depth}
 use Rattle.bintree.specs.Merging.{merged, is_pair, onward, held_in, held_after, largest, most_held}
 use Rattle.bintree.proofs.Shape.{length_symbols, size_positive}
 use Rattle.bintree.proofs.Measures.{largest_append, held_all}
-use Rattle.held.specs.Held.{Held, LargestHeld, at_bound}
+use Rattle.held.specs.Held.{LargestHeld, at_bound}
 use Rattle.held.proofs.Symbols.{length_after, held_after_lem, held_once}
 
 pub largest_above : (l : List ℕ) (i : ℕ) → get_or l i 0 ≤ largest l

@@ -2,7 +2,7 @@
 -- universe where a shape of at most its levels spells it (`Spelt`).
 use mathlib.Core.Path.{◌≡◌, refl, sym, ap, subst, ◌∙◌}
 use mathlib.Core.List.{List, [], ◌∷◌, ◌++◌, append_assoc, append-nil}
-use Prim.Native.Nat.{ℕ, ◌+◌, ◌≤◌, max}
+use Prim.Native.Nat.{ℕ, ◌≤◌, max}
 use native.Mathlib.Nat.{le-max_left, le-max_right}
 use lib.ListN.{length, take, drop, take-append-drop}
 use lib.Seq.{drop-append_seam}

@@ -2,7 +2,7 @@
 -- goes on from it fills the way with one shape, and further high parts outside.
 use mathlib.Core.Path.{◌≡◌, refl, sym, ap, subst, ◌∙◌}
 use mathlib.Core.List.{List, [], ◌∷◌, ◌++◌, append_assoc, append-nil}
-use Prim.Native.Nat.{ℕ, ◌+◌, ◌-◌, ◌≤◌, max, suc-le-suc}
+use Prim.Native.Nat.{ℕ, ◌≤◌, max, suc-le-suc}
 use native.Mathlib.Nat.{max-le, le-max_left, le-max_right}
 use native.Mathlib.Omega.{arith}
 use Rattle.bintree.specs.declared.Colour.{Colour}

@@ -1,1 +1,2 @@
 // No code: what merging holds back, as theorems about what merging answers.
+#![tactic(auto)]
