@@ -31,7 +31,7 @@ use Rattle.export.specs.declared.answers.Ends.{Ends}
 
 -- a universe of its three numbers
 abbrev pub universe_of : ℕ → ℕ → ℕ → Universe
-universe_of axes bits frame_bits_lem = record { axes = axes; bits = bits; frame_bits = frame_bits_lem }
+universe_of axes bits frame_bits = record { axes = axes; bits = bits; frame_bits = frame_bits }
 
 -- room in symbols
 abbrev pub room_array : RoomAnswer → List ℕ

@@ -35,8 +35,7 @@ pub(crate) fn ends_of(span: Span) -> Ends
 
 // Whether two trees share space in a window of frames, both ends in, with no room lent. Read the number first: a
 // refused verdict is Clear.
-#[unsafe(no_mangle)]
-pub extern "C" fn durbizhan_verdict_at_once(
+pub fn durbizhan_verdict_at_once(
     axes: u64,
     bits: u64,
     frame_bits: u64,
@@ -50,14 +49,10 @@ pub extern "C" fn durbizhan_verdict_at_once(
 ) -> u64
     ensures result_value { let u = universe_of axes bits frame_bits in
         let surfaces = surfaces_of rows.now balls.now in
-        let first = first.entry.now in
-        let second = second.entry.now in
-        result ≡ (verdict_at_once u surfaces first second first_frame last_frame).refusal }
+        result ≡ (verdict_at_once u surfaces first.now second.now first_frame last_frame).refusal }
     ensures answer_after { let u = universe_of axes bits frame_bits in
         let surfaces = surfaces_of rows.now balls.now in
-        let first = first.entry.now in
-        let second = second.entry.now in
-        answer.new ≡ judged_array (verdict_at_once u surfaces first second first_frame last_frame) }
+        answer.new ≡ judged_array (verdict_at_once u surfaces first.now second.now first_frame last_frame) }
 {
     let universe = Universe {
         axes: axes,
@@ -81,8 +76,7 @@ pub extern "C" fn durbizhan_verdict_at_once(
 
 // The first and the last frame of a window, both ends in, in which two trees share space, with no room lent. Read the
 // number first: a refused answer is Clear.
-#[unsafe(no_mangle)]
-pub extern "C" fn durbizhan_ends_at_once(
+pub fn durbizhan_ends_at_once(
     axes: u64,
     bits: u64,
     frame_bits: u64,
@@ -96,14 +90,10 @@ pub extern "C" fn durbizhan_ends_at_once(
 ) -> u64
     ensures result_value { let u = universe_of axes bits frame_bits in
         let surfaces = surfaces_of rows.now balls.now in
-        let first = first.entry.now in
-        let second = second.entry.now in
-        result ≡ (ends_at_once u surfaces first second first_frame last_frame).refusal }
+        result ≡ (ends_at_once u surfaces first.now second.now first_frame last_frame).refusal }
     ensures answer_after { let u = universe_of axes bits frame_bits in
         let surfaces = surfaces_of rows.now balls.now in
-        let first = first.entry.now in
-        let second = second.entry.now in
-        answer.new ≡ spanned_array (ends_at_once u surfaces first second first_frame last_frame) }
+        answer.new ≡ spanned_array (ends_at_once u surfaces first.now second.now first_frame last_frame) }
 {
     let universe = Universe {
         axes: axes,

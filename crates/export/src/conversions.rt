@@ -10,8 +10,7 @@ ghost use Rattle.export.specs.Arrays.{universe_of, room_array, length_array};
 use universe::Universe;
 
 // Room in symbols, for so many words that name a halfspace and so many that name a ball (rules 4.7 and 4.14).
-#[unsafe(no_mangle)]
-pub extern "C" fn durbizhan_room(
+pub fn durbizhan_room(
     axes: u64,
     bits: u64,
     frame_bits: u64,
@@ -33,24 +32,21 @@ pub extern "C" fn durbizhan_room(
 }
 
 // How many words of a tree name a halfspace.
-#[unsafe(no_mangle)]
-pub extern "C" fn durbizhan_leaves(words: &[u16]) -> u64
+pub fn durbizhan_leaves(words: &[u16]) -> u64
     ensures { result ≡ halfspace_words words.now }
 {
     csg::halfspace_words(words)
 }
 
 // How many words of a tree name a ball.
-#[unsafe(no_mangle)]
-pub extern "C" fn durbizhan_balls(words: &[u16]) -> u64
+pub fn durbizhan_balls(words: &[u16]) -> u64
     ensures { result ≡ ball_words words.now }
 {
     csg::ball_words(words)
 }
 
 // The raw expression of one tree.
-#[unsafe(no_mangle)]
-pub extern "C" fn durbizhan_raw_one(
+pub fn durbizhan_raw_one(
     axes: u64,
     bits: u64,
     frame_bits: u64,
@@ -81,8 +77,7 @@ pub extern "C" fn durbizhan_raw_one(
 }
 
 // The raw expression of two trees intersected.
-#[unsafe(no_mangle)]
-pub extern "C" fn durbizhan_raw_two(
+pub fn durbizhan_raw_two(
     axes: u64,
     bits: u64,
     frame_bits: u64,
@@ -95,19 +90,13 @@ pub extern "C" fn durbizhan_raw_two(
 ) -> u64
     ensures result_value { let u = universe_of axes bits frame_bits in
         let surfaces = surfaces_of rows.now balls.now in
-        let first = first.entry.now in
-        let second = second.entry.now in
-        result ≡ (raw_of_two_answer u surfaces first second out.old).refusal }
+        result ≡ (raw_of_two_answer u surfaces first.now second.now out.old).refusal }
     ensures answer_after { let u = universe_of axes bits frame_bits in
         let surfaces = surfaces_of rows.now balls.now in
-        let first = first.entry.now in
-        let second = second.entry.now in
-        answer.new ≡ length_array (raw_of_two_answer u surfaces first second out.old) }
+        answer.new ≡ length_array (raw_of_two_answer u surfaces first.now second.now out.old) }
     ensures out_after { let u = universe_of axes bits frame_bits in
         let surfaces = surfaces_of rows.now balls.now in
-        let first = first.entry.now in
-        let second = second.entry.now in
-        out.new ≡ raw_of_two_buffer u surfaces first second out.old }
+        out.new ≡ raw_of_two_buffer u surfaces first.now second.now out.old }
 {
     let universe = Universe {
         axes: axes,
@@ -120,8 +109,7 @@ pub extern "C" fn durbizhan_raw_two(
 }
 
 // The merged expression of one tree.
-#[unsafe(no_mangle)]
-pub extern "C" fn durbizhan_merged_one(
+pub fn durbizhan_merged_one(
     axes: u64,
     bits: u64,
     frame_bits: u64,
@@ -152,8 +140,7 @@ pub extern "C" fn durbizhan_merged_one(
 }
 
 // The merged expression of two trees intersected.
-#[unsafe(no_mangle)]
-pub extern "C" fn durbizhan_merged_two(
+pub fn durbizhan_merged_two(
     axes: u64,
     bits: u64,
     frame_bits: u64,
@@ -166,19 +153,13 @@ pub extern "C" fn durbizhan_merged_two(
 ) -> u64
     ensures result_value { let u = universe_of axes bits frame_bits in
         let surfaces = surfaces_of rows.now balls.now in
-        let first = first.entry.now in
-        let second = second.entry.now in
-        result ≡ (merged_of_two_answer u surfaces first second out.old).refusal }
+        result ≡ (merged_of_two_answer u surfaces first.now second.now out.old).refusal }
     ensures answer_after { let u = universe_of axes bits frame_bits in
         let surfaces = surfaces_of rows.now balls.now in
-        let first = first.entry.now in
-        let second = second.entry.now in
-        answer.new ≡ length_array (merged_of_two_answer u surfaces first second out.old) }
+        answer.new ≡ length_array (merged_of_two_answer u surfaces first.now second.now out.old) }
     ensures out_after { let u = universe_of axes bits frame_bits in
         let surfaces = surfaces_of rows.now balls.now in
-        let first = first.entry.now in
-        let second = second.entry.now in
-        out.new ≡ merged_of_two_buffer u surfaces first second out.old }
+        out.new ≡ merged_of_two_buffer u surfaces first.now second.now out.old }
 {
     let universe = Universe {
         axes: axes,

@@ -11,8 +11,7 @@ use lines::MOST_BYTES;
 use universe::Universe;
 
 // Reads a scene: its rows, its balls and the words of its two trees go to the front of the lent arrays.
-#[unsafe(no_mangle)]
-pub extern "C" fn durbizhan_scene(
+pub fn durbizhan_scene(
     bytes: &[u8],
     rows: &mut [i64; MOST_NUMBERS],
     balls: &mut [i64; MOST_BALL_NUMBERS],
@@ -47,8 +46,7 @@ pub extern "C" fn durbizhan_scene(
 }
 
 // The lines that the program prints for a scene go to the front of the lent array; returns how many bytes that is.
-#[unsafe(no_mangle)]
-pub extern "C" fn durbizhan_lines(scene: &[u8], out: &mut [u8; MOST_BYTES]) -> u64
+pub fn durbizhan_lines(scene: &[u8], out: &mut [u8; MOST_BYTES]) -> u64
     ensures value { result ≡ length (program_lines scene.now) }
     ensures out_after { let lines = program_lines scene.now in
         out.new ≡ lines ++ drop (length lines) out.old }
@@ -57,8 +55,7 @@ pub extern "C" fn durbizhan_lines(scene: &[u8], out: &mut [u8; MOST_BYTES]) -> u
 }
 
 // Reads a shape file: its symbols go to the front of the lent room.
-#[unsafe(no_mangle)]
-pub extern "C" fn durbizhan_shape_read(bytes: &[u8], out: &mut [u8], answer: &mut [u64; 4]) -> u64
+pub fn durbizhan_shape_read(bytes: &[u8], out: &mut [u8], answer: &mut [u64; 4]) -> u64
     ensures value { result ≡ (read_answer bytes.now out.old).refusal }
     ensures answer_after { answer.new ≡ shape_array (read_answer bytes.now out.old) }
     ensures out_after { out.new ≡ read_buffer bytes.now out.old }
@@ -75,8 +72,7 @@ pub extern "C" fn durbizhan_shape_read(bytes: &[u8], out: &mut [u8], answer: &mu
 }
 
 // Writes the shape file of a merged expression.
-#[unsafe(no_mangle)]
-pub extern "C" fn durbizhan_shape_write(
+pub fn durbizhan_shape_write(
     axes: u64,
     bits: u64,
     frame_bits: u64,

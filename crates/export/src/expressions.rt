@@ -10,13 +10,7 @@ use bintree::Colour;
 use universe::Universe;
 
 // Whether an expression is well-formed.
-#[unsafe(no_mangle)]
-pub extern "C" fn durbizhan_well_formed(
-    axes: u64,
-    bits: u64,
-    frame_bits: u64,
-    expression: &[u8],
-) -> u64
+pub fn durbizhan_well_formed(axes: u64, bits: u64, frame_bits: u64, expression: &[u8]) -> u64
     ensures { result ≡ well_formed_refusal (universe_of axes bits frame_bits) expression.now }
 {
     let universe = Universe {
@@ -38,8 +32,7 @@ fn number_of(colour: Colour) -> u64
 }
 
 // The colour at a voxel, 0 WHITE or 1 BLACK.
-#[unsafe(no_mangle)]
-pub extern "C" fn durbizhan_colour(
+pub fn durbizhan_colour(
     axes: u64,
     bits: u64,
     frame_bits: u64,
@@ -67,8 +60,7 @@ pub extern "C" fn durbizhan_colour(
 }
 
 // Where the part for the block at the end of a path stands in an expression, and its length.
-#[unsafe(no_mangle)]
-pub extern "C" fn durbizhan_part(
+pub fn durbizhan_part(
     axes: u64,
     bits: u64,
     frame_bits: u64,
@@ -92,8 +84,7 @@ pub extern "C" fn durbizhan_part(
 }
 
 // The merged expression of a lent one, and the largest count of symbols that are held back.
-#[unsafe(no_mangle)]
-pub extern "C" fn durbizhan_merge(
+pub fn durbizhan_merge(
     axes: u64,
     bits: u64,
     frame_bits: u64,

@@ -1,6 +1,9 @@
 // The face for C and Rust (rule 11.1): numbers and slices only. Each function returns the number of its refusal, 0
 // where it accepts, which is read first: a refused answer is zeros, its verdict Clear and its colour WHITE.
 // `durbizhan_leaves` and `durbizhan_lines` alone return a count; what is refused has its line in the latter.
+// Crate `export_c` has each of them again, under its own name, for callers that are not in Rattle.
+#![tactic(auto)]
+
 pub mod answers;
 pub mod conversions;
 pub mod documents;

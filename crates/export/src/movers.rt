@@ -11,8 +11,7 @@ use universe::Universe;
 
 // Whether a mover and a static tree share space, every frame by its own stretch; each stretch's raw expression is
 // written into lent room over the one before. Read the number first: a refused verdict is Clear.
-#[unsafe(no_mangle)]
-pub extern "C" fn durbizhan_mover(
+pub fn durbizhan_mover(
     axes: u64,
     bits: u64,
     frame_bits: u64,

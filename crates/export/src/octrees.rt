@@ -6,8 +6,7 @@ ghost use Rattle.export.specs.Arrays.{universe_of, length_array};
 use universe::Universe;
 
 // The reduced octree of an expression.
-#[unsafe(no_mangle)]
-pub extern "C" fn durbizhan_octree_export(
+pub fn durbizhan_octree_export(
     axes: u64,
     bits: u64,
     frame_bits: u64,
@@ -33,8 +32,7 @@ pub extern "C" fn durbizhan_octree_export(
 }
 
 // The merged expression of an octree.
-#[unsafe(no_mangle)]
-pub extern "C" fn durbizhan_octree_import(
+pub fn durbizhan_octree_import(
     axes: u64,
     bits: u64,
     frame_bits: u64,

@@ -6,8 +6,7 @@ ghost use Rattle.export.specs.Arrays.{triple_of, box_of, cut_of};
 use standin::{Corners, Plane, Proxy, Solid, Triple};
 
 // The six rows of a Box one after the other, zeros where it is refused.
-#[unsafe(no_mangle)]
-pub extern "C" fn durbizhan_box(
+pub fn durbizhan_box(
     near_x: f64,
     near_y: f64,
     near_z: f64,
@@ -56,8 +55,7 @@ pub extern "C" fn durbizhan_box(
 }
 
 // The row of a Cut, zeros where it is refused.
-#[unsafe(no_mangle)]
-pub extern "C" fn durbizhan_cut(
+pub fn durbizhan_cut(
     normal_x: f64,
     normal_y: f64,
     normal_z: f64,

@@ -16,8 +16,7 @@ fn lack_number(lack: bool) -> u64
 }
 
 // The raw expression of one tree, pruned; three numbers of work room for a node.
-#[unsafe(no_mangle)]
-pub extern "C" fn durbizhan_pruned_raw_one(
+pub fn durbizhan_pruned_raw_one(
     axes: u64,
     bits: u64,
     frame_bits: u64,
@@ -30,21 +29,17 @@ pub extern "C" fn durbizhan_pruned_raw_one(
 ) -> u64
     ensures result_value { let u = universe_of axes bits frame_bits in
         let surfaces = surfaces_of rows.now balls.now in
-        let words = words.entry.now in
-        result ≡ (raw_of_one_answer u surfaces words work.old out.old).refusal }
+        result ≡ (raw_of_one_answer u surfaces words.now work.old out.old).refusal }
     ensures answer_after { let u = universe_of axes bits frame_bits in
         let surfaces = surfaces_of rows.now balls.now in
-        let words = words.entry.now in
         answer.new
-        ≡ conversion_array (raw_of_one_answer u surfaces words work.old out.old) }
+        ≡ conversion_array (raw_of_one_answer u surfaces words.now work.old out.old) }
     ensures out_after { let u = universe_of axes bits frame_bits in
         let surfaces = surfaces_of rows.now balls.now in
-        let words = words.entry.now in
-        out.new ≡ raw_of_one_buffer u surfaces words work.old out.old }
-    ensures fact { let u = universe_of axes bits frame_bits in
+        out.new ≡ raw_of_one_buffer u surfaces words.now work.old out.old }
+    ensures work_kept { let u = universe_of axes bits frame_bits in
         let surfaces = surfaces_of rows.now balls.now in
-        let words = words.entry.now in
-        ((work_of_one u surfaces words work.old ≡ 0 → ⊥) → work.new ≡ work.old) }
+        ((work_of_one u surfaces words.now work.old ≡ 0 → ⊥) → work.new ≡ work.old) }
 {
     let universe = Universe {
         axes: axes,
@@ -58,8 +53,7 @@ pub extern "C" fn durbizhan_pruned_raw_one(
 }
 
 // The raw expression of two trees intersected, pruned; three numbers of work room for a node.
-#[unsafe(no_mangle)]
-pub extern "C" fn durbizhan_pruned_raw_two(
+pub fn durbizhan_pruned_raw_two(
     axes: u64,
     bits: u64,
     frame_bits: u64,
@@ -73,25 +67,17 @@ pub extern "C" fn durbizhan_pruned_raw_two(
 ) -> u64
     ensures result_value { let u = universe_of axes bits frame_bits in
         let surfaces = surfaces_of rows.now balls.now in
-        let first = first.entry.now in
-        let second = second.entry.now in
-        result ≡ (raw_of_two_answer u surfaces first second work.old out.old).refusal }
+        result ≡ (raw_of_two_answer u surfaces first.now second.now work.old out.old).refusal }
     ensures answer_after { let u = universe_of axes bits frame_bits in
         let surfaces = surfaces_of rows.now balls.now in
-        let first = first.entry.now in
-        let second = second.entry.now in
         answer.new
-        ≡ conversion_array (raw_of_two_answer u surfaces first second work.old out.old) }
+        ≡ conversion_array (raw_of_two_answer u surfaces first.now second.now work.old out.old) }
     ensures out_after { let u = universe_of axes bits frame_bits in
         let surfaces = surfaces_of rows.now balls.now in
-        let first = first.entry.now in
-        let second = second.entry.now in
-        out.new ≡ raw_of_two_buffer u surfaces first second work.old out.old }
-    ensures fact { let u = universe_of axes bits frame_bits in
+        out.new ≡ raw_of_two_buffer u surfaces first.now second.now work.old out.old }
+    ensures work_kept { let u = universe_of axes bits frame_bits in
         let surfaces = surfaces_of rows.now balls.now in
-        let first = first.entry.now in
-        let second = second.entry.now in
-        ((work_of_two u surfaces first second work.old ≡ 0 → ⊥) → work.new ≡ work.old) }
+        ((work_of_two u surfaces first.now second.now work.old ≡ 0 → ⊥) → work.new ≡ work.old) }
 {
     let universe = Universe {
         axes: axes,
@@ -105,8 +91,7 @@ pub extern "C" fn durbizhan_pruned_raw_two(
 }
 
 // The merged expression of one tree, pruned; three numbers of work room for a node.
-#[unsafe(no_mangle)]
-pub extern "C" fn durbizhan_pruned_merged_one(
+pub fn durbizhan_pruned_merged_one(
     axes: u64,
     bits: u64,
     frame_bits: u64,
@@ -119,21 +104,17 @@ pub extern "C" fn durbizhan_pruned_merged_one(
 ) -> u64
     ensures result_value { let u = universe_of axes bits frame_bits in
         let surfaces = surfaces_of rows.now balls.now in
-        let words = words.entry.now in
-        result ≡ (merged_of_one_answer u surfaces words work.old out.old).refusal }
+        result ≡ (merged_of_one_answer u surfaces words.now work.old out.old).refusal }
     ensures answer_after { let u = universe_of axes bits frame_bits in
         let surfaces = surfaces_of rows.now balls.now in
-        let words = words.entry.now in
         answer.new
-        ≡ conversion_array (merged_of_one_answer u surfaces words work.old out.old) }
+        ≡ conversion_array (merged_of_one_answer u surfaces words.now work.old out.old) }
     ensures out_after { let u = universe_of axes bits frame_bits in
         let surfaces = surfaces_of rows.now balls.now in
-        let words = words.entry.now in
-        out.new ≡ merged_of_one_buffer u surfaces words work.old out.old }
-    ensures fact { let u = universe_of axes bits frame_bits in
+        out.new ≡ merged_of_one_buffer u surfaces words.now work.old out.old }
+    ensures work_kept { let u = universe_of axes bits frame_bits in
         let surfaces = surfaces_of rows.now balls.now in
-        let words = words.entry.now in
-        ((work_of_one u surfaces words work.old ≡ 0 → ⊥) → work.new ≡ work.old) }
+        ((work_of_one u surfaces words.now work.old ≡ 0 → ⊥) → work.new ≡ work.old) }
 {
     let universe = Universe {
         axes: axes,
@@ -147,8 +128,7 @@ pub extern "C" fn durbizhan_pruned_merged_one(
 }
 
 // The merged expression of two trees intersected, pruned; three numbers of work room for a node.
-#[unsafe(no_mangle)]
-pub extern "C" fn durbizhan_pruned_merged_two(
+pub fn durbizhan_pruned_merged_two(
     axes: u64,
     bits: u64,
     frame_bits: u64,
@@ -162,25 +142,17 @@ pub extern "C" fn durbizhan_pruned_merged_two(
 ) -> u64
     ensures result_value { let u = universe_of axes bits frame_bits in
         let surfaces = surfaces_of rows.now balls.now in
-        let first = first.entry.now in
-        let second = second.entry.now in
-        result ≡ (merged_of_two_answer u surfaces first second work.old out.old).refusal }
+        result ≡ (merged_of_two_answer u surfaces first.now second.now work.old out.old).refusal }
     ensures answer_after { let u = universe_of axes bits frame_bits in
         let surfaces = surfaces_of rows.now balls.now in
-        let first = first.entry.now in
-        let second = second.entry.now in
         answer.new
-        ≡ conversion_array (merged_of_two_answer u surfaces first second work.old out.old) }
+        ≡ conversion_array (merged_of_two_answer u surfaces first.now second.now work.old out.old) }
     ensures out_after { let u = universe_of axes bits frame_bits in
         let surfaces = surfaces_of rows.now balls.now in
-        let first = first.entry.now in
-        let second = second.entry.now in
-        out.new ≡ merged_of_two_buffer u surfaces first second work.old out.old }
-    ensures fact { let u = universe_of axes bits frame_bits in
+        out.new ≡ merged_of_two_buffer u surfaces first.now second.now work.old out.old }
+    ensures work_kept { let u = universe_of axes bits frame_bits in
         let surfaces = surfaces_of rows.now balls.now in
-        let first = first.entry.now in
-        let second = second.entry.now in
-        ((work_of_two u surfaces first second work.old ≡ 0 → ⊥) → work.new ≡ work.old) }
+        ((work_of_two u surfaces first.now second.now work.old ≡ 0 → ⊥) → work.new ≡ work.old) }
 {
     let universe = Universe {
         axes: axes,

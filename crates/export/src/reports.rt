@@ -7,8 +7,7 @@ use universe::Universe;
 
 // The black voxels of each frame of a window, both ends in, summed over a list of expressions, one straight after
 // another: one count for each frame, at the front of the row that is lent.
-#[unsafe(no_mangle)]
-pub extern "C" fn durbizhan_report(
+pub fn durbizhan_report(
     axes: u64,
     bits: u64,
     frame_bits: u64,

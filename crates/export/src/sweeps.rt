@@ -6,8 +6,7 @@ ghost use Rattle.export.specs.Arrays.{universe_of, swept_array};
 use universe::Universe;
 
 // The merged sweep of an expression along an axis, counted from 1, and the universe that it is of.
-#[unsafe(no_mangle)]
-pub extern "C" fn durbizhan_sweep(
+pub fn durbizhan_sweep(
     axes: u64,
     bits: u64,
     frame_bits: u64,

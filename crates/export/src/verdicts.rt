@@ -40,8 +40,7 @@ pub(crate) fn told_of(verdict: Verdict) -> Told
 
 // Whether two trees share space in a window of frames, both ends in; their raw expression is written into lent room.
 // Read the number first: a refused verdict is Clear.
-#[unsafe(no_mangle)]
-pub extern "C" fn durbizhan_verdict(
+pub fn durbizhan_verdict(
     axes: u64,
     bits: u64,
     frame_bits: u64,
@@ -56,23 +55,15 @@ pub extern "C" fn durbizhan_verdict(
 ) -> u64
     ensures result_value { let u = universe_of axes bits frame_bits in
         let surfaces = surfaces_of rows.now balls.now in
-        let first = first.entry.now in
-        let second = second.entry.now in
-        let out = out.entry.now in
-        result ≡ (clearance_answer u surfaces first second first_frame last_frame out).refusal }
+        result ≡ (clearance_answer u surfaces first.now second.now first_frame last_frame out.old).refusal }
     ensures answer_after { let u = universe_of axes bits frame_bits in
         let surfaces = surfaces_of rows.now balls.now in
-        let first = first.entry.now in
-        let second = second.entry.now in
-        let out = out.entry.now in
         answer.new
-        ≡ clearance_array (clearance_answer u surfaces first second first_frame last_frame out) }
+        ≡ clearance_array (clearance_answer u surfaces first.now second.now first_frame last_frame out.old) }
     ensures out_after { let u = universe_of axes bits frame_bits in
         let surfaces = surfaces_of rows.now balls.now in
-        let first = first.entry.now in
-        let second = second.entry.now in
         out.new
-        ≡ clearance_buffer u surfaces first second first_frame last_frame out.old }
+        ≡ clearance_buffer u surfaces first.now second.now first_frame last_frame out.old }
 {
     let universe = Universe {
         axes: axes,
@@ -97,8 +88,7 @@ pub extern "C" fn durbizhan_verdict(
 
 // The voxels of a window of frames, both ends in, that two trees surely share, share at their centres, and possibly
 // share.
-#[unsafe(no_mangle)]
-pub extern "C" fn durbizhan_contacts(
+pub fn durbizhan_contacts(
     axes: u64,
     bits: u64,
     frame_bits: u64,
@@ -112,14 +102,10 @@ pub extern "C" fn durbizhan_contacts(
 ) -> u64
     ensures result_value { let u = universe_of axes bits frame_bits in
         let surfaces = surfaces_of rows.now balls.now in
-        let first = first.entry.now in
-        let second = second.entry.now in
-        result ≡ (contacts_answer u surfaces first second first_frame last_frame).refusal }
+        result ≡ (contacts_answer u surfaces first.now second.now first_frame last_frame).refusal }
     ensures answer_after { let u = universe_of axes bits frame_bits in
         let surfaces = surfaces_of rows.now balls.now in
-        let first = first.entry.now in
-        let second = second.entry.now in
-        answer.new ≡ contacts_array (contacts_answer u surfaces first second first_frame last_frame) }
+        answer.new ≡ contacts_array (contacts_answer u surfaces first.now second.now first_frame last_frame) }
 {
     let universe = Universe {
         axes: axes,
@@ -141,8 +127,7 @@ pub extern "C" fn durbizhan_contacts(
 
 // The black voxels of an expression in the whole universe, and whether it has one in a window of frames, both ends in.
 // Read the number first: a refused verdict is Clear.
-#[unsafe(no_mangle)]
-pub extern "C" fn durbizhan_numbers(
+pub fn durbizhan_numbers(
     axes: u64,
     bits: u64,
     frame_bits: u64,

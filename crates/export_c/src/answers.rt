@@ -1,0 +1,77 @@
+// Answers at once: the verdict of two trees over a window of frames, and its ends alone, with no room lent.
+ghost use Rattle.std.specs.Prelude.{◌≡◌};
+ghost use Rattle.csg.specs.Surfaces.{surfaces_of};
+ghost use Rattle.at_once.specs.Answers.{verdict_at_once, ends_at_once};
+ghost use Rattle.export.specs.Arrays.{universe_of, judged_array, spanned_array};
+
+// Whether two trees share space in a window of frames, both ends in, with no room lent. Read the number first: a
+// refused verdict is Clear.
+#[unsafe(no_mangle)]
+pub extern "C" fn durbizhan_verdict_at_once(
+    axes: u64,
+    bits: u64,
+    frame_bits: u64,
+    rows: &[i64],
+    balls: &[i64],
+    first: &[u16],
+    second: &[u16],
+    first_frame: u64,
+    last_frame: u64,
+    answer: &mut [u64; 4],
+) -> u64
+    ensures result_value { let u = universe_of axes bits frame_bits in
+        let surfaces = surfaces_of rows.now balls.now in
+        result ≡ (verdict_at_once u surfaces first.now second.now first_frame last_frame).refusal }
+    ensures answer_after { let u = universe_of axes bits frame_bits in
+        let surfaces = surfaces_of rows.now balls.now in
+        answer.new ≡ judged_array (verdict_at_once u surfaces first.now second.now first_frame last_frame) }
+{
+    export::answers::durbizhan_verdict_at_once(
+        axes,
+        bits,
+        frame_bits,
+        rows,
+        balls,
+        first,
+        second,
+        first_frame,
+        last_frame,
+        answer,
+    )
+}
+
+// The first and the last frame of a window, both ends in, in which two trees share space, with no room lent. Read the
+// number first: a refused answer is Clear.
+#[unsafe(no_mangle)]
+pub extern "C" fn durbizhan_ends_at_once(
+    axes: u64,
+    bits: u64,
+    frame_bits: u64,
+    rows: &[i64],
+    balls: &[i64],
+    first: &[u16],
+    second: &[u16],
+    first_frame: u64,
+    last_frame: u64,
+    answer: &mut [u64; 3],
+) -> u64
+    ensures result_value { let u = universe_of axes bits frame_bits in
+        let surfaces = surfaces_of rows.now balls.now in
+        result ≡ (ends_at_once u surfaces first.now second.now first_frame last_frame).refusal }
+    ensures answer_after { let u = universe_of axes bits frame_bits in
+        let surfaces = surfaces_of rows.now balls.now in
+        answer.new ≡ spanned_array (ends_at_once u surfaces first.now second.now first_frame last_frame) }
+{
+    export::answers::durbizhan_ends_at_once(
+        axes,
+        bits,
+        frame_bits,
+        rows,
+        balls,
+        first,
+        second,
+        first_frame,
+        last_frame,
+        answer,
+    )
+}

@@ -1,0 +1,72 @@
+// Stand-in proxies in floats become rows.
+ghost use Rattle.std.specs.Prelude.{◌≡◌};
+ghost use Rattle.standin.specs.Rows.{proxy_refusal, box_rows, cut_row};
+ghost use Rattle.export.specs.Arrays.{triple_of, box_of, cut_of};
+
+// The six rows of a Box one after the other, zeros where it is refused.
+#[unsafe(no_mangle)]
+pub extern "C" fn durbizhan_box(
+    near_x: f64,
+    near_y: f64,
+    near_z: f64,
+    far_x: f64,
+    far_y: f64,
+    far_z: f64,
+    displacement_x: f64,
+    displacement_y: f64,
+    displacement_z: f64,
+    rows: &mut [[i64; 5]; 6],
+) -> u64
+    ensures result_value { let near = triple_of near_x near_y near_z in
+        let far = triple_of far_x far_y far_z in
+        let step = triple_of displacement_x displacement_y displacement_z in
+        result ≡ proxy_refusal (box_of near far step) }
+    ensures rows_after { let near = triple_of near_x near_y near_z in
+        let far = triple_of far_x far_y far_z in
+        let step = triple_of displacement_x displacement_y displacement_z in
+        rows.new ≡ box_rows (box_of near far step) }
+{
+    export::proxies::durbizhan_box(
+        near_x,
+        near_y,
+        near_z,
+        far_x,
+        far_y,
+        far_z,
+        displacement_x,
+        displacement_y,
+        displacement_z,
+        rows,
+    )
+}
+
+// The row of a Cut, zeros where it is refused.
+#[unsafe(no_mangle)]
+pub extern "C" fn durbizhan_cut(
+    normal_x: f64,
+    normal_y: f64,
+    normal_z: f64,
+    offset: f64,
+    displacement_x: f64,
+    displacement_y: f64,
+    displacement_z: f64,
+    row: &mut [i64; 5],
+) -> u64
+    ensures result_value { let normal = triple_of normal_x normal_y normal_z in
+        let step = triple_of displacement_x displacement_y displacement_z in
+        result ≡ proxy_refusal (cut_of normal offset step) }
+    ensures row_after { let normal = triple_of normal_x normal_y normal_z in
+        let step = triple_of displacement_x displacement_y displacement_z in
+        row.new ≡ cut_row (cut_of normal offset step) }
+{
+    export::proxies::durbizhan_cut(
+        normal_x,
+        normal_y,
+        normal_z,
+        offset,
+        displacement_x,
+        displacement_y,
+        displacement_z,
+        row,
+    )
+}
