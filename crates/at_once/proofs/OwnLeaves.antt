@@ -101,11 +101,11 @@ module _ {surfaces : Surfaces} {axes : ℕ} {table lengths low : List ℕ} {left
 
   pub three_white : code ≡ 0 → {r : Three} → r ≡ alike_words 0 → TreeWords r
   three_white z q =
-      rw q (record { sure = gives_white false job z; centre = colours.gives-white job z; possible = gives_white true job z })
+      rw q (record { sure = gives_white false job z; centre = colours.gives_white job z; possible = gives_white true job z })
 
   pub three_black : (code ≡ 0 → ⊥) → code < 512 → {ones : ℕ} → ones ≡ all_ones (2 ^ left) → {r : Three} → r ≡ alike_words ones → TreeWords r
   three_black z l f q =
-      rw q (record { sure = gives_black false job z l f; centre = colours.gives-black job z l f; possible = gives_black true job z l f })
+      rw q (record { sure = gives_black false job z l f; centre = colours.gives_black job z l f; possible = gives_black true job z l f })
 
   module _ (l : 512 ≤ code) {words : Three} (t : SurfaceThree surfaces (side_job job l).block.universe (side_job job l).surface left
       (word_block (side_job job l).block) words) where
@@ -113,7 +113,7 @@ module _ {surfaces : Surfaces} {axes : ℕ} {table lengths low : List ℕ} {left
     three_own k =
         record {
           sure = gives_own false job l k t.sure;
-          centre = colours.gives-own job l t.centre k;
+          centre = colours.gives_own job l t.centre k;
           possible = gives_own true job l k t.possible;
         }
 
@@ -122,7 +122,7 @@ module _ {surfaces : Surfaces} {axes : ℕ} {table lengths low : List ℕ} {left
       three_within =
           record {
             sure = exchange_fits false job l false t.sure f;
-            centre = colours.exchange-fits job l t.centre f;
+            centre = colours.exchange_fits job l t.centre f;
             possible = exchange_fits true job l true t.possible f;
           }
 
@@ -130,7 +130,7 @@ module _ {surfaces : Surfaces} {axes : ℕ} {table lengths low : List ℕ} {left
       three_reversed k q =
           rw q (record {
             sure = gives_reversed false job l k f t.possible;
-            centre = colours.gives-reversed job l t.centre k f;
+            centre = colours.gives_reversed job l t.centre k f;
             possible = gives_reversed true job l k f t.sure;
           })
 

@@ -1,7 +1,7 @@
 -- The merged expression is the shortest with its colours. All shapes with the same colours have one merged shape (`merged_once`), and a shape is longer than
 -- its merged one unless it is merged.
 use Prim.Native.Nat.{ℕ, ◌≤◌}
-use mathlib.Core.Path.{◌≡◌, refl, sym, ap, ◌∙◌}
+use mathlib.Core.Path.{◌≡◌, sym, ap, ◌∙◌}
 use mathlib.Core.List.{List}
 use native.Mathlib.Omega.{arith}
 use lib.ListN.{length}

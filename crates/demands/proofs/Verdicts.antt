@@ -129,7 +129,7 @@ module _ (u : Universe) (accept : Accepted u) (s : Shape) (fits : depth s ≤ le
   }
     where
       w : verdicts.HitIn u s first last contact
-      w = verdicts.hit-is u s first last contact e
+      w = verdicts.hit_is u s first last contact e
 
       earliest : BlackVoxel u colours contact.first contact.first
       earliest = counted_voxel contact.first w.first_to w.first_black
@@ -153,7 +153,7 @@ module _ (u : Universe) (accept : Accepted u) (s : Shape) (fits : depth s ≤ le
   judges = record {
     clear_none = λ e b. omega (arith, voxel_counted b, verdicts.clear_none u s first last e (frame_of u b.voxel) b.from b.to);
     none_clear = λ h. verdicts.none_clear u s first last (λ c i j. no_voxel h c i j (dec_lt 0 (voxels_at u s c)));
-    black_hit = λ b. verdicts.some-hit u s first last (frame_of u b.voxel) b.from b.to (voxel_counted b);
+    black_hit = λ b. verdicts.some_hit u s first last (frame_of u b.voxel) b.from b.to (voxel_counted b);
     hit_touches = touches;
   }
 

@@ -1,1 +1,2 @@
 // No code: what the product promises, as theorems on the definitions.
+#![tactic(auto)]

@@ -28,9 +28,9 @@ module _ (u : Universe) (surfaces : Surfaces) (words : List ℕ) (work : List �
   one_accepted z = s.enough (all_accepted u surfaces words (1 ∷ []) (one_refusal u surfaces words ∙ z)).0.accepted_universe
 
   pub one_as_first : {found : Conversion} {out' : List ℕ} →
-      found ≡ pruned.rawOfOneAnswer u surfaces words work out → out' ≡ pruned.rawOfOneBuffer u surfaces words work out → {w : Written} → w ≡ parts_of found →
-      (w ≡ convert.rawOfOneAnswer u surfaces words out) × (out' ≡ convert.rawOfOneBuffer u surfaces words out)
-  unfolding convert.rawOfOneAnswer convert.rawOfOneBuffer pruned.rawOfOneAnswer pruned.rawOfOneBuffer
+      found ≡ pruned.raw_of_one_answer u surfaces words work out → out' ≡ pruned.raw_of_one_buffer u surfaces words work out → {w : Written} → w ≡ parts_of found →
+      (w ≡ convert.raw_of_one_answer u surfaces words out) × (out' ≡ convert.raw_of_one_buffer u surfaces words out)
+  unfolding convert.raw_of_one_answer convert.raw_of_one_buffer pruned.raw_of_one_answer pruned.raw_of_one_buffer
   one_as_first f g a =
       let k = same (one_tree_refusal u surfaces words) work (nodes_needed u (length words)) out (raw_of_one u surfaces words) _ one_accepted in
       (a ∙ rw f (parts k.number k.long), g ∙ k.room)
@@ -41,10 +41,10 @@ module _ (u : Universe) (surfaces : Surfaces) (first second : List ℕ) (work : 
   two_accepted z = s.enough (all_accepted u surfaces first second z).0.accepted_universe
 
   pub two_as_first : {found : Conversion} {out' : List ℕ} →
-      found ≡ pruned.rawOfTwoAnswer u surfaces first second work out → out' ≡ pruned.rawOfTwoBuffer u surfaces first second work out → {w : Written} →
+      found ≡ pruned.raw_of_two_answer u surfaces first second work out → out' ≡ pruned.raw_of_two_buffer u surfaces first second work out → {w : Written} →
       w ≡ parts_of found →
-      (w ≡ convert.rawOfTwoAnswer u surfaces first second out) × (out' ≡ convert.rawOfTwoBuffer u surfaces first second out)
-  unfolding convert.rawOfTwoAnswer convert.rawOfTwoBuffer pruned.rawOfTwoAnswer pruned.rawOfTwoBuffer
+      (w ≡ convert.raw_of_two_answer u surfaces first second out) × (out' ≡ convert.raw_of_two_buffer u surfaces first second out)
+  unfolding convert.raw_of_two_answer convert.raw_of_two_buffer pruned.raw_of_two_answer pruned.raw_of_two_buffer
   two_as_first f g a =
       let k = same (two_trees_refusal u surfaces first second) work (nodes_needed u (length first + length second)) out (raw_of_two u surfaces first second) _
       two_accepted in
@@ -52,12 +52,12 @@ module _ (u : Universe) (surfaces : Surfaces) (first second : List ℕ) (work : 
 
   -- whichever of both is asked for
   pub first_alone : {both : Bool} → both ≡ false → {found : Conversion} {out' : List ℕ} →
-      found ≡ pruned.rawOfOneAnswer u surfaces first work out → out' ≡ pruned.rawOfOneBuffer u surfaces first work out → {w : Written} → w ≡ parts_of found →
+      found ≡ pruned.raw_of_one_answer u surfaces first work out → out' ≡ pruned.raw_of_one_buffer u surfaces first work out → {w : Written} → w ≡ parts_of found →
       (w ≡ raw_answer both u surfaces first second out) × (out' ≡ raw_buffer both u surfaces first second out)
   first_alone b f g a = rw b (one_as_first u surfaces first work out (fewer_suffice _ _ s) f g a)
 
   pub both_together : {both : Bool} → both ≡ true → {found : Conversion} {out' : List ℕ} →
-      found ≡ pruned.rawOfTwoAnswer u surfaces first second work out → out' ≡ pruned.rawOfTwoBuffer u surfaces first second work out → {w : Written} →
+      found ≡ pruned.raw_of_two_answer u surfaces first second work out → out' ≡ pruned.raw_of_two_buffer u surfaces first second work out → {w : Written} →
       w ≡ parts_of found →
       (w ≡ raw_answer both u surfaces first second out) × (out' ≡ raw_buffer both u surfaces first second out)
   both_together b f g a = rw b (two_as_first f g a)

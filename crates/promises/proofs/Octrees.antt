@@ -90,7 +90,7 @@ module _ {u : Universe} {s : List ℕ} (r : Exportable u s) where
   reduced_of = reduce (octree_of u.bits r.shape)
 
   most : AtMost u.bits reduced_of
-  most = octrees.reduce-most (octree_most u.bits r.shape)
+  most = octrees.reduce_most (octree_most u.bits r.shape)
 
   deep : depth r.shape ≤ levels u
   deep = (read_is u s r.shape r.reads).1
@@ -102,7 +102,7 @@ module _ {u : Universe} {s : List ℕ} (r : Exportable u s) where
   export_is = ap (λ x. of_shape x [] (λ a. octree_symbols (reduce (octree_of u.bits a)))) r.reads
 
   export_reads : octree_on u.bits (export_symbols u s) ≡ found reduced_of (length (octree_symbols reduced_of))
-  export_reads = rw export_is (octrees.reads-back most)
+  export_reads = rw export_is (octrees.reads_back most)
 
   same_colours : (v : List ℕ) → voxel_refusal u v ≡ 0 → octree_colour u.bits reduced_of v ≡ colours_of u s v
   same_colours v f = export_colour u cu v r.shape deep ∙ sym (given v f)

@@ -109,16 +109,16 @@ module _ (u : Universe) (surfaces : Surfaces) where
     -- THEOREM, of one tree
     pub raw_of_one_lem : (work : List ℤ) (out : List ℕ) →
         Alike u surfaces (one_tree_refusal u surfaces words) (nodes_needed u (length words)) (length words) (tree_of (named surfaces) words)
-        (one_tree surfaces words) work (convert.rawOfOneAnswer u surfaces words out) (convert.rawOfOneBuffer u surfaces words out)
-        (pruned.rawOfOneAnswer u surfaces words work out) (pruned.rawOfOneBuffer u surfaces words work out)
-    unfolding convert.rawOfOneAnswer convert.rawOfOneBuffer pruned.rawOfOneAnswer pruned.rawOfOneBuffer
+        (one_tree surfaces words) work (convert.raw_of_one_answer u surfaces words out) (convert.raw_of_one_buffer u surfaces words out)
+        (pruned.raw_of_one_answer u surfaces words work out) (pruned.raw_of_one_buffer u surfaces words work out)
+    unfolding convert.raw_of_one_answer convert.raw_of_one_buffer pruned.raw_of_one_answer pruned.raw_of_one_buffer
     raw_of_one_lem work out = alike _ work _ out (raw_of_one u surfaces words) _ u surfaces (length words) _ _ refl one_most
 
     pub merged_of_one_lem : (work : List ℤ) (out : List ℕ) →
         Alike u surfaces (one_tree_refusal u surfaces words) (nodes_needed u (length words)) (length words) (tree_of (named surfaces) words)
-        (one_tree surfaces words) work (convert.mergedOfOneAnswer u surfaces words out) (convert.mergedOfOneBuffer u surfaces words out)
-        (pruned.mergedOfOneAnswer u surfaces words work out) (pruned.mergedOfOneBuffer u surfaces words work out)
-    unfolding convert.mergedOfOneAnswer convert.mergedOfOneBuffer pruned.mergedOfOneAnswer pruned.mergedOfOneBuffer
+        (one_tree surfaces words) work (convert.merged_of_one_answer u surfaces words out) (convert.merged_of_one_buffer u surfaces words out)
+        (pruned.merged_of_one_answer u surfaces words work out) (pruned.merged_of_one_buffer u surfaces words work out)
+    unfolding convert.merged_of_one_answer convert.merged_of_one_buffer pruned.merged_of_one_answer pruned.merged_of_one_buffer
     merged_of_one_lem work out = alike _ work _ out (merged_of_one u surfaces words) _ u surfaces (length words) _ _ refl one_most
 
   module _ (first second : List ℕ) where
@@ -136,16 +136,16 @@ module _ (u : Universe) (surfaces : Surfaces) where
     -- THEOREM, of two trees
     pub raw_of_two_lem : (work : List ℤ) (out : List ℕ) →
         Alike u surfaces (two_trees_refusal u surfaces first second) (nodes_needed u (length first + length second)) (length first + length second)
-        (trees_of surfaces first second) (two_trees surfaces first second) work (convert.rawOfTwoAnswer u surfaces first second out)
-        (convert.rawOfTwoBuffer u surfaces first second out) (pruned.rawOfTwoAnswer u surfaces first second work out)
-        (pruned.rawOfTwoBuffer u surfaces first second work out)
-    unfolding convert.rawOfTwoAnswer convert.rawOfTwoBuffer pruned.rawOfTwoAnswer pruned.rawOfTwoBuffer
+        (trees_of surfaces first second) (two_trees surfaces first second) work (convert.raw_of_two_answer u surfaces first second out)
+        (convert.raw_of_two_buffer u surfaces first second out) (pruned.raw_of_two_answer u surfaces first second work out)
+        (pruned.raw_of_two_buffer u surfaces first second work out)
+    unfolding convert.raw_of_two_answer convert.raw_of_two_buffer pruned.raw_of_two_answer pruned.raw_of_two_buffer
     raw_of_two_lem work out = alike _ work _ out (raw_of_two u surfaces first second) _ u surfaces (length first + length second) _ _ refl two_most
 
     pub merged_of_two_lem : (work : List ℤ) (out : List ℕ) →
         Alike u surfaces (two_trees_refusal u surfaces first second) (nodes_needed u (length first + length second)) (length first + length second)
-        (trees_of surfaces first second) (two_trees surfaces first second) work (convert.mergedOfTwoAnswer u surfaces first second out)
-        (convert.mergedOfTwoBuffer u surfaces first second out) (pruned.mergedOfTwoAnswer u surfaces first second work out)
-        (pruned.mergedOfTwoBuffer u surfaces first second work out)
-    unfolding convert.mergedOfTwoAnswer convert.mergedOfTwoBuffer pruned.mergedOfTwoAnswer pruned.mergedOfTwoBuffer
+        (trees_of surfaces first second) (two_trees surfaces first second) work (convert.merged_of_two_answer u surfaces first second out)
+        (convert.merged_of_two_buffer u surfaces first second out) (pruned.merged_of_two_answer u surfaces first second work out)
+        (pruned.merged_of_two_buffer u surfaces first second work out)
+    unfolding convert.merged_of_two_answer convert.merged_of_two_buffer pruned.merged_of_two_answer pruned.merged_of_two_buffer
     merged_of_two_lem work out = alike _ work _ out (merged_of_two u surfaces first second) _ u surfaces (length first + length second) _ _ refl two_most

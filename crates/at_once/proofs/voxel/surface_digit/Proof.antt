@@ -58,7 +58,7 @@ returns-2 c =
     let o = c.before.before.before.offs-of-ball.ensures in let d = c.before.before.distance-of.ensures in
     let m = c.before.most-of-ball.ensures in
     λ job. let j = job.word in let i = t.args.name - 512 in let here = ball_place j l in
-    gives_ball j l (balls.gives-ball j.block i here o d m (ball_digit (balls.ball-over j.block i here o d m) c.test-digit2.ensures))
+    gives_ball j l (balls.gives_ball j.block i here o d m (ball_digit (balls.ball_over j.block i here o d m) c.test-digit2.ensures))
 
 pub surface-digit-spec : {M : Type 1} → statement M
 surface-digit-spec =
