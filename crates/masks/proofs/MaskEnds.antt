@@ -214,16 +214,16 @@ module _ (u : Universe) (some : 0 < u.axes) (n m : ℕ) (l : m < 2 ^ 2 ^ suc n) 
             subst (λ (f : ℕ). AsGood e f last) (sym (ap (steps (suc n)) q ∙ later_frames_lem p h))
             (high_passed c (omega (arith, short i, x.attained.has)) p d)
 
-    side_left : side ≡ side_left u n
-    side_left = rw (eq-eqb (axis_left u n) (frame_axis u) a)
+    side_is : side ≡ side_left u n
+    side_is = rw (eq-eqb (axis_left u n) (frame_axis u) a)
 
     -- the half that is chosen, which is not 0
     across : {last later : Bool} → (m ≡ 0 → ⊥) → Chosen lo hi last later → (e : ℕ) →
         (((cond later hi lo) ≡ 0 → ⊥) → IsEnd last u n (cond later hi lo) e) → IsEnd last u (suc n) m (cond later (side_left u n) 0 + e)
     across k (first_low c) e x = rw (zero-add e) (across_low (first_low c) (x c))
     across k (last_low c) e x = rw (zero-add e) (across_low (last_low c) (x (λ z. not_none n m l k z c)))
-    across k (first_high c) e x = subst (λ (f : ℕ). IsEnd false u (suc n) m (f + e)) side_left (across_high (first_high c) (x (λ z. not_none n m l k c z)))
-    across k (last_high c) e x = subst (λ (f : ℕ). IsEnd true u (suc n) m (f + e)) side_left (across_high (last_high c) (x c))
+    across k (first_high c) e x = subst (λ (f : ℕ). IsEnd false u (suc n) m (f + e)) side_is (across_high (first_high c) (x (λ z. not_none n m l k c z)))
+    across k (last_high c) e x = subst (λ (f : ℕ). IsEnd true u (suc n) m (f + e)) side_is (across_high (last_high c) (x c))
 
 or_none : (a b : ℕ) → bit_or a b ≡ 0 → (a ≡ 0) × (b ≡ 0)
 or_none a b e = let h = or_add_and a b in let k = and_le_l a b in let j = and_le_r a b in (omega arith, omega arith)
