@@ -103,9 +103,9 @@ module _ {u : Universe} {s : List ℕ} {axis : ℕ} (r : Ready u s axis) where
       pub whole_length : piece.end ≡ length (swept_symbols u s axis)
       whole_length = omega (arith, ap (λ (x : Piece). x.end) p, ap size whole_shape_lem, written_length)
 
-      pub whole_written : (out one two : List ℕ) → one ≡ laid out 0 (swept_block s axes (axis - 1) count (set work 0 0) 0 1) → two ≡ noted one 0 piece.held →
-          two ≡ sets out 0 (swept_symbols u s axis)
-      whole_written out one two a b =
+      pub whole_written : (out first second : List ℕ) → first ≡ laid out 0 (swept_block s axes (axis - 1) count (set work 0 0) 0 1) → second ≡ noted first 0 piece.held →
+          second ≡ sets out 0 (swept_symbols u s axis)
+      whole_written out first second a b =
           b
           ∙ ap₂ (λ l h. noted l 0 h) a (ap (λ (x : Piece). x.held) p)
           ∙ laid_noted out 0 (swept_block s axes (axis - 1) count (set work 0 0) 0 1)

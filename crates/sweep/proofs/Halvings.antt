@@ -8,7 +8,7 @@ use Prim.Native.Nat.{ℕ, suc, ◌+◌, ◌*◌, ◌^◌, ◌≤◌, ◌<◌}
 use native.Mathlib.Omega.{arith}
 use lib.ListN.{length, take, drop, length-append, length-take}
 use lib.Seq.{drop_at, sets, length-sets}
-use Rattle.bintree.specs.Shape.{Shape, halved, size}
+use Rattle.bintree.specs.Shape.{Shape, size}
 use Rattle.bintree.specs.Merging.{merged}
 use Rattle.bintree.specs.Walks.{leaf_symbol, is_alike, joined_halves, laid}
 use Rattle.bintree.proofs.Lays.{merged_same, merged_apart, leaf_laid, apart_laid}
@@ -17,7 +17,7 @@ use Rattle.sweep.specs.Sweeping.{swept}
 use Rattle.sweep.specs.Places.{unions, total, swept_trees, trees_at, Stand, past_all}
 use Rattle.sweep.specs.Places.{slots, Inside, Apart, Moved, order_left, Sweeping, Halving, lows_at, highs_at}
 use Rattle.sweep.specs.Places.{swept_across, swept_halves, swept_block, piece_of}
-use Rattle.sweep.proofs.Trees.{stand_trees, stand_append, low_stand, high_stand}
+use Rattle.sweep.proofs.Trees.{stand_trees, stand_append}
 use Rattle.sweep.proofs.Trees.{past_length, past_append, total_append, swept_trees_size}
 use Rattle.sweep.proofs.Trees.{slots_least}
 use Rattle.sweep.proofs.Lists.{piece_eq, slots_length, sets_take, sets_slots, slots_kept, take_kept, slots_more, stand_slots, stand_count}

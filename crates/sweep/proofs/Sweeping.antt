@@ -125,6 +125,7 @@ lower_half order j s h p e = over_colour (swept order j (low_part s)) (swept ord
 pub black_below : (order : List ℕ) (j : ℕ) (s : Shape) (p : List ℕ) → Path order p → colour s p ≡ Black → colour (swept order j s) (shadow order j p) ≡ Black
 unfolding swept shadow
 black_below [] j s p w e = e
+black_below (x ∷ order) j s [] w e = elim w [ ]
 black_below (x ∷ order) j s (h ∷ p) w e = step x order j s h p (black_below order j (half h s) p (rest w) (sym (colour_half s h p) ∙ e))
   where
     rest : {x h : ℕ} {order p : List ℕ} → Path (x ∷ order) (h ∷ p) → Path order p

@@ -73,6 +73,7 @@ never_halved : {s : List ℕ} {p : ℕ} {a b : Shape} → Begins s 0 p (halved a
 never_halved {s} {p} e = go 0 refl (stands s 0 p _ e.is)
   where
     go : {a b : Shape} (n : ℕ) → n ≡ 0 → Stands s n p (halved a b) → ⊥
+    go zero z x = elim x [ ]
     go (suc n) z (open_stands f l h) = omega arith
 
 -- the place past it, found by counting the trees still to come

@@ -1,4 +1,6 @@
 // The swept space: where in the other axes an expression is black at some place of one axis.
+#![tactic(auto)]
+
 mod block;
 mod places;
 

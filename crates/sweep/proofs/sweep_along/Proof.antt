@@ -3,8 +3,8 @@ use Rattle.sweep.proofs.Answers.{along_laws}
 use Rattle.sweep.proofs.sweep_along.Statement.{statement}
 use Rattle.sweep.proofs.sweep_along.Tie as tie
 
-pub sweep-along-spec : {M : Type 1} → statement M
-sweep-along-spec =
+pub sweep_along_spec : {M : Type 1} → statement M
+sweep_along_spec =
     tie.close
     (tie.spec
     (λ c κs. search along_laws)

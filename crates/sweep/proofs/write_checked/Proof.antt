@@ -3,8 +3,8 @@ use Rattle.sweep.proofs.Answers.{checked_laws}
 use Rattle.sweep.proofs.write_checked.Statement.{statement}
 use Rattle.sweep.proofs.write_checked.Tie as tie
 
-pub write-checked-spec : {M : Type 1} → statement M
-write-checked-spec =
+pub write_checked_spec : {M : Type 1} → statement M
+write_checked_spec =
     tie.close
     (tie.spec
     (λ c κs. search checked_laws)

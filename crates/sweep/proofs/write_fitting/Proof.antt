@@ -3,8 +3,8 @@ use Rattle.sweep.proofs.Answers.{fitting_laws}
 use Rattle.sweep.proofs.write_fitting.Statement.{statement}
 use Rattle.sweep.proofs.write_fitting.Tie as tie
 
-pub write-fitting-spec : {M : Type 1} → statement M
-write-fitting-spec =
+pub write_fitting_spec : {M : Type 1} → statement M
+write_fitting_spec =
     tie.close
     (tie.spec
     (λ c κs. search fitting_laws)

@@ -7,14 +7,13 @@ use Rattle.sweep.proofs.write_in.Statement.{statement}
 use Rattle.sweep.proofs.write_in.Tie as tie
 
 -- a store and the block keep the slots' number
-same_length : tie.Need-same-length
+same_length : tie.Need-shape_of-work
 same_length c =
-    let b = c.before.before.before.before.before.before.before.before in
-    let k = b.before.before.before.before.before.before.before.before.before in
-    kept_length b.sweep-block.new.1.1.1.1.0 k.args.work.now 0 0 b.sweep-block.auto.1.1.1.1.0
+    let b = c in
+    kept_length b.sweep_block-piece.new.work b.args.work.now 0 0 b.sweep_block-piece.auto.work
 
-pub write-in-spec : {M : Type 1} → statement M
-write-in-spec =
+pub write_in_spec : {M : Type 1} → statement M
+write_in_spec =
     tie.close
     (tie.spec
     (λ c κs. search write_laws)

@@ -5,14 +5,14 @@ use Rattle.sweep.proofs.Slots.{Passing, past_laws}
 use Rattle.sweep.proofs.places.past.Statement.{statement}
 use Rattle.sweep.proofs.places.past.Tie as tie
 
-abbrev invariant-loop : tie.invariant-loop
+abbrev invariant-loop : tie.invariant-loop-place
 invariant-loop expression at place₀ more₀ place more = Passing expression at place more
 
-abbrev decreases-loop : tie.decreases-loop
+abbrev decreases-loop : tie.decreases-loop-place
 decreases-loop expression at place₀ more₀ place more = length expression - place
 
-pub past-spec : {M : Type 1} → statement M
-past-spec =
+pub past_spec : {M : Type 1} → statement M
+past_spec =
     tie.close
     (tie.spec
     invariant-loop

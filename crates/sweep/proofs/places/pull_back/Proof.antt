@@ -4,14 +4,14 @@ use Rattle.sweep.proofs.Pulls.{Pulling, pull_laws}
 use Rattle.sweep.proofs.places.pull_back.Statement.{statement}
 use Rattle.sweep.proofs.places.pull_back.Tie as tie
 
-abbrev invariant-loop : tie.invariant-loop
+abbrev invariant-loop : tie.invariant-loop-i
 invariant-loop expression work₀ from count at next₀ i₀ work next i = Pulling expression work₀ from count at work next i
 
-abbrev decreases-loop : tie.decreases-loop
+abbrev decreases-loop : tie.decreases-loop-i
 decreases-loop expression work₀ from count at next₀ i₀ work next i = count - i
 
-pub pull-back-spec : {M : Type 1} → statement M
-pull-back-spec =
+pub pull_back_spec : {M : Type 1} → statement M
+pull_back_spec =
     tie.close
     (tie.spec
     invariant-loop
