@@ -1,4 +1,6 @@
 // Files: scenes are read, shapes are read and written.
+#![tactic(auto)]
+
 mod decode;
 mod scene_file;
 mod shape_file;

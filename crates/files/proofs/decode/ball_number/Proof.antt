@@ -3,8 +3,8 @@ use Rattle.files.proofs.Numbers.{ball_laws}
 use Rattle.files.proofs.decode.ball_number.Statement.{statement}
 use Rattle.files.proofs.decode.ball_number.Tie as tie
 
-pub ball-number-spec : {M : Type 1} → statement M
-ball-number-spec =
+pub ball_number_spec : {M : Type 1} → statement M
+ball_number_spec =
     tie.close
     (tie.spec
     (λ c. search ball_laws)

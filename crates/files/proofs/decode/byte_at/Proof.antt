@@ -4,10 +4,10 @@ use borrow.Author.Rules.{rules}
 use Rattle.files.proofs.decode.byte_at.Statement.{statement}
 use Rattle.files.proofs.decode.byte_at.Tie as tie
 
-pub byte-at-spec : {M : Type 1} → statement M
-byte-at-spec =
+pub byte_at_spec : {M : Type 1} → statement M
+byte_at_spec =
     tie.close
     (tie.spec
     (λ c. search rules)
-    (λ c. omega (arith, c.shared-slice-known.given c.before.args.at))
+    (λ c. omega (arith, c.shared_slice_known-1.given c.args.at))
     (λ c. search rules))

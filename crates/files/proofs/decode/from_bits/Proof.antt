@@ -3,8 +3,8 @@ use Rattle.files.proofs.Numbers.{bits_laws}
 use Rattle.files.proofs.decode.from_bits.Statement.{statement}
 use Rattle.files.proofs.decode.from_bits.Tie as tie
 
-pub from-bits-spec : {M : Type 1} → statement M
-from-bits-spec =
+pub from_bits_spec : {M : Type 1} → statement M
+from_bits_spec =
     tie.close
     (tie.spec
     (λ c. search bits_laws)

@@ -3,8 +3,8 @@ use Rattle.files.proofs.Numbers.{bits_laws}
 use Rattle.files.proofs.decode.from_short_bits.Statement.{statement}
 use Rattle.files.proofs.decode.from_short_bits.Tie as tie
 
-pub from-short-bits-spec : {M : Type 1} → statement M
-from-short-bits-spec =
+pub from_short_bits_spec : {M : Type 1} → statement M
+from_short_bits_spec =
     tie.close
     (tie.spec
     (λ c. search bits_laws)

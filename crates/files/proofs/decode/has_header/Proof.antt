@@ -5,14 +5,14 @@ use Rattle.files.proofs.Numbers.{Marking, marking_laws}
 use Rattle.files.proofs.decode.has_header.Statement.{statement}
 use Rattle.files.proofs.decode.has_header.Tie as tie
 
-abbrev invariant-loop : tie.invariant-loop
+abbrev invariant-loop : tie.invariant-loop-i
 invariant-loop bytes header mark i₀ i = Marking bytes header mark i
 
-abbrev decreases-loop : tie.decreases-loop
+abbrev decreases-loop : tie.decreases-loop-i
 decreases-loop bytes header mark i₀ i = length mark - i
 
-pub has-header-spec : {M : Type 1} → statement M
-has-header-spec =
+pub has_header_spec : {M : Type 1} → statement M
+has_header_spec =
     tie.close
     (tie.spec
     invariant-loop

@@ -6,14 +6,14 @@ use Rattle.files.proofs.Numbers.{Filling, filling_laws}
 use Rattle.files.proofs.decode.read_balls.Statement.{statement}
 use Rattle.files.proofs.decode.read_balls.Tie as tie
 
-abbrev invariant-loop : tie.invariant-loop
+abbrev invariant-loop : tie.invariant-loop-i
 invariant-loop bytes at count out₀ numbers i₀ out i = Filling (ball_length * count) (ball_number bytes at) out₀ i out
 
-abbrev decreases-loop : tie.decreases-loop
+abbrev decreases-loop : tie.decreases-loop-i
 decreases-loop bytes at count out₀ numbers i₀ out i = ball_length * count - i
 
-pub read-balls-spec : {M : Type 1} → statement M
-read-balls-spec =
+pub read_balls_spec : {M : Type 1} → statement M
+read_balls_spec =
     tie.close
     (tie.spec
     invariant-loop

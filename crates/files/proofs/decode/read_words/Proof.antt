@@ -5,14 +5,14 @@ use Rattle.files.proofs.Numbers.{Filling, filling_laws}
 use Rattle.files.proofs.decode.read_words.Statement.{statement}
 use Rattle.files.proofs.decode.read_words.Tie as tie
 
-abbrev invariant-loop : tie.invariant-loop
+abbrev invariant-loop : tie.invariant-loop-i
 invariant-loop bytes at count out₀ i₀ out i = Filling count (λ k. u16_at bytes (at + word_bytes * k)) out₀ i out
 
-abbrev decreases-loop : tie.decreases-loop
+abbrev decreases-loop : tie.decreases-loop-i
 decreases-loop bytes at count out₀ i₀ out i = count - i
 
-pub read-words-spec : {M : Type 1} → statement M
-read-words-spec =
+pub read_words_spec : {M : Type 1} → statement M
+read_words_spec =
     tie.close
     (tie.spec
     invariant-loop

@@ -5,15 +5,15 @@ use borrow.Author.Rules.{rules}
 use Rattle.files.proofs.decode.u16_at.Statement.{statement}
 use Rattle.files.proofs.decode.u16_at.Tie as tie
 
-pub u16-at-spec : {M : Type 1} → statement M
-u16-at-spec =
+pub u16_at_spec : {M : Type 1} → statement M
+u16_at_spec =
     tie.close
     (tie.spec
     (λ c. search rules)
-    (λ c. omega (arith, c.shared-slice-known.given c.before.args.at))
+    (λ c. omega (arith, c.shared_slice_known-1.given c.args.at))
     (λ c. search rules)
     (λ c. search rules)
-    (λ c. let at = c.before.before.args.at in let small = c.shared-slice-known2.given in omega (arith, small at, small (at + 1)))
-    (λ c. let at = c.before.before.args.at in let small = c.shared-slice-known2.given in omega (arith, small at, small (at + 1)))
-    (λ c. let at = c.before.before.args.at in let small = c.shared-slice-known2.given in omega (arith, small at, small (at + 1)))
+    (λ c. let at = c.args.at in let small = c.shared_slice_known-2-1.given in omega (arith, small at, small (at + 1)))
+    (λ c. let at = c.args.at in let small = c.shared_slice_known-2-1.given in omega (arith, small at, small (at + 1)))
+    (λ c. let at = c.args.at in let small = c.shared_slice_known-2-1.given in omega (arith, small at, small (at + 1)))
     (λ c. omega arith))

@@ -3,8 +3,8 @@ use Rattle.files.proofs.Numbers.{universe_laws}
 use Rattle.files.proofs.decode.universe_said.Statement.{statement}
 use Rattle.files.proofs.decode.universe_said.Tie as tie
 
-pub universe-said-spec : {M : Type 1} → statement M
-universe-said-spec =
+pub universe_said_spec : {M : Type 1} → statement M
+universe_said_spec =
     tie.close
     (tie.spec
     (λ c κs. search universe_laws)

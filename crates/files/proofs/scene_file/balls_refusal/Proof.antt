@@ -4,8 +4,8 @@ use Rattle.files.proofs.Scenes.{array_laws}
 use Rattle.files.proofs.scene_file.balls_refusal.Statement.{statement}
 use Rattle.files.proofs.scene_file.balls_refusal.Tie as tie
 
-pub balls-refusal-spec : {M : Type 1} → statement M
-balls-refusal-spec =
+pub balls_refusal_spec : {M : Type 1} → statement M
+balls_refusal_spec =
     tie.close
     (tie.spec
     (λ c. search array_laws)

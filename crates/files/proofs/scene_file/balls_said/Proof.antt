@@ -3,8 +3,8 @@ use Rattle.files.proofs.SceneHeaders.{scene_laws}
 use Rattle.files.proofs.scene_file.balls_said.Statement.{statement}
 use Rattle.files.proofs.scene_file.balls_said.Tie as tie
 
-pub balls-said-spec : {M : Type 1} → statement M
-balls-said-spec =
+pub balls_said_spec : {M : Type 1} → statement M
+balls_said_spec =
     tie.close
     (tie.spec
     (λ c κs. search scene_laws)

@@ -3,8 +3,8 @@ use Rattle.files.proofs.SceneHeaders.{scene_laws}
 use Rattle.files.proofs.scene_file.has_version.Statement.{statement}
 use Rattle.files.proofs.scene_file.has_version.Tie as tie
 
-pub has-version-spec : {M : Type 1} → statement M
-has-version-spec =
+pub has_version_spec : {M : Type 1} → statement M
+has_version_spec =
     tie.close
     (tie.spec
     (λ c κs. search scene_laws)

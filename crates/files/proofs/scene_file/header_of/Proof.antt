@@ -3,8 +3,8 @@ use Rattle.files.proofs.SceneHeaders.{scene_laws}
 use Rattle.files.proofs.scene_file.header_of.Statement.{statement}
 use Rattle.files.proofs.scene_file.header_of.Tie as tie
 
-pub header-of-spec : {M : Type 1} → statement M
-header-of-spec =
+pub header_of_spec : {M : Type 1} → statement M
+header_of_spec =
     tie.close
     (tie.spec
     (λ c κs. search scene_laws)

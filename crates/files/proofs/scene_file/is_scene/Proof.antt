@@ -3,13 +3,12 @@ use Rattle.files.proofs.SceneHeaders.{scene_laws}
 use Rattle.files.proofs.scene_file.is_scene.Statement.{statement}
 use Rattle.files.proofs.scene_file.is_scene.Tie as tie
 
-pub is-scene-spec : {M : Type 1} → statement M
-is-scene-spec =
+pub is_scene_spec : {M : Type 1} → statement M
+is_scene_spec =
     tie.close
     (tie.spec
     (λ c. search scene_laws)
     (λ c κs. search scene_laws)
-    (λ c. search scene_laws)
     (λ c κs. search scene_laws)
     (λ c. search scene_laws)
     (λ c κs. search scene_laws)

@@ -3,8 +3,8 @@ use Rattle.files.proofs.SceneHeaders.{scene_laws}
 use Rattle.files.proofs.scene_file.is_whole.Statement.{statement}
 use Rattle.files.proofs.scene_file.is_whole.Tie as tie
 
-pub is-whole-spec : {M : Type 1} → statement M
-is-whole-spec =
+pub is_whole_spec : {M : Type 1} → statement M
+is_whole_spec =
     tie.close
     (tie.spec
     (λ c κs. search scene_laws)

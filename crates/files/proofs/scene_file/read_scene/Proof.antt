@@ -4,8 +4,8 @@ use Rattle.files.proofs.Scenes.{read_laws}
 use Rattle.files.proofs.scene_file.read_scene.Statement.{statement}
 use Rattle.files.proofs.scene_file.read_scene.Tie as tie
 
-pub read-scene-spec : {M : Type 1} → statement M
-read-scene-spec =
+pub read_scene_spec : {M : Type 1} → statement M
+read_scene_spec =
     tie.close
     (tie.spec
     (λ c κs. search read_laws)

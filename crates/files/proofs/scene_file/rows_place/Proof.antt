@@ -3,8 +3,8 @@ use Rattle.files.proofs.SceneHeaders.{scene_laws}
 use Rattle.files.proofs.scene_file.rows_place.Statement.{statement}
 use Rattle.files.proofs.scene_file.rows_place.Tie as tie
 
-pub rows-place-spec : {M : Type 1} → statement M
-rows-place-spec =
+pub rows_place_spec : {M : Type 1} → statement M
+rows_place_spec =
     tie.close
     (tie.spec
     (λ c κs. search scene_laws)

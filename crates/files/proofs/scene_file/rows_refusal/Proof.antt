@@ -4,8 +4,8 @@ use Rattle.files.proofs.Scenes.{array_laws}
 use Rattle.files.proofs.scene_file.rows_refusal.Statement.{statement}
 use Rattle.files.proofs.scene_file.rows_refusal.Tie as tie
 
-pub rows-refusal-spec : {M : Type 1} → statement M
-rows-refusal-spec =
+pub rows_refusal_spec : {M : Type 1} → statement M
+rows_refusal_spec =
     tie.close
     (tie.spec
     (λ c. search array_laws)

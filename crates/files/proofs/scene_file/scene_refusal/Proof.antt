@@ -4,8 +4,8 @@ use Rattle.files.proofs.Scenes.{refusal_laws}
 use Rattle.files.proofs.scene_file.scene_refusal.Statement.{statement}
 use Rattle.files.proofs.scene_file.scene_refusal.Tie as tie
 
-pub scene-refusal-spec : {M : Type 1} → statement M
-scene-refusal-spec =
+pub scene_refusal_spec : {M : Type 1} → statement M
+scene_refusal_spec =
     tie.close
     (tie.spec
     (λ c. search refusal_laws)

@@ -4,8 +4,8 @@ use Rattle.files.proofs.Scenes.{array_laws}
 use Rattle.files.proofs.scene_file.words_refusal.Statement.{statement}
 use Rattle.files.proofs.scene_file.words_refusal.Tie as tie
 
-pub words-refusal-spec : {M : Type 1} → statement M
-words-refusal-spec =
+pub words_refusal_spec : {M : Type 1} → statement M
+words_refusal_spec =
     tie.close
     (tie.spec
     (λ c. search array_laws)

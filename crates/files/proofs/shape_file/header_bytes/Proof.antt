@@ -3,8 +3,8 @@ use Rattle.files.proofs.Shapes.{header_laws}
 use Rattle.files.proofs.shape_file.header_bytes.Statement.{statement}
 use Rattle.files.proofs.shape_file.header_bytes.Tie as tie
 
-pub header-bytes-spec : {M : Type 1} → statement M
-header-bytes-spec =
+pub header_bytes_spec : {M : Type 1} → statement M
+header_bytes_spec =
     tie.close
     (tie.spec
     (λ c. search header_laws)

@@ -3,8 +3,8 @@ use Rattle.files.proofs.Shapes.{version_laws}
 use Rattle.files.proofs.shape_file.header_length.Statement.{statement}
 use Rattle.files.proofs.shape_file.header_length.Tie as tie
 
-pub header-length-spec : {M : Type 1} → statement M
-header-length-spec =
+pub header_length_spec : {M : Type 1} → statement M
+header_length_spec =
     tie.close
     (tie.spec
     (λ c. search version_laws)

@@ -3,8 +3,8 @@ use Rattle.files.proofs.Shapes.{version_laws}
 use Rattle.files.proofs.shape_file.is_version.Statement.{statement}
 use Rattle.files.proofs.shape_file.is_version.Tie as tie
 
-pub is-version-spec : {M : Type 1} → statement M
-is-version-spec =
+pub is_version_spec : {M : Type 1} → statement M
+is_version_spec =
     tie.close
     (tie.spec
     (λ c. search version_laws)

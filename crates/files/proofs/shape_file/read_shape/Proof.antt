@@ -4,8 +4,8 @@ use Rattle.files.proofs.Shapes.{read_laws}
 use Rattle.files.proofs.shape_file.read_shape.Statement.{statement}
 use Rattle.files.proofs.shape_file.read_shape.Tie as tie
 
-pub read-shape-spec : {M : Type 1} → statement M
-read-shape-spec =
+pub read_shape_spec : {M : Type 1} → statement M
+read_shape_spec =
     tie.close
     (tie.spec
     (λ c κs. search read_laws)

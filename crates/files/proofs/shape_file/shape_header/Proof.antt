@@ -3,8 +3,8 @@ use Rattle.files.proofs.Shapes.{shape_laws}
 use Rattle.files.proofs.shape_file.shape_header.Statement.{statement}
 use Rattle.files.proofs.shape_file.shape_header.Tie as tie
 
-pub shape-header-spec : {M : Type 1} → statement M
-shape-header-spec =
+pub shape_header_spec : {M : Type 1} → statement M
+shape_header_spec =
     tie.close
     (tie.spec
     (λ c κs. search shape_laws)

@@ -3,8 +3,8 @@ use Rattle.files.proofs.Shapes.{shape_refusal_laws}
 use Rattle.files.proofs.shape_file.shape_refusal.Statement.{statement}
 use Rattle.files.proofs.shape_file.shape_refusal.Tie as tie
 
-pub shape-refusal-spec : {M : Type 1} → statement M
-shape-refusal-spec =
+pub shape_refusal_spec : {M : Type 1} → statement M
+shape_refusal_spec =
     tie.close
     (tie.spec
     (λ c. search shape_refusal_laws)

@@ -3,8 +3,8 @@ use Rattle.files.proofs.Measuring.{measuring_laws}
 use Rattle.files.proofs.shape_file.symbols_refusal.Statement.{statement}
 use Rattle.files.proofs.shape_file.symbols_refusal.Tie as tie
 
-pub symbols-refusal-spec : {M : Type 1} → statement M
-symbols-refusal-spec =
+pub symbols_refusal_spec : {M : Type 1} → statement M
+symbols_refusal_spec =
     tie.close
     (tie.spec
     (λ c. search measuring_laws)

@@ -8,8 +8,8 @@ use Rattle.files.proofs.Shapes.{write_laws}
 use Rattle.files.proofs.shape_file.write_shape.Statement.{statement}
 use Rattle.files.proofs.shape_file.write_shape.Tie as tie
 
-pub write-shape-spec : {M : Type 1} → statement M
-write-shape-spec =
+pub write_shape_spec : {M : Type 1} → statement M
+write_shape_spec =
     tie.close
     (tie.spec
     (λ c κs. search write_laws)
@@ -20,7 +20,7 @@ write-shape-spec =
     (λ c. search write_laws)
     (λ c κs. search write_laws)
     (λ c.
-    let a = c.before.before.before.before.before.before.before.args in
+    let a = c.args in
     let lacking : length a.out.now < shape_length (length a.expression.now) = omega arith in
     search write_laws)
     (λ c κs. search write_laws)
