@@ -1,4 +1,6 @@
 // Stand-in proxies in floats become rows, in two steps: floats to sixteenths, sixteenths to rows.
+#![tactic(auto)]
+
 ghost use Rattle.std.specs.Prelude.{◌≡◌, ◌≤◌, T, pos, int_le, unsigned_abs};
 ghost use Rattle.universe.specs.Universe.{offset_limit, coefficient_limit};
 ghost use Rattle.standin.specs.Sixteenths.{corner_limit, normal_limit};

@@ -3,8 +3,8 @@ use Rattle.standin.proofs.Rows.{proxy_laws}
 use Rattle.standin.proofs.box_rows.Statement.{statement}
 use Rattle.standin.proofs.box_rows.Tie as tie
 
-pub box-rows-spec : {M : Type 1} → statement M
-box-rows-spec =
+pub box_rows_spec : {M : Type 1} → statement M
+box_rows_spec =
     tie.close
     (tie.spec
     (λ c κs. search proxy_laws)

@@ -3,8 +3,8 @@ use Rattle.standin.proofs.Rows.{proxy_laws}
 use Rattle.standin.proofs.cut_row.Statement.{statement}
 use Rattle.standin.proofs.cut_row.Tie as tie
 
-pub cut-row-spec : {M : Type 1} → statement M
-cut-row-spec =
+pub cut_row_spec : {M : Type 1} → statement M
+cut_row_spec =
     tie.close
     (tie.spec
     (λ c κs. search proxy_laws)

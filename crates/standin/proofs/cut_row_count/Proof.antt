@@ -3,8 +3,8 @@ use Rattle.standin.proofs.Rows.{proxy_laws}
 use Rattle.standin.proofs.cut_row_count.Statement.{statement}
 use Rattle.standin.proofs.cut_row_count.Tie as tie
 
-pub cut-row-count-spec : {M : Type 1} → statement M
-cut-row-count-spec =
+pub cut_row_count_spec : {M : Type 1} → statement M
+cut_row_count_spec =
     tie.close
     (tie.spec
     (λ c κs. search proxy_laws)

@@ -3,8 +3,8 @@ use Rattle.standin.proofs.Held.{limit_laws}
 use Rattle.standin.proofs.is_limited.Statement.{statement}
 use Rattle.standin.proofs.is_limited.Tie as tie
 
-pub is-limited-spec : {M : Type 1} → statement M
-is-limited-spec =
+pub is_limited_spec : {M : Type 1} → statement M
+is_limited_spec =
     tie.close
     (tie.spec
     (λ c. search limit_laws)

@@ -3,8 +3,8 @@ use Rattle.standin.proofs.Rows.{proxy_laws}
 use Rattle.standin.proofs.refusal.Statement.{statement}
 use Rattle.standin.proofs.refusal.Tie as tie
 
-pub refusal-spec : {M : Type 1} → statement M
-refusal-spec =
+pub refusal_spec : {M : Type 1} → statement M
+refusal_spec =
     tie.close
     (tie.spec
     (λ c κs. search proxy_laws)

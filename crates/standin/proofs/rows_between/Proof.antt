@@ -3,17 +3,17 @@ use Rattle.standin.proofs.Rows.{proxy_laws, between_limited}
 use Rattle.standin.proofs.rows_between.Statement.{statement}
 use Rattle.standin.proofs.rows_between.Tie as tie
 
-six-rows-requires : tie.Need-six-rows-requires
+six-rows-requires : tie.Need-six_rows-requires
 six-rows-requires c κs =
-    let third = c.before in
+    let third = c in
     let second = third.before in
     let first = second.before in
-    let a = first.before.args in
-    between_limited a.near a.far a.displacement first.is-limited.ensures second.is-limited2.ensures third.is-limited3.ensures
-    c.if1.true
+    let a = first.args in
+    between_limited a.near a.far a.displacement first.is_limited-near_kept.ensures second.is_limited-far_kept.ensures third.is_limited-step_kept.ensures
+    c.if-near_kept-far_kept.true
 
-pub rows-between-spec : {M : Type 1} → statement M
-rows-between-spec =
+pub rows_between_spec : {M : Type 1} → statement M
+rows_between_spec =
     tie.close
     (tie.spec
     (λ c κs. search proxy_laws)

@@ -6,13 +6,13 @@ use Rattle.standin.proofs.Guess.{guess_laws}
 use Rattle.standin.proofs.scale.Statement.{statement}
 use Rattle.standin.proofs.scale.Tie as tie
 
-truncating-f64-to-i64-requires : tie.Need-truncating-f64-to-i64-requires
+truncating-f64-to-i64-requires : tie.Need-truncating_f64_to_i64-z-requires
 unfolding of_bits neg
-truncating-f64-to-i64-requires c κs = (subst T (sym c.before.if1.true) tt, subst T (sym c.if2.true) tt)
+truncating-f64-to-i64-requires c κs = (subst T (sym c.if-y.true) tt, subst T (sym c.if-y-2.true) tt)
 
-pub scale-spec : {M : Type 1} → statement M
+pub scale_spec : {M : Type 1} → statement M
 unfolding of_bits neg
-scale-spec =
+scale_spec =
     tie.close
     (tie.spec
     truncating-f64-to-i64-requires

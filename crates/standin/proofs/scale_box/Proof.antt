@@ -3,8 +3,8 @@ use Rattle.standin.proofs.Held.{scale_laws}
 use Rattle.standin.proofs.scale_box.Statement.{statement}
 use Rattle.standin.proofs.scale_box.Tie as tie
 
-pub scale-box-spec : {M : Type 1} → statement M
-scale-box-spec =
+pub scale_box_spec : {M : Type 1} → statement M
+scale_box_spec =
     tie.close
     (tie.spec
     (λ c κs. search scale_laws)

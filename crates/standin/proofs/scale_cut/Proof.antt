@@ -3,8 +3,8 @@ use Rattle.standin.proofs.Held.{scale_laws}
 use Rattle.standin.proofs.scale_cut.Statement.{statement}
 use Rattle.standin.proofs.scale_cut.Tie as tie
 
-pub scale-cut-spec : {M : Type 1} → statement M
-scale-cut-spec =
+pub scale_cut_spec : {M : Type 1} → statement M
+scale_cut_spec =
     tie.close
     (tie.spec
     (λ c κs. search scale_laws)

@@ -3,8 +3,8 @@ use Rattle.standin.proofs.Held.{scale_laws}
 use Rattle.standin.proofs.scale_triple.Statement.{statement}
 use Rattle.standin.proofs.scale_triple.Tie as tie
 
-pub scale-triple-spec : {M : Type 1} → statement M
-scale-triple-spec =
+pub scale_triple_spec : {M : Type 1} → statement M
+scale_triple_spec =
     tie.close
     (tie.spec
     (λ c κs. search scale_laws)
