@@ -2,29 +2,25 @@
 -- shorter than four times its expression and an expression shorter than twice its octree, so that so much room suffices. Each law takes its premises in the
 -- form that code leaves them.
 use mathlib.Core.Path.{◌≡◌, refl, sym, ap, ap₂, ◌∙◌}
-use mathlib.Core.Bool.{Bool, true, false, ◌&&◌}
 use mathlib.Core.List.{List, [], ◌∷◌, ◌++◌, append_assoc}
 use Prim.Native.Nat.{ℕ, zero, suc, ◌+◌, ◌*◌, ◌^◌, ◌/◌, ◌≤◌, ◌<◌}
 use native.Mathlib.Nat.{two-pow-succ}
 use native.Mathlib.Omega.{arith}
-use native.Mathlib.Decide.{ℕ_discrete}
 use lib.ListN.{length}
 use lib.Seq.{sets}
 use lib.Pow.{pow_mono, pow_pos}
-use lib.Dec.{eqb}
 use borrow.Author.Rules.{rules}
 use borrow.Author.Tests.{eq-eqb, ne_eqb}
 use Rattle.lemmas.proofs.Stores.{sets_first}
 use Rattle.universe.specs.declared.Universe.{Universe}
-use Rattle.universe.specs.Refusals.{first_refusal, unless}
+use Rattle.universe.specs.Refusals.{first_refusal}
 use Rattle.universe.specs.Universe.{universe_refusal, most_bits, levels}
 use Rattle.universe.proofs.Refusing.{last_check}
-use Rattle.bintree.specs.declared.Colour.{Colour}
 use Rattle.bintree.specs.declared.Written.{Written}
 use Rattle.bintree.specs.Shape.{Shape, leaf, halved, symbols, size, depth}
-use Rattle.bintree.specs.Reading.{Reading, none, read, read_at, expression, expression_refusal}
+use Rattle.bintree.specs.Reading.{read, read_at, expression_refusal}
 use Rattle.bintree.specs.Merging.{merged}
-use Rattle.bintree.specs.Walks.{leaf_symbol, noted, laid}
+use Rattle.bintree.specs.Walks.{leaf_symbol, noted}
 use Rattle.bintree.specs.Answers.{of_shape, well_formed_refusal, refused_writing, short_writing, done_writing, written_answer, written_buffer}
 use Rattle.bintree.proofs.Shape.{length_symbols, depth_low, depth_high, halved_deep}
 use Rattle.bintree.proofs.Reading as reading
@@ -32,14 +28,14 @@ use Rattle.bintree.proofs.Merging.{merged_size, merged_depth}
 use Rattle.bintree.proofs.Lays.{laid_noted, noted_none}
 use Rattle.bintree.proofs.Answers.{written_refused, written_short, written_all, kept_refused, kept_short, left_all}
 use Rattle.octree.specs.declared.Piece.{Piece}
-use Rattle.octree.specs.Octree.{Octree, solid, parted, AtMost, solid_symbol, octree_symbols, octree_size}
+use Rattle.octree.specs.Octree.{Octree, solid, parted, AtMost, octree_symbols, octree_size}
 use Rattle.octree.specs.Octree.{Found, nothing, found, of_found, octree_at, octree_on, reduce}
 use Rattle.octree.specs.Parting.{low_part, high_part, cube_of, octree_of, shape_of}
-use Rattle.octree.specs.Answers.{cube_axes, cube_refusal, octree_refusal, export_refusal, import_refusal, export_symbols, import_symbols}
+use Rattle.octree.specs.Answers.{cube_refusal, octree_refusal, export_symbols, import_symbols}
 use Rattle.octree.specs.Answers.{export_answer, export_buffer, import_answer, import_buffer, Exportable, Importable}
-use Rattle.octree.specs.Runs.{most_place, as_found, run_at, past_run, Importing, import_piece, import_room}
-use Rattle.octree.specs.Runs.{son_symbols, held_symbol, filled, laid_sons, levels_in, Exporting, export_piece, export_room}
-use Rattle.octree.proofs.Octrees.{stands, stands_most, stands_past, octree_some, length_octree, on_nothing, on_found, on_rest, on_at, solid_not_zero}
+use Rattle.octree.specs.Runs.{as_found, run_at, past_run, Importing, import_piece, import_room}
+use Rattle.octree.specs.Runs.{son_symbols, held_symbol, laid_sons, levels_in, Exporting, export_piece, export_room}
+use Rattle.octree.proofs.Octrees.{stands, stands_most, stands_past, octree_some, on_nothing, on_found, on_rest, on_at}
 use Rattle.octree.proofs.Partings.{quarter_0, quarter_1, quarter_2, quarter_3, low_two, high_two, shape_deep, reduce_octree}
 use Rattle.octree.proofs.Colours.{Cubic, cubic, cube_levels}
 use Rattle.octree.proofs.Imports as imports
@@ -129,14 +125,14 @@ import_shorter (parted a b c d e f g h) =
 -- THEOREM: an octree is shorter than four times its expression
 pub sons_shorter : (t : Shape) (m n : ℕ) → length (son_symbols m n t) + 4 ≤ 4 * size t + 2 ^ m
 unfolding size
-sons_shorter (leaf c) m n = omega (arith, exports.leaf-length m n c)
+sons_shorter (leaf c) m n = omega (arith, exports.leaf_length m n c)
 sons_shorter (halved a b) m n = step m n (λ i j. sons_shorter a i j) (λ i j. sons_shorter b i j)
   where
     step : (m n : ℕ) → ((i j : ℕ) → length (son_symbols i j a) + 4 ≤ 4 * size a + 2 ^ i) → ((i j : ℕ) → length (son_symbols i j b) + 4 ≤ 4 * size b + 2 ^ i) →
         length (son_symbols m n (halved a b)) + 4 ≤ 4 * suc (size a + size b) + 2 ^ m
-    step zero zero f g = omega (arith, exports.flat-length a b)
-    step zero (suc n) f g = omega (arith, exports.cube-length n a b, exports.halved-length 2 n a b, f 2 n, g 2 n)
-    step (suc m) n f g = omega (arith, exports.halved-length m n a b, exports.twice m, f m n, g m n)
+    step zero zero f g = omega (arith, exports.flat_length a b)
+    step zero (suc n) f g = omega (arith, exports.cube_length n a b, exports.halved_length 2 n a b, f 2 n, g 2 n)
+    step (suc m) n f g = omega (arith, exports.halved_length m n a b, exports.twice m, f m n, g m n)
 
 -- ---- the octree of a shape is written as the run of one son
 
@@ -203,7 +199,7 @@ octree_sons (suc n) (halved a b) h =
 
 laid_whole : (o : List ℕ) (n : ℕ) (t : Shape) → noted (laid_sons o 0 0 n t) 0 (held_symbol t) ≡ sets o 0 (son_symbols 0 n t)
 unfolding laid_sons held_symbol son_symbols
-laid_whole o n (leaf c) = sym (exports.noted-solid o c)
+laid_whole o n (leaf c) = sym (exports.noted_solid o c)
 laid_whole o n (halved a b) = sym (noted_none (sets o 0 (son_symbols 0 n (halved a b))) 0 0 refl)
 
 module _ {u : Universe} {s : List ℕ} (r : Exportable u s) where
@@ -211,7 +207,7 @@ module _ {u : Universe} {s : List ℕ} (r : Exportable u s) where
   cubic_u = cubic u r.cube
 
   whole : (read_at s (levels u) 0 ≡ read r.shape) × (size r.shape ≡ length s)
-  whole = reading.expression-at u s r.shape r.reads
+  whole = reading.expression_at_lem u s r.shape r.reads
 
   deep : depth r.shape ≤ 3 * u.bits
   deep = omega (arith, (reading.read_is u s r.shape r.reads).1, cube_levels u cubic_u)
@@ -450,7 +446,7 @@ module _ (u : Universe) (s out : List ℕ) {two : ℕ} (e : two ≡ cube_refusal
 
       pub exportable : seven ≡ 0 → Exportable u s
       exportable y =
-          let a = reading.accepted-shape u s (sym seven_is ∙ y) in
+          let a = reading.accepted_shape u s (sym seven_is ∙ y) in
           record { cube = sym e ∙ z; shape = a.0; reads = a.1 }
 
       export_done : {answer : Written} {now : List ℕ} → seven ≡ 0 → answer ≡ written_answer 0 out (export_symbols u s) →

@@ -1,8 +1,7 @@
 -- THE SONS' ORDER IS THE BINTREE'S: with three axes of equal bits the levels halve x, y and z in turn, so the path to a voxel names, three halves at a time,
 -- the sons that hold it. So an octree and its shape have the same colour at every voxel.
 use mathlib.Core.Path.{◌≡◌, refl, sym, ap, ap₂, ◌∙◌}
-use mathlib.Core.Logic.{◌⊎◌, inl, inr}
-use mathlib.Core.Bool.{Bool, true, false, cond, ◌&&◌}
+use mathlib.Core.Bool.{Bool, true, false, ◌&&◌}
 use mathlib.Core.List.{List, [], ◌∷◌}
 use Prim.Native.Nat.{ℕ, zero, suc, ◌+◌, ◌-◌, ◌*◌, ◌^◌, ◌/◌, ◌%◌, ◌≤◌, ◌<◌}
 use native.Mathlib.Omega.{arith}
@@ -13,16 +12,14 @@ use Rattle.lemmas.proofs.Sums.{and_left, and_right}
 use Rattle.universe.specs.declared.Universe.{Universe}
 use Rattle.universe.specs.Refusals.{first_refusal, unless}
 use Rattle.universe.specs.Universe.{universe_refusal, most_bits, frame_axis, bits_along, levels, axis_at, halvings, block_side}
-use Rattle.universe.specs.Voxel.{place_along, half_at, path_from, path_to}
+use Rattle.universe.specs.Voxel.{place_along, half_at, path_from}
 use Rattle.universe.proofs.Refusing.{unless_holds, last_check}
 use Rattle.universe.proofs.Universes.{accepted, most_bits_lem}
 use Rattle.universe.proofs.EqualBits.{equal_levels, equal_axis}
-use Rattle.bintree.specs.declared.Colour.{Colour}
-use Rattle.bintree.specs.Shape.{Shape, leaf, halved, depth}
+use Rattle.bintree.specs.Shape.{Shape, depth}
 use Rattle.bintree.specs.Merging.{merged}
 use Rattle.bintree.specs.Parts.{part, colour_of, colour_at}
-use Rattle.bintree.proofs.Parts.{part_low, part_high}
-use Rattle.bintree.proofs.Merging.{merged_colour, merged_depth}
+use Rattle.bintree.proofs.Merging.{merged_colour}
 use Rattle.octree.specs.Octree.{Octree, solid, parted, AtMost, solid_most, parted_most}
 use Rattle.octree.specs.Octree.{half_of, son_number, son_to, son_of, solid_colour, octree_colour, reduce}
 use Rattle.octree.specs.Parting.{octree_of, shape_of}

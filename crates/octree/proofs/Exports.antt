@@ -2,27 +2,26 @@
 -- that of the high one. Sons that are all solids of one colour are held back until it is known that they do not join with their brothers, so that nothing is
 -- written in vain. Each law takes its premises in the form that code leaves them.
 use mathlib.Core.Path.{◌≡◌, refl, sym, ap, ap₂, ◌∙◌}
-use mathlib.Core.Bool.{Bool, true, false, cond}
-use mathlib.Core.List.{List, [], ◌∷◌, ◌++◌, append_assoc, append-nil}
+use mathlib.Core.Bool.{Bool, true, false}
+use mathlib.Core.List.{List, [], ◌∷◌, ◌++◌}
 use Prim.Native.Nat.{ℕ, zero, suc, ◌+◌, ◌-◌, ◌*◌, ◌^◌, ◌%◌, ◌≤◌, ◌<◌}
 use native.Mathlib.Nat.{two-pow-succ, le_refl}
 use native.Mathlib.Omega.{arith}
 use native.Mathlib.Decide.{ℕ_discrete}
 use borrow.Author.Rules.{rules}
 use borrow.Author.Tests.{eq-eqb, ne_eqb}
-use lib.Dec.{eqb}
-use lib.ListN.{length, get_or, set, replicate, length-replicate, length-append, length-set}
+use lib.ListN.{length, get_or, set, replicate, length-replicate, length-append}
 use lib.Seq.{sets, length-sets}
 use Rattle.lemmas.proofs.Machine.{shifted_one}
 use Rattle.lemmas.proofs.Stores.{set_sets, sets_append}
 use Rattle.bintree.specs.declared.Colour.{Colour}
 use Rattle.bintree.specs.declared.Colour.TheVariants.{White, Black}
 use Rattle.bintree.specs.Shape.{Shape, leaf, halved, open_symbol, symbol_of, size}
-use Rattle.bintree.specs.Reading.{Reading, none, read, read_at}
-use Rattle.bintree.specs.Merging.{join, merged}
+use Rattle.bintree.specs.Reading.{Reading, read, read_at}
+use Rattle.bintree.specs.Merging.{merged}
 use Rattle.bintree.specs.Walks.{leaf_symbol, is_alike, noted}
-use Rattle.bintree.proofs.Shape.{size_positive, symbol_not_open, symbol_not_zero}
-use Rattle.bintree.proofs.Reading.{Stands, leaf_stands, open_stands, stands, stood, inside, leaf_at, deep_at}
+use Rattle.bintree.proofs.Shape.{size_positive, symbol_not_open}
+use Rattle.bintree.proofs.Reading.{Stands, leaf_stands, open_stands, stands, stood, inside}
 use Rattle.bintree.proofs.Merging.{Joined, one, two, joined}
 use Rattle.bintree.proofs.Lays.{merged_same, merged_apart, noted_some, noted_none}
 use Rattle.octree.specs.declared.Piece.{Piece}

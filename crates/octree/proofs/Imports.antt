@@ -1,7 +1,7 @@
 -- Runs of octrees (src/runs.rt): one `P` is the run of its eight sons, and a run is two halves, one straight after the other. So where a run ends, and what
 -- laying its merged shape tells and leaves, comes of its two halves as merging joins them. Each law takes its premises in the form that code leaves them.
-use mathlib.Core.Path.{◌≡◌, refl, sym, ap, ap₂, fun_ext, ◌∙◌}
-use mathlib.Core.Bool.{Bool, true, false, cond}
+use mathlib.Core.Path.{◌≡◌, refl, sym, ap, fun_ext, ◌∙◌}
+use mathlib.Core.Bool.{Bool, true, false}
 use mathlib.Core.List.{List}
 use Prim.Native.Nat.{ℕ, zero, suc, ◌+◌, ◌-◌, ◌*◌, ◌^◌, ◌≤◌, ◌<◌}
 use native.Mathlib.Omega.{arith}
@@ -17,10 +17,10 @@ use Rattle.bintree.proofs.Shape.{size_positive}
 use Rattle.bintree.proofs.Merging.{merged_size}
 use Rattle.bintree.proofs.Lays.{merged_same, merged_apart, leaf_laid, apart_laid}
 use Rattle.octree.specs.declared.Piece.{Piece}
-use Rattle.octree.specs.Octree.{Octree, solid, parted, part_symbol, solid_symbol, Found, nothing}
+use Rattle.octree.specs.Octree.{Octree, part_symbol, solid_symbol, Found, nothing}
 use Rattle.octree.specs.Octree.{found, with_second, after_first, two_at, Two, parted_of, octree_at}
 use Rattle.octree.specs.Parting.{shape_of}
-use Rattle.octree.specs.Runs.{most_place, leaf_of, as_found, as_halved, run_at, past_run, Importing, import_piece, import_room}
+use Rattle.octree.specs.Runs.{leaf_of, as_found, as_halved, run_at, past_run, Importing, import_piece, import_room}
 use Rattle.octree.proofs.Octrees.{Stands, stands, solid_stands, parted_stands, stands_past, stands_inside, octree_some, Both, found_two, two_found}
 use Rattle.octree.proofs.Octrees.{at_part, at_solid, at_none, at_deep}
 

@@ -9,7 +9,7 @@ use Rattle.bintree.specs.Shape.{Shape, symbols}
 use Rattle.bintree.specs.Reading.{read, expression, expression_refusal}
 use Rattle.bintree.specs.Merging.{merged}
 use Rattle.bintree.specs.Answers.{of_shape, written_answer, written_buffer}
-use Rattle.octree.specs.Octree.{Octree, octree_symbols, Found, found, of_found, octree_on, reduce}
+use Rattle.octree.specs.Octree.{Octree, octree_symbols, found, of_found, octree_on, reduce}
 use Rattle.octree.specs.Parting.{octree_of, shape_of}
 
 -- rule 13.1: x, y and z

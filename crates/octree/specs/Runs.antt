@@ -9,7 +9,7 @@ use Rattle.bintree.specs.Reading.{Reading, none, read, read_at}
 use Rattle.bintree.specs.Merging.{merged}
 use Rattle.bintree.specs.Walks.{leaf_symbol, laid}
 use Rattle.octree.specs.declared.Piece.{Piece}
-use Rattle.octree.specs.Octree.{Octree, part_symbol, solid_symbol, Found, nothing, found, two_at, octree_at}
+use Rattle.octree.specs.Octree.{part_symbol, solid_symbol, Found, nothing, found, two_at, octree_at}
 use Rattle.octree.specs.Parting.{shape_of}
 
 -- no place goes past this

@@ -1,4 +1,6 @@
 // Octrees of three axes with equal bits: an expression's reduced octree, and an octree's merged expression.
+#![tactic(auto)]
+
 mod runs;
 mod sons;
 

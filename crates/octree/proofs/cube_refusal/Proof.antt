@@ -2,8 +2,7 @@
 use Rattle.octree.proofs.Answers.{cube_laws}
 use Rattle.octree.proofs.cube_refusal.Statement.{statement}
 use Rattle.octree.proofs.cube_refusal.Tie as tie
-use Rattle.universe.proofs.Universe.refusal.Reads as refusal-reads
 
-pub cube-refusal-spec : {M : Type 1} → statement M
-cube-refusal-spec = tie.close (tie.spec (λ c κs. search cube_laws) (λ c. search cube_laws) (λ c. search cube_laws) (λ c. search cube_laws)
+pub cube_refusal_spec : {M : Type 1} → statement M
+cube_refusal_spec = tie.close (tie.spec (λ c κs. search cube_laws) (λ c. search cube_laws) (λ c. search cube_laws) (λ c. search cube_laws)
     (λ c. search cube_laws))

@@ -2,7 +2,6 @@
 use Rattle.octree.proofs.Answers.{octree_laws}
 use Rattle.octree.proofs.octree_refusal.Statement.{statement}
 use Rattle.octree.proofs.octree_refusal.Tie as tie
-use Rattle.octree.proofs.runs.run_end.Reads as run-end-reads
 
-pub octree-refusal-spec : {M : Type 1} → statement M
-octree-refusal-spec = tie.close (tie.spec (λ c κs. search octree_laws) (λ c. search octree_laws) (λ c. search octree_laws) (λ c. search octree_laws))
+pub octree_refusal_spec : {M : Type 1} → statement M
+octree_refusal_spec = tie.close (tie.spec (λ c κs. search octree_laws) (λ c. search octree_laws) (λ c. search octree_laws) (λ c. search octree_laws))

@@ -2,8 +2,6 @@
 use Rattle.octree.proofs.Answers.{write_laws}
 use Rattle.octree.proofs.write_octree.Statement.{statement}
 use Rattle.octree.proofs.write_octree.Tie as tie
-use Rattle.bintree.proofs.note.Reads as note-reads
-use Rattle.octree.proofs.sons.lay_sons.Reads as lay-sons-reads
 
-pub write-octree-spec : {M : Type 1} → statement M
-write-octree-spec = tie.close (tie.spec (λ c κs. search write_laws) (λ c κs. search write_laws) (λ c. search write_laws) (λ c. search write_laws))
+pub write_octree_spec : {M : Type 1} → statement M
+write_octree_spec = tie.close (tie.spec (λ c κs. search write_laws) (λ c κs. search write_laws) (λ c. search write_laws) (λ c. search write_laws))

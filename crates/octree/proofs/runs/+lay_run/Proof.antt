@@ -22,8 +22,8 @@ lay_run_at t = and 2 lay-run-kinds.ps (is 2 lay-run-kinds.ps μ_lay_run t) lay-r
 abbrev lay_run_below : ℕ → In 2 lay-run-kinds.ps
 lay_run_below t = and 2 lay-run-kinds.ps (falls 2 lay-run-kinds.ps ◌<◌ μ_lay_run t) lay-run.Pre
 
-pub +lay-run-spec : {M : Type 1} → statement M
-+lay-run-spec = close μ_lay_run λ t. lay-run-lts.spec (
+pub +lay_run_spec : {M : Type 1} → statement M
++lay_run_spec = close μ_lay_run λ t. lay-run-lts.spec (
   lay_run_below t,
   lay-run.Post,
   leaf-of-reads.Asked,

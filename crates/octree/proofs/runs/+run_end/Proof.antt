@@ -19,8 +19,8 @@ run_end_at t = and 1 run-end-kinds.ps (is 1 run-end-kinds.ps μ_run_end t) run-e
 abbrev run_end_below : ℕ → In 1 run-end-kinds.ps
 run_end_below t = and 1 run-end-kinds.ps (falls 1 run-end-kinds.ps ◌<◌ μ_run_end t) run-end.Pre
 
-pub +run-end-spec : {M : Type 1} → statement M
-+run-end-spec =
+pub +run_end_spec : {M : Type 1} → statement M
++run_end_spec =
     close
     μ_run_end
     λ t. run-end-lts.spec

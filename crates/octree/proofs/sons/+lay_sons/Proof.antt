@@ -25,8 +25,8 @@ abbrev lay_sons_below : ℕ → In 2 lay-sons-kinds.ps
 lay_sons_below t =
     and 2 lay-sons-kinds.ps (falls 2 lay-sons-kinds.ps ◌<◌ μ_lay_sons t) lay-sons.Pre
 
-pub +lay-sons-spec : {M : Type 1} → statement M
-+lay-sons-spec = close μ_lay_sons λ t. lay-sons-lts.spec (
+pub +lay_sons_spec : {M : Type 1} → statement M
++lay_sons_spec = close μ_lay_sons λ t. lay-sons-lts.spec (
   solid-of-reads.Asked,
   solid-of-reads.Learnt,
   sons-in-reads.Asked,
@@ -71,17 +71,17 @@ pub +lay-sons-spec : {M : Type 1} → statement M
     (λ c κs. search sons_laws)
     (λ c. search sons_laws)
     (λ c.
-    let d = c.before.before.before.before.before.before.before.before.before in
+    let d = c in
     let l = d.before.before.before.before.before.before.before.before in
     let q = l.before.before.before in
-    let g = q.before.before.before.before.requires.1.0 in
-    let k = q.if1.false in
-    let z = l.before.before.if2.false in
-    let e = l.lay-sons2.ensures in
-    let f = d.before.before.before.before.lay-sons3.ensures in
-    let i = d.before.is-alike.ensures in
-    let w = d.if4.false in (
+    let g = q.requires.1.0 in
+    let k = q.if-symbol-ne40.false in
+    let z = l.if-inside-eq0.false in
+    let e = l.lay_sons-low.ensures in
+    let f = d.lay_sons-high.ensures in
+    let i = d.is_alike.ensures in
+    let w = d.if-is_alike.false in (
       apart_tells g k z e.0 f.0 _ i w,
-      apart_leaves g k z e.0 f.0 _ i w _ _ _ _ c.before.before.before.before.before.before.before.before.sons-in2.ensures e.1 f.1
-          c.before.before.before.before.before.before.fill.ensures c.before.before.fill2.ensures,
+      apart_leaves g k z e.0 f.0 _ i w _ _ _ _ c.sons_in-count.ensures e.1 f.1
+          c.fill.ensures c.fill-2.ensures,
     ))

@@ -3,12 +3,11 @@ use Rattle.octree.proofs.Exports.{Filling, fill_laws}
 use Prim.Native.Nat.{◌-◌}
 use Rattle.octree.proofs.sons.fill.Statement.{statement}
 use Rattle.octree.proofs.sons.fill.Tie as tie
-use Rattle.bintree.proofs.note.Reads as note-reads
 
-abbrev invariant-loop : tie.invariant-loop
+abbrev invariant-loop : tie.invariant-loop-i
 invariant-loop out₀ at count symbol i₀ out i = Filling out₀ at count symbol i out
 
-abbrev decreases-loop : tie.decreases-loop
+abbrev decreases-loop : tie.decreases-loop-i
 decreases-loop out₀ at count symbol i₀ out i = count - i
 
 pub fill_spec : {M : Type 1} → statement M

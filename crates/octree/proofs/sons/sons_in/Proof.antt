@@ -3,5 +3,5 @@ use Rattle.octree.proofs.Exports.{count_laws}
 use Rattle.octree.proofs.sons.sons_in.Statement.{statement}
 use Rattle.octree.proofs.sons.sons_in.Tie as tie
 
-pub sons-in-spec : {M : Type 1} → statement M
-sons-in-spec = tie.close (tie.spec (λ c. search count_laws) (λ c. search count_laws))
+pub sons_in_spec : {M : Type 1} → statement M
+sons_in_spec = tie.close (tie.spec (λ c. search count_laws) (λ c. search count_laws))
