@@ -1,4 +1,6 @@
 // Reports: how many black voxels each frame of a window has, over a list of expressions.
+#![tactic(auto)]
+
 mod answer;
 mod list;
 mod row;

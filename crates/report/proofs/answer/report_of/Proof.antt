@@ -4,46 +4,46 @@ use Rattle.report.proofs.Reports.{report_refused, report_opened, report_short, r
 use Rattle.report.proofs.answer.report_of.Statement.{statement}
 use Rattle.report.proofs.answer.report_of.Tie as tie
 
-returns : tie.Need-returns
-returns c = let i = c.before in report_refused _ _ _ _ _ _ i.before.report-refusal.ensures _ i.if1.true c.refused.ensures
+returns : tie.Need-returns-then-refusal-ne0
+returns c = let i = c in report_refused _ _ _ _ _ _ i.report_refusal-refusal.ensures _ i.if-refusal-ne0.true c.refused.ensures
 
-frames-in-requires : tie.Need-frames-in-requires
+frames-in-requires : tie.Need-frames_in-frames-requires
 frames-in-requires c κs =
-    let row = c.before.before.before.before.args.counts.now in report_opened _ _ _ _ row _ c.before.report-refusal.ensures c.if1.false
+    let row = c.args.counts.now in report_opened _ _ _ _ row _ c.report_refusal-refusal.ensures c.if-refusal-ne0.false
 
-returns-2 : tie.Need-returns-2
+returns-2 : tie.Need-returns-then-counts-frames
 returns-2 c =
-    let f = c.before.before in
+    let f = c in
     let i = f.before in
-    report_short _ _ _ _ _ _ i.before.report-refusal.ensures i.if1.false _ f.frames-in.ensures _ c.before.if2.true c.short.ensures
+    report_short _ _ _ _ _ _ i.report_refusal-refusal.ensures i.if-refusal-ne0.false _ f.frames_in-frames.ensures _ c.if-counts-frames.true c.short.ensures
 
-fill-list-requires : tie.Need-fill-list-requires
+fill-list-requires : tie.Need-fill_list-requires
 fill-list-requires c κs =
-    let f = c.before.before in
+    let f = c in
     let i = f.before in
-    report_listed _ _ _ _ _ _ i.before.report-refusal.ensures i.if1.false _ f.frames-in.ensures c.before.if2.false
+    report_listed _ _ _ _ _ _ i.report_refusal-refusal.ensures i.if-refusal-ne0.false _ f.frames_in-frames.ensures c.if-counts-frames.false
 
-total-of-requires : tie.Need-total-of-requires
+total-of-requires : tie.Need-total_of-requires
 total-of-requires c κs =
-    let l = c.before.before.before in
+    let l = c in
     let j = l.before.before in
     let i = j.before.before in
-    let e = i.before.report-refusal.ensures in
-    let g = j.before.frames-in.ensures in (
-      report_places _ _ _ _ _ _ e i.if1.false _ g j.if2.false _ l.fill-list.ensures l.fill-list.auto.1.1.0,
-      report_fits _ _ _ _ _ _ e i.if1.false _ g j.if2.false _ l.fill-list.ensures,
+    let e = i.report_refusal-refusal.ensures in
+    let g = j.frames_in-frames.ensures in (
+      report_places _ _ _ _ _ _ e i.if-refusal-ne0.false _ g j.if-counts-frames.false _ l.fill_list.ensures l.fill_list.auto.counts,
+      report_fits _ _ _ _ _ _ e i.if-refusal-ne0.false _ g j.if-counts-frames.false _ l.fill_list.ensures,
     )
 
-returns-3 : tie.Need-returns-3
+returns-3 : tie.Need-returns
 returns-3 c =
-    let l = c.before.before.before.before.before in
+    let l = c in
     let j = l.before.before in
     let i = j.before.before in
-    report_done _ _ _ _ _ _ i.before.report-refusal.ensures i.if1.false _ j.before.frames-in.ensures j.if2.false _ l.fill-list.ensures _ _
-    c.before.total_of.ensures c.done.ensures
+    report_done _ _ _ _ _ _ i.report_refusal-refusal.ensures i.if-refusal-ne0.false _ j.frames_in-frames.ensures j.if-counts-frames.false _ l.fill_list.ensures _ _
+    c.total_of.ensures c.done.ensures
 
-pub report-of-spec : {M : Type 1} → statement M
-report-of-spec =
+pub report_of_spec : {M : Type 1} → statement M
+report_of_spec =
     tie.close
     (tie.spec
     (λ c κs. search report_laws)

@@ -3,8 +3,8 @@ use Rattle.report.proofs.Reports.{refusal_laws}
 use Rattle.report.proofs.answer.report_refusal.Statement.{statement}
 use Rattle.report.proofs.answer.report_refusal.Tie as tie
 
-pub report-refusal-spec : {M : Type 1} → statement M
-report-refusal-spec =
+pub report_refusal_spec : {M : Type 1} → statement M
+report_refusal_spec =
     tie.close
     (tie.spec
     (λ c κs. search refusal_laws)

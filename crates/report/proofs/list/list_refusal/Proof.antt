@@ -5,14 +5,14 @@ use Rattle.report.proofs.Lists.{Judging, judging_laws}
 use Rattle.report.proofs.list.list_refusal.Statement.{statement}
 use Rattle.report.proofs.list.list_refusal.Tie as tie
 
-abbrev invariant-loop : tie.invariant-loop
+abbrev invariant-loop : tie.invariant-loop-at
 invariant-loop universe expressions at₀ more₀ at more = Judging universe expressions at more
 
-abbrev decreases-loop : tie.decreases-loop
+abbrev decreases-loop : tie.decreases-loop-at
 decreases-loop universe expressions at₀ more₀ at more = length expressions - at
 
-pub list-refusal-spec : {M : Type 1} → statement M
-list-refusal-spec =
+pub list_refusal_spec : {M : Type 1} → statement M
+list_refusal_spec =
     tie.close
     (tie.spec
     invariant-loop

@@ -21,8 +21,8 @@ fill_at t = and 3 fill-kinds.ps (is 3 fill-kinds.ps μ_fill t) fill.Pre
 abbrev fill_below : ℕ → In 3 fill-kinds.ps
 fill_below t = and 3 fill-kinds.ps (falls 3 fill-kinds.ps ◌<◌ μ_fill t) fill.Pre
 
-pub +fill-spec : {M : Type 1} → statement M
-+fill-spec = close μ_fill λ t. fill-lts.spec (
+pub +fill_spec : {M : Type 1} → statement M
++fill_spec = close μ_fill λ t. fill-lts.spec (
   bits-below-reads.Asked,
   bits-below-reads.Learnt,
   high-frame-reads.Asked,

@@ -3,8 +3,8 @@ use Rattle.report.proofs.Rows.{block_laws}
 use Rattle.report.proofs.row.add_block.Statement.{statement}
 use Rattle.report.proofs.row.add_block.Tie as tie
 
-pub add-block-spec : {M : Type 1} → statement M
-add-block-spec =
+pub add_block_spec : {M : Type 1} → statement M
+add_block_spec =
     tie.close
     (tie.spec
     (λ c κs. search block_laws)

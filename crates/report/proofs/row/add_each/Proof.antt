@@ -4,14 +4,14 @@ use Rattle.report.proofs.Rows.{Adding, adding_laws}
 use Rattle.report.proofs.row.add_each.Statement.{statement}
 use Rattle.report.proofs.row.add_each.Tie as tie
 
-abbrev invariant-loop : tie.invariant-loop
+abbrev invariant-loop : tie.invariant-loop-c
 invariant-loop counts₀ from to each c₀ counts c = Adding counts₀ from to each c counts
 
-abbrev decreases-loop : tie.decreases-loop
+abbrev decreases-loop : tie.decreases-loop-c
 decreases-loop counts₀ from to each c₀ counts c = to - c
 
-pub add-each-spec : {M : Type 1} → statement M
-add-each-spec =
+pub add_each_spec : {M : Type 1} → statement M
+add_each_spec =
     tie.close
     (tie.spec
     invariant-loop

@@ -3,8 +3,8 @@ use Rattle.report.proofs.Rows.{below_laws}
 use Rattle.report.proofs.row.bits_below.Statement.{statement}
 use Rattle.report.proofs.row.bits_below.Tie as tie
 
-pub bits-below-spec : {M : Type 1} → statement M
-bits-below-spec =
+pub bits_below_spec : {M : Type 1} → statement M
+bits_below_spec =
     tie.close
     (tie.spec
     (λ c. search below_laws)

@@ -4,10 +4,10 @@ use Rattle.report.proofs.Rows.{Clearing, clearing_laws}
 use Rattle.report.proofs.row.clear.Statement.{statement}
 use Rattle.report.proofs.row.clear.Tie as tie
 
-abbrev invariant-loop : tie.invariant-loop
+abbrev invariant-loop : tie.invariant-loop-c
 invariant-loop counts₀ frames c₀ counts c = Clearing frames counts₀ c counts
 
-abbrev decreases-loop : tie.decreases-loop
+abbrev decreases-loop : tie.decreases-loop-c
 decreases-loop counts₀ frames c₀ counts c = frames - c
 
 pub clear_spec : {M : Type 1} → statement M

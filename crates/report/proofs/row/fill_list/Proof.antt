@@ -6,51 +6,51 @@ use Rattle.report.proofs.FillingLists.{Going, list_first, list_tree, list_less, 
 use Rattle.report.proofs.row.fill_list.Statement.{statement}
 use Rattle.report.proofs.row.fill_list.Tie as tie
 
-abbrev invariant-loop : tie.invariant-loop
+abbrev invariant-loop : tie.invariant-loop-at
 invariant-loop window expressions counts₀ axes levels bits at₀ counts at = Going window axes expressions counts₀ levels bits at counts
 
-abbrev decreases-loop : tie.decreases-loop
+abbrev decreases-loop : tie.decreases-loop-at
 decreases-loop window expressions counts₀ axes levels bits at₀ counts at = length expressions - at
 
-loop-holds : tie.Need-loop-init invariant-loop decreases-loop
+loop-holds : tie.Need-loop-at-init invariant-loop decreases-loop
 loop-holds c =
-    let k = c.before.before in
+    let k = c in
     let f = k.before in
     let b = f.before.before in
     let l = b.before.before in
     let a = l.before in
-    list_first _ _ _ a.before.before.before.requires _ _ _ _ _ a.axes-left.ensures l.levels.ensures b.bits-along.ensures f.frames-in.ensures
+    list_first _ _ _ a.requires _ _ _ _ _ a.axes_left-axes.ensures l.levels-levels.ensures b.bits_along-bits.ensures f.frames_in.ensures
     k.clear.ensures
 
-fill-requires : tie.Need-fill-requires invariant-loop decreases-loop
-fill-requires c κs = let t = c.before.before in list_tree _ _ _ _ _ _ _ _ t.before.loop.invariant t.loop-test.true
+fill-requires : tie.Need-fill-at-requires invariant-loop decreases-loop
+fill-requires c κs = let t = c in list_tree _ _ _ _ _ _ _ _ t.loop-at.invariant t.loop-at-test.true
 
-loop-less : tie.Need-loop-smaller invariant-loop decreases-loop
+loop-less : tie.Need-loop-at-smaller invariant-loop decreases-loop
 loop-less c =
-    let f = c.before.before in
+    let f = c in
     let t = f.before.before.before in
-    list_less _ _ _ _ _ _ _ _ t.before.loop.invariant t.loop-test.true _ _ f.fill.ensures
+    list_less _ _ _ _ _ _ _ _ t.loop-at.invariant t.loop-at-test.true _ _ f.fill-at.ensures
 
-loop-again : tie.Need-loop-preserved invariant-loop decreases-loop
+loop-again : tie.Need-loop-at-preserved invariant-loop decreases-loop
 loop-again c =
-    let f = c.before.before in
+    let f = c in
     let t = f.before.before.before in
-    list_next _ _ _ _ _ _ _ _ t.before.loop.invariant t.loop-test.true _ _ f.fill.ensures
+    list_next _ _ _ _ _ _ _ _ t.loop-at.invariant t.loop-at-test.true _ _ f.fill-at.ensures
 
-same_length : tie.Need-same-length invariant-loop decreases-loop
+same_length : tie.Need-shape_of-counts invariant-loop decreases-loop
 same_length c =
-    let l = c.before in
+    let l = c in
     let k = l.before.before.before in
-    list_kept _ _ _ _ _ _ _ _ l.loop.invariant _ _ k.before.frames-in.ensures k.clear.ensures
+    list_kept _ _ _ _ _ _ _ _ l.loop-at.invariant _ _ k.frames_in.ensures k.clear.ensures
 
 returns : tie.Need-returns invariant-loop decreases-loop
 returns c =
-    let l = c.before in
+    let l = c in
     let k = l.before.before.before in
-    list_done _ _ _ _ _ _ _ _ l.loop.invariant _ _ k.before.frames-in.ensures k.clear.ensures c.loop-test.false
+    list_done _ _ _ _ _ _ _ _ l.loop-at.invariant _ _ k.frames_in.ensures k.clear.ensures c.loop-at-test.false
 
-pub fill-list-spec : {M : Type 1} → statement M
-fill-list-spec =
+pub fill_list_spec : {M : Type 1} → statement M
+fill_list_spec =
     tie.close
     (tie.spec
     invariant-loop

@@ -3,5 +3,5 @@ use Rattle.report.proofs.Rows.{frames_laws}
 use Rattle.report.proofs.row.frames_in.Statement.{statement}
 use Rattle.report.proofs.row.frames_in.Tie as tie
 
-pub frames-in-spec : {M : Type 1} → statement M
-frames-in-spec = tie.close (tie.spec (λ c. search frames_laws) (λ c. search frames_laws) (λ c. search frames_laws))
+pub frames_in_spec : {M : Type 1} → statement M
+frames_in_spec = tie.close (tie.spec (λ c. search frames_laws) (λ c. search frames_laws) (λ c. search frames_laws))

@@ -3,8 +3,8 @@ use Rattle.report.proofs.Rows.{later_laws}
 use Rattle.report.proofs.row.high_frame.Statement.{statement}
 use Rattle.report.proofs.row.high_frame.Tie as tie
 
-pub high-frame-spec : {M : Type 1} → statement M
-high-frame-spec =
+pub high_frame_spec : {M : Type 1} → statement M
+high_frame_spec =
     tie.close
     (tie.spec
     (λ c. search later_laws)

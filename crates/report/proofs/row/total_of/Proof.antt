@@ -4,14 +4,14 @@ use Rattle.report.proofs.Rows.{Totalling, totalling_laws}
 use Rattle.report.proofs.row.total_of.Statement.{statement}
 use Rattle.report.proofs.row.total_of.Tie as tie
 
-abbrev invariant-loop : tie.invariant-loop
+abbrev invariant-loop : tie.invariant-loop-place
 invariant-loop counts frames total₀ place₀ total place = Totalling counts frames place total
 
-abbrev decreases-loop : tie.decreases-loop
+abbrev decreases-loop : tie.decreases-loop-place
 decreases-loop counts frames total₀ place₀ total place = frames - place
 
-pub total-of-spec : {M : Type 1} → statement M
-total-of-spec =
+pub total_of_spec : {M : Type 1} → statement M
+total_of_spec =
     tie.close
     (tie.spec
     invariant-loop
