@@ -1,5 +1,7 @@
 // The raw and the merged expression of a tree, or of two intersected, written into lent room. Read the refusal first:
 // the length is what was written where it is 0, what is needed where it is 6, and else 0.
+#![tactic(auto)]
+
 mod ball;
 mod block;
 mod carried;

@@ -20,50 +20,50 @@ mark near far most h = by (leb far most) (ltb most near) refl refl
     by false true e f = refl
     by false false e f = refl
 
-cast-black : tie.Need-overflow-cast-black
+cast-black : tie.Need-overflow_cast-black
 cast-black c = search rules
 
-cast-white : tie.Need-overflow-cast-white
+cast-white : tie.Need-overflow_cast-white
 cast-white c = search rules
 
-mul-result : tie.Need-overflow-mul-result
+mul-result : tie.Need-overflow_mul-result
 mul-result c =
     let a = c.args in
     omega (arith, mark a.near a.far a.most c.requires, tested_most (leb a.far a.most) (ltb a.most a.near))
 
-add-result : tie.Need-overflow-add-result
+add-result : tie.Need-overflow_add-result
 add-result c =
     let a = c.args in
     omega (arith, mark a.near a.far a.most c.requires, tested_most (leb a.far a.most) (ltb a.most a.near))
 
-tested-code-requires : tie.Need-tested-code-requires
+tested-code-requires : tie.Need-tested_code-requires
 tested-code-requires c κs = search rules
 
-mul-result-2 : tie.Need-overflow-mul-result-2
-mul-result-2 c = omega (arith, c.tested-code.ensures, tested_most c.before.args.inside true)
+mul-result-2 : tie.Need-overflow_mul-result-2
+mul-result-2 c = omega (arith, c.tested_code.ensures, tested_most c.args.inside true)
 
-add-result-2 : tie.Need-overflow-add-result-2
+add-result-2 : tie.Need-overflow_add-result-2
 add-result-2 c =
-    let a = c.before.args in
+    let a = c.args in
     omega (
       arith,
-      mark a.near a.far a.most c.before.requires,
+      mark a.near a.far a.most c.requires,
       tested_most (leb a.far a.most) (ltb a.most a.near),
-      c.tested-code.ensures,
+      c.tested_code.ensures,
       tested_most a.inside true,
     )
 
 returns : tie.Need-returns
 returns c =
-    let a = c.before.args in
+    let a = c.args in
     omega (
       arith,
-      mark a.near a.far a.most c.before.requires,
-      c.tested-code.ensures,
+      mark a.near a.far a.most c.requires,
+      c.tested_code.ensures,
     )
 
-pub code-by-spec : {M : Type 1} → statement M
-code-by-spec =
+pub code_by_spec : {M : Type 1} → statement M
+code_by_spec =
     tie.close
     (tie.spec
     cast-black

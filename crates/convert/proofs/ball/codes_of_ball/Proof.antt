@@ -6,25 +6,25 @@ use Rattle.convert.proofs.BallCodes.{marks_of_ball}
 use Rattle.convert.proofs.ball.codes_of_ball.Statement.{statement}
 use Rattle.convert.proofs.ball.codes_of_ball.Tie as tie
 
-sub-places : tie.Need-overflow-sub-places
+sub-places : tie.Need-overflow_sub-places
 sub-places c = search rules
 
-codes-of-voxels-requires : tie.Need-codes-of-voxels-requires
+codes-of-voxels-requires : tie.Need-codes_of_voxels-requires
 codes-of-voxels-requires c κs = search rules
 
-returns : tie.Need-returns
-returns c = rw c.before.if1.true c.codes-of-voxels.ensures
+returns : tie.Need-returns-then-centre
+returns c = rw c.if-centre.true c.codes_of_voxels.ensures
 
-codes-of-voxels-requires-2 : tie.Need-codes-of-voxels-requires-2
+codes-of-voxels-requires-2 : tie.Need-codes_of_voxels-requires-2
 codes-of-voxels-requires-2 c κs = search rules
 
-returns-2 : tie.Need-returns-2
+returns-2 : tie.Need-returns
 returns-2 c =
-    let i = c.before in
-    let a = i.before.args in
-    rw i.if1.false (marks_of_ball (a.axes - 1) (ball_at a.balls.now a.i) a.low.now a.high.now a.side.now c.codes-of-voxels2.ensures)
+    let i = c in
+    let a = i.args in
+    rw i.if-centre.false (marks_of_ball (a.axes - 1) (ball_at a.balls.now a.i) a.low.now a.high.now a.side.now c.codes_of_voxels-2.ensures)
 
-pub codes-of-ball-spec : {M : Type 1} → statement M
-codes-of-ball-spec =
+pub codes_of_ball_spec : {M : Type 1} → statement M
+codes_of_ball_spec =
     tie.close
     (tie.spec sub-places codes-of-voxels-requires returns codes-of-voxels-requires-2 returns-2)

@@ -5,32 +5,32 @@ use Rattle.convert.proofs.BallCodes.{before_near, after_near, after_cast, after_
 use Rattle.convert.proofs.ball.farthest.Statement.{statement}
 use Rattle.convert.proofs.ball.farthest.Tie as tie
 
-cast-before : tie.Need-overflow-cast-before
+cast-before : tie.Need-overflow_cast-before
 cast-before c = search rules
 
-sub-before : tie.Need-overflow-sub-before
+sub-before : tie.Need-overflow_sub-before
 sub-before c = near_fits (before_near c.requires.0 c.requires.1.1) tt
 
-cast-after : tie.Need-overflow-cast-after
+cast-after : tie.Need-overflow_cast-after
 cast-after c = search rules
 
-sub-after : tie.Need-overflow-sub-after
+sub-after : tie.Need-overflow_sub-after
 sub-after c = near_fits (after_near c.requires.0 c.requires.1.1 c.requires.1.0) tt
 
-cast-result : tie.Need-overflow-cast-result
-cast-result c = let p = c.before.requires in after_cast p.0 p.1.1 p.1.0 c.if1.true
+cast-result : tie.Need-overflow_cast-result
+cast-result c = let p = c.requires in after_cast p.0 p.1.1 p.1.0 c.if-before-after.true
 
-returns : tie.Need-returns
-returns c = let p = c.before.requires in after_is p.0 p.1.1 p.1.0 c.if1.true
+returns : tie.Need-returns-then-before-after
+returns c = let p = c.requires in after_is p.0 p.1.1 p.1.0 c.if-before-after.true
 
-cast-result-2 : tie.Need-overflow-cast-result-2
-cast-result-2 c = let p = c.before.requires in before_cast p.0 p.1.1 p.1.0 c.if1.false
+cast-result-2 : tie.Need-overflow_cast-result-2
+cast-result-2 c = let p = c.requires in before_cast p.0 p.1.1 p.1.0 c.if-before-after.false
 
-returns-2 : tie.Need-returns-2
-returns-2 c = let p = c.before.requires in before_is p.0 p.1.1 p.1.0 c.if1.false
+returns-2 : tie.Need-returns
+returns-2 c = let p = c.requires in before_is p.0 p.1.1 p.1.0 c.if-before-after.false
 
-pub farthest-spec : {M : Type 1} → statement M
-farthest-spec =
+pub farthest_spec : {M : Type 1} → statement M
+farthest_spec =
     tie.close
     (tie.spec
     cast-before

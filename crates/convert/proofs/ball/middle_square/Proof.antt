@@ -5,24 +5,24 @@ use Rattle.convert.proofs.BallCodes.{before_near, less_near, product_near, produ
 use Rattle.convert.proofs.ball.middle_square.Statement.{statement}
 use Rattle.convert.proofs.ball.middle_square.Tie as tie
 
-cast-before : tie.Need-overflow-cast-before
+cast-before : tie.Need-overflow_cast-before
 cast-before c = search rules
 
-sub-before : tie.Need-overflow-sub-before
+sub-before : tie.Need-overflow_sub-before
 sub-before c = near_fits (before_near c.requires.0 c.requires.1) tt
 
-sub-result : tie.Need-overflow-sub-result
+sub-result : tie.Need-overflow_sub-result
 sub-result c = near_fits (less_near c.requires.0 c.requires.1) tt
 
-mul-result : tie.Need-overflow-mul-result
+mul-result : tie.Need-overflow_mul-result
 mul-result c = near_fits (product_near c.requires.0 c.requires.1) tt
 
-cast-result : tie.Need-overflow-cast-result
+cast-result : tie.Need-overflow_cast-result
 cast-result c = product_cast c.requires.0 c.requires.1
 
 returns : tie.Need-returns
 returns c = product_is c.requires.0 c.requires.1
 
-pub middle-square-spec : {M : Type 1} → statement M
-middle-square-spec =
+pub middle_square_spec : {M : Type 1} → statement M
+middle_square_spec =
     tie.close (tie.spec cast-before sub-before sub-result mul-result cast-result returns)

@@ -7,51 +7,51 @@ use Rattle.convert.proofs.Slots.{Storing, storing_start, storing_end, row_place,
 use Rattle.convert.proofs.carried.set_offsets.Statement.{statement}
 use Rattle.convert.proofs.carried.set_offsets.Tie as tie
 
-abbrev invariant-loop : tie.invariant-loop
+abbrev invariant-loop : tie.invariant-loop-i
 invariant-loop rows slots count values₀ i₀ values i =
     Storing (λ k. (row_in rows slots k).offset) 0 count values₀ values i
 
-abbrev decreases-loop : tie.decreases-loop
+abbrev decreases-loop : tie.decreases-loop-i
 decreases-loop rows slots count values₀ i₀ values i = count - i
 
-loop-holds : tie.Need-loop-init invariant-loop decreases-loop
+loop-holds : tie.Need-loop-i-init invariant-loop decreases-loop
 loop-holds c = storing_start
 
-mul-values : tie.Need-overflow-mul-values invariant-loop decreases-loop
+mul-values : tie.Need-offset_bounds-slots-i invariant-loop decreases-loop
 mul-values c = search rules
 
-element-copy-out-values : tie.Need-element-copy-out-values invariant-loop decreases-loop
+element-copy-out-values : tie.Need-bounds-slots-i invariant-loop decreases-loop
 element-copy-out-values c = search rules
 
-mul-values-2 : tie.Need-overflow-mul-values-2 invariant-loop decreases-loop
-mul-values-2 c = let k = c.before in record { fits = omega (arith, row_few k.before.before.requires _ k.loop-test.true) }
+mul-values-2 : tie.Need-overflow_mul-values invariant-loop decreases-loop
+mul-values-2 c = let k = c in record { fits = omega (arith, row_few k.requires _ k.loop-i-test.true) }
 
-mul-values-3 : tie.Need-overflow-mul-values-3 invariant-loop decreases-loop
-mul-values-3 c = let k = c.before in record { fits = omega (arith, row_few k.before.before.requires _ k.loop-test.true) }
+mul-values-3 : tie.Need-offset_bounds-rows-slots invariant-loop decreases-loop
+mul-values-3 c = let k = c in record { fits = omega (arith, row_few k.requires _ k.loop-i-test.true) }
 
-shared-slice-copy-out-values : tie.Need-shared-slice-copy-out-values invariant-loop decreases-loop
-shared-slice-copy-out-values c = let k = c.before in omega (arith, row_place k.before.before.requires _ k.loop-test.true)
+shared-slice-copy-out-values : tie.Need-bounds-rows-slots invariant-loop decreases-loop
+shared-slice-copy-out-values c = let k = c in omega (arith, row_place k.requires _ k.loop-i-test.true)
 
-mul-t15 : tie.Need-overflow-mul-t15 invariant-loop decreases-loop
+mul-t15 : tie.Need-offset_bounds-values-i invariant-loop decreases-loop
 mul-t15 c = search rules
 
-element-set-from-values : tie.Need-element-set-from-values invariant-loop decreases-loop
+element-set-from-values : tie.Need-bounds-values-i invariant-loop decreases-loop
 element-set-from-values c = search rules
 
-add-i : tie.Need-overflow-add-i invariant-loop decreases-loop
+add-i : tie.Need-overflow_add-i invariant-loop decreases-loop
 add-i c = search rules
 
-loop-less : tie.Need-loop-smaller invariant-loop decreases-loop
+loop-less : tie.Need-loop-i-smaller invariant-loop decreases-loop
 loop-less c = search rules
 
-loop-again : tie.Need-loop-preserved invariant-loop decreases-loop
-loop-again c = let k = c.before.before in next_offset k.before.before.requires k.before.loop.invariant k.loop-test.true
+loop-again : tie.Need-loop-i-preserved invariant-loop decreases-loop
+loop-again c = let k = c in next_offset k.requires k.loop-i.invariant k.loop-i-test.true
 
 returns : tie.Need-returns invariant-loop decreases-loop
-returns c = storing_end c.before.loop.invariant c.loop-test.false
+returns c = storing_end c.loop-i.invariant c.loop-i-test.false
 
-pub set-offsets-spec : {M : Type 1} → statement M
-set-offsets-spec =
+pub set_offsets_spec : {M : Type 1} → statement M
+set_offsets_spec =
     tie.close
     (tie.spec
     invariant-loop

@@ -4,21 +4,21 @@ use Rattle.convert.proofs.Answers.{ends_refused, ends_accepted}
 use Rattle.convert.proofs.conversion.of_two.Statement.{statement}
 use Rattle.convert.proofs.conversion.of_two.Tie as tie
 
-returns : tie.Need-returns
-returns c = ends_refused _ _ c.before.before.checked.ensures.0 c.before.if1.true c.refused.ensures
+returns : tie.Need-returns-then-refusal-ne0
+returns c = ends_refused _ _ c.checked-refusal.ensures.0 c.if-refusal-ne0.true c.refused.ensures
 
-returns-2 : tie.Need-returns-2
+returns-2 : tie.Need-returns
 returns-2 c =
-    let k = c.before.before.before.before in
-    ends_accepted _ _ k.before.checked.ensures.0 k.if1.false c.before.before.written-of-two.ensures
+    let k = c in
+    ends_accepted _ _ k.checked-refusal.ensures.0 k.if-refusal-ne0.false c.written_of_two.ensures
 
-pub of-two-spec : {M : Type 1} → statement M
-of-two-spec =
+pub of_two_spec : {M : Type 1} → statement M
+of_two_spec =
     tie.close
     (tie.spec
     (λ c κs. search rules)
     (λ c κs. search rules)
     returns
-    (λ c κs. c.before.before.checked.ensures.1 c.before.if1.false)
+    (λ c κs. c.checked-refusal.ensures.1 c.if-refusal-ne0.false)
     (λ c. search rules)
     returns-2)

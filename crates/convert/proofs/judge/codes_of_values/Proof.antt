@@ -8,84 +8,84 @@ use Rattle.convert.proofs.Slots.{moved_up_fits, moved_down_fits, moved_asks, mov
 use Rattle.convert.proofs.judge.codes_of_values.Statement.{statement}
 use Rattle.convert.proofs.judge.codes_of_values.Tie as tie
 
-add-below-least : tie.Need-overflow-add-below-least
+add-below-least : tie.Need-overflow_add-below_least
 add-below-least c = moved_up_fits c.requires.1.0.0 c.requires.0.0
 
-sub-below-greatest : tie.Need-overflow-sub-below-greatest
+sub-below-greatest : tie.Need-overflow_sub-below_greatest
 sub-below-greatest c = moved_down_fits c.requires.1.0.1 c.requires.0.1
 
-add-above-least : tie.Need-overflow-add-above-least
+add-above-least : tie.Need-overflow_add-above_least
 add-above-least c = moved_up_fits c.requires.1.0.0 c.requires.0.1
 
-sub-above-greatest : tie.Need-overflow-sub-above-greatest
+sub-above-greatest : tie.Need-overflow_sub-above_greatest
 sub-above-greatest c = moved_down_fits c.requires.1.0.1 c.requires.0.0
 
-mark-by-values-requires : tie.Need-mark-by-values-requires
+mark-by-values-requires : tie.Need-mark_by_values-below-requires
 mark-by-values-requires c κs = let q = c.requires in moved_asks q.1.0.0 q.1.0.1 q.0.0 q.0.1 q.1.1.0
 
-mark-by-values-requires-2 : tie.Need-mark-by-values-requires-2
-mark-by-values-requires-2 c κs = let q = c.before.requires in moved_asks q.1.0.0 q.1.0.1 q.0.1 q.0.0 q.1.1.1
+mark-by-values-requires-2 : tie.Need-mark_by_values-above-requires
+mark-by-values-requires-2 c κs = let q = c.requires in moved_asks q.1.0.0 q.1.0.1 q.0.1 q.0.0 q.1.1.1
 
-paired-requires : tie.Need-paired-requires
-paired-requires c κs = (omega (arith, c.before.mark-by-values.ensures.1), omega (arith, c.mark-by-values2.ensures.1))
+paired-requires : tie.Need-paired-marks-requires
+paired-requires c κs = (omega (arith, c.mark_by_values-below.ensures.1), omega (arith, c.mark_by_values-above.ensures.1))
 
-colour-by-values-requires : tie.Need-colour-by-values-requires
-colour-by-values-requires c κs = let q = c.before.before.before.before.requires in moved_asks q.1.0.0 q.1.0.1 q.0.0 q.0.1 q.1.1.0
+colour-by-values-requires : tie.Need-colour_by_values-below_colour-requires
+colour-by-values-requires c κs = let q = c.requires in moved_asks q.1.0.0 q.1.0.1 q.0.0 q.0.1 q.1.1.0
 
-colour-by-values-requires-2 : tie.Need-colour-by-values-requires-2
+colour-by-values-requires-2 : tie.Need-colour_by_values-above_colour-requires
 colour-by-values-requires-2 c κs = let q =
-    c.before.before.before.before.before.requires in moved_asks q.1.0.0 q.1.0.1 q.0.1 q.0.0 q.1.1.1
+    c.requires in moved_asks q.1.0.0 q.1.0.1 q.0.1 q.0.0 q.1.1.1
 
-paired-requires-2 : tie.Need-paired-requires-2
-paired-requires-2 c κs = (omega (arith, c.before.colour-by-values.ensures.1), omega (arith, c.colour-by-values2.ensures.1))
+paired-requires-2 : tie.Need-paired-requires
+paired-requires-2 c κs = (omega (arith, c.colour_by_values-below_colour.ensures.1), omega (arith, c.colour_by_values-above_colour.ensures.1))
 
-mul-result : tie.Need-overflow-mul-result
+mul-result : tie.Need-overflow_mul-result
 mul-result c =
-    record { fits = omega (arith, c.paired2.ensures, c.before.colour-by-values2.ensures.1, c.before.before.colour-by-values.ensures.1) }
+    record { fits = omega (arith, c.paired.ensures, c.colour_by_values-above_colour.ensures.1, c.colour_by_values-below_colour.ensures.1) }
 
-add-result : tie.Need-overflow-add-result
+add-result : tie.Need-overflow_add-result
 add-result c =
-    let m = c.before.before.before.before in
+    let m = c in
     record {
       fits = omega (
         arith,
-        c.paired2.ensures,
-        c.before.colour-by-values2.ensures.1,
-        c.before.before.colour-by-values.ensures.1,
-        m.paired.ensures,
-        m.before.mark-by-values2.ensures.1,
-        m.before.before.mark-by-values.ensures.1,
+        c.paired.ensures,
+        c.colour_by_values-above_colour.ensures.1,
+        c.colour_by_values-below_colour.ensures.1,
+        m.paired-marks.ensures,
+        m.mark_by_values-above.ensures.1,
+        m.mark_by_values-below.ensures.1,
       );
     }
 
-returns : tie.Need-returns
+returns : tie.Need-returns-then-centre
 returns c =
-    let i = c.before.before.before in
-    let m = i.before in
-    let q = m.before.before.before.requires in
-    let a = m.before.before.before.args in
+    let i = c in
+    let m = i in
+    let q = m.requires in
+    let a = m.args in
     codes_at (a.least +ℤ pos a.one) (a.greatest -ℤ pos a.other) (a.least +ℤ pos a.other) (a.greatest -ℤ pos a.one)
-    (m.before.before.mark-by-values.ensures.0 ∙ moved_mark q.1.0.0 q.1.0.1 q.0.0 q.0.1)
-    (m.before.mark-by-values2.ensures.0 ∙ moved_mark q.1.0.0 q.1.0.1 q.0.1 q.0.0)
-    m.paired.ensures
-    i.if1.true
-    (c.before.before.colour-by-values.ensures.0 ∙ moved_colour q.1.0.0 q.1.0.1 q.0.0 q.0.1)
-    (c.before.colour-by-values2.ensures.0 ∙ moved_colour q.1.0.0 q.1.0.1 q.0.1 q.0.0)
-    c.paired2.ensures
+    (m.mark_by_values-below.ensures.0 ∙ moved_mark q.1.0.0 q.1.0.1 q.0.0 q.0.1)
+    (m.mark_by_values-above.ensures.0 ∙ moved_mark q.1.0.0 q.1.0.1 q.0.1 q.0.0)
+    m.paired-marks.ensures
+    i.if-centre.true
+    (c.colour_by_values-below_colour.ensures.0 ∙ moved_colour q.1.0.0 q.1.0.1 q.0.0 q.0.1)
+    (c.colour_by_values-above_colour.ensures.0 ∙ moved_colour q.1.0.0 q.1.0.1 q.0.1 q.0.0)
+    c.paired.ensures
 
-returns-2 : tie.Need-returns-2
+returns-2 : tie.Need-returns
 returns-2 c =
-    let m = c.before in
-    let q = m.before.before.before.requires in
-    let a = m.before.before.before.args in
+    let m = c in
+    let q = m.requires in
+    let a = m.args in
     codes_over (a.least +ℤ pos a.one) (a.greatest -ℤ pos a.other) (a.least +ℤ pos a.other) (a.greatest -ℤ pos a.one)
-    (m.before.before.mark-by-values.ensures.0 ∙ moved_mark q.1.0.0 q.1.0.1 q.0.0 q.0.1)
-    (m.before.mark-by-values2.ensures.0 ∙ moved_mark q.1.0.0 q.1.0.1 q.0.1 q.0.0)
-    m.paired.ensures
-    c.if1.false
+    (m.mark_by_values-below.ensures.0 ∙ moved_mark q.1.0.0 q.1.0.1 q.0.0 q.0.1)
+    (m.mark_by_values-above.ensures.0 ∙ moved_mark q.1.0.0 q.1.0.1 q.0.1 q.0.0)
+    m.paired-marks.ensures
+    c.if-centre.false
 
-pub codes-of-values-spec : {M : Type 1} → statement M
-codes-of-values-spec =
+pub codes_of_values_spec : {M : Type 1} → statement M
+codes_of_values_spec =
     tie.close
     (tie.spec
     (λ c. search rules)

@@ -5,7 +5,7 @@ use Rattle.convert.proofs.judge.judge.Statement.{statement}
 use Rattle.convert.proofs.judge.judge.Tie as tie
 
 returns : tie.Need-returns
-returns c = judge_told _ _ c.before.before.before.before.args.left _ _ c.before.codes.ensures c.judged-bits.ensures
+returns c = judge_told _ _ c.args.left _ _ c.codes-codes.ensures c.judged_bits.ensures
 
-pub judge-spec : {M : Type 1} → statement M
-judge-spec = tie.close (tie.spec (λ c κs. search rules) (λ c κs. search rules) returns)
+pub judge_spec : {M : Type 1} → statement M
+judge_spec = tie.close (tie.spec (λ c κs. search rules) (λ c κs. search rules) returns)

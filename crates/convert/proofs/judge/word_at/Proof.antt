@@ -6,8 +6,8 @@ use lib.ListN.{get_or-eq_default}
 use Rattle.convert.proofs.judge.word_at.Statement.{statement}
 use Rattle.convert.proofs.judge.word_at.Tie as tie
 
-returns-2 : tie.Need-returns-2
-returns-2 c = sym (get_or-eq_default c.before.args.words.now 0 {n = c.before.args.i} (omega (arith, c.if1.false)))
+returns-2 : tie.Need-returns-else-i-words
+returns-2 c = sym (get_or-eq_default c.args.words.now 0 {n = c.args.i} (omega (arith, c.if-i-words.false)))
 
-pub word-at-spec : {M : Type 1} → statement M
-word-at-spec = tie.close (tie.spec (λ c. search rules) (λ c. search rules) (λ c. search rules) returns-2)
+pub word_at_spec : {M : Type 1} → statement M
+word_at_spec = tie.close (tie.spec (λ c. search rules) (λ c. search rules) (λ c. search rules) returns-2)

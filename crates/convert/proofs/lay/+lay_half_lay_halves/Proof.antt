@@ -81,361 +81,361 @@ module _ (t : ℕ) where
   )
 
   -- ---- `lay_half`
-  half_add_t25 : half-lts.Need-overflow-add-t25 half_claims half_at lay-half.Post
-  half_add_t25 c = record { fits = omega (arith, one_fits _ _ c.before.before.before.before.before.requires.1.0.laying.fits) }
+  half_add_t25 : half-lts.Need-overflow_add-at half_claims half_at lay-half.Post
+  half_add_t25 c = record { fits = omega (arith, one_fits _ _ c.requires.1.0.laying.fits) }
 
   half_packed_requires : half-lts.Need-packed-requires half_claims half_at lay-half.Post
-  half_packed_requires c κs = one_fits _ _ c.before.before.before.before.before.requires.1.0.laying.fits
+  half_packed_requires c κs = one_fits _ _ c.requires.1.0.laying.fits
 
-  half_returns : half-lts.Need-returns half_claims half_at lay-half.Post
+  half_returns : half-lts.Need-returns-then-mark-ne0 half_claims half_at lay-half.Post
   half_returns c =
-      let h = c.before.before.before.before.before.before.requires.1.0 in
-      let w = piece_closed h.laying.ready _ _ _ h.told c.before.before.if1.true c.before.symbol-of.ensures _ _ in
+      let h = c.requires.1.0 in
+      let w = piece_closed h.laying.ready _ _ _ h.told c.if-mark-ne0.true c.symbol_of.ensures _ _ in
       (c.packed.ensures ∙ ap packed w.0, (w.1, (refl, (refl, refl))))
 
-  half_lay_halves_requires : half-lts.Need-lay-halves-requires half_claims half_at lay-half.Post
+  half_lay_halves_requires : half-lts.Need-lay_halves-requires half_claims half_at lay-half.Post
   half_lay_halves_requires c κs =
-      let q = c.before.before.before.before.before.before.before.before.requires in
-      (omega (arith, q.0), (rw c.before.before.before.before.if1.false at q.1.0, q.1.1))
+      let q = c.requires in
+      (omega (arith, q.0), (rw c.if-mark-ne0.false at q.1.0, q.1.1))
 
-  half_same_length : half-lts.Need-same-length half_claims half_at lay-half.Post
-  half_same_length c = c.before.before.lay-halves.auto.1.1.1.1.1.1.1.1.1.1.1.1.1.1.1.1.1.1.1.0
+  half_same_length : half-lts.Need-shape_of-out half_claims half_at lay-half.Post
+  half_same_length c = c.lay_halves.auto.out
 
-  half_returns_2 : half-lts.Need-returns-2 half_claims half_at lay-half.Post
-  half_returns_2 c = c.before.before.lay-halves.ensures
+  half_returns_2 : half-lts.Need-returns half_claims half_at lay-half.Post
+  half_returns_2 c = c.lay_halves.ensures
 
   -- ---- `lay_halves`
-  halves_move_to_requires : halves-lts.Need-move-to-requires halves_claims halves_at lay-halves.Post
+  halves_move_to_requires : halves-lts.Need-move_to-requires halves_claims halves_at lay-halves.Post
   halves_move_to_requires c κs =
-      let q = c.before.before.before.before.before.requires in
+      let q = c.requires in
       let h = q.1.0 in
       let n = q.1.1.1 in
       to_asks h n
 
-  halves_sub_axis : halves-lts.Need-overflow-sub-axis halves_claims halves_at lay-halves.Post
+  halves_sub_axis : halves-lts.Need-overflow_sub-axis halves_claims halves_at lay-halves.Post
   halves_sub_axis c =
-      let q = c.before.before.before.before.before.before.requires in
+      let q = c.requires in
       let h = q.1.0 in
       let n = q.1.1.1 in
-      let g = c.move-to.ensures in
+      let g = c.move_to.ensures in
       let o = half_halving h n g.0 g.1 refl in
       o.some
 
-  halves_mul_axis : halves-lts.Need-overflow-mul-axis halves_claims halves_at lay-halves.Post
+  halves_mul_axis : halves-lts.Need-offset_bounds-axes-left halves_claims halves_at lay-halves.Post
   halves_mul_axis c =
-      let q = c.before.before.before.before.before.before.requires in
+      let q = c.requires in
       let h = q.1.0 in
       let n = q.1.1.1 in
-      let g = c.move-to.ensures in
+      let g = c.move_to.ensures in
       let o = half_halving h n g.0 g.1 refl in
       record { fits = omega (arith, o.place) }
 
-  halves_element_copy_out_axis : halves-lts.Need-element-copy-out-axis halves_claims halves_at lay-halves.Post
+  halves_element_copy_out_axis : halves-lts.Need-bounds-axes-left halves_claims halves_at lay-halves.Post
   halves_element_copy_out_axis c =
-      let q = c.before.before.before.before.before.before.requires in
+      let q = c.requires in
       let h = q.1.0 in
       let n = q.1.1.1 in
-      let g = c.move-to.ensures in
+      let g = c.move_to.ensures in
       let o = half_halving h n g.0 g.1 refl in
       o.place
 
-  halves_sub_next : halves-lts.Need-overflow-sub-next halves_claims halves_at lay-halves.Post
+  halves_sub_next : halves-lts.Need-overflow_sub-next halves_claims halves_at lay-halves.Post
   halves_sub_next c =
-      let q = c.before.before.before.before.before.before.before.requires in
+      let q = c.requires in
       let h = q.1.0 in
       let n = q.1.1.1 in
-      let g = c.before.move-to.ensures in
+      let g = c.move_to.ensures in
       let o = half_halving h n g.0 g.1 refl in
       o.some
 
-  halves_mul_next : halves-lts.Need-overflow-mul-next halves_claims halves_at lay-halves.Post
+  halves_mul_next : halves-lts.Need-offset_bounds-turns-left halves_claims halves_at lay-halves.Post
   halves_mul_next c =
-      let q = c.before.before.before.before.before.before.before.requires in
+      let q = c.requires in
       let h = q.1.0 in
       let n = q.1.1.1 in
-      let g = c.before.move-to.ensures in
+      let g = c.move_to.ensures in
       let o = half_halving h n g.0 g.1 refl in
       record { fits = omega (arith, o.place) }
 
-  halves_element_copy_out_next : halves-lts.Need-element-copy-out-next halves_claims halves_at lay-halves.Post
+  halves_element_copy_out_next : halves-lts.Need-bounds-turns-left halves_claims halves_at lay-halves.Post
   halves_element_copy_out_next c =
-      let q = c.before.before.before.before.before.before.before.requires in
+      let q = c.requires in
       let h = q.1.0 in
       let n = q.1.1.1 in
-      let g = c.before.move-to.ensures in
+      let g = c.move_to.ensures in
       let o = half_halving h n g.0 g.1 refl in
       o.place
 
-  halves_mul_whole : halves-lts.Need-overflow-mul-whole halves_claims halves_at lay-halves.Post
+  halves_mul_whole : halves-lts.Need-offset_bounds-side-axis halves_claims halves_at lay-halves.Post
   halves_mul_whole c =
-      let q = c.before.before.before.before.before.before.before.before.requires in
+      let q = c.requires in
       let h = q.1.0 in
       let n = q.1.1.1 in
-      let g = c.before.before.move-to.ensures in
+      let g = c.move_to.ensures in
       let o = half_halving h n g.0 g.1 refl in
       record { fits = omega (arith, o.within) }
 
-  halves_element_copy_out_whole : halves-lts.Need-element-copy-out-whole halves_claims halves_at lay-halves.Post
+  halves_element_copy_out_whole : halves-lts.Need-bounds-side-axis halves_claims halves_at lay-halves.Post
   halves_element_copy_out_whole c =
-      let q = c.before.before.before.before.before.before.before.before.requires in
+      let q = c.requires in
       let h = q.1.0 in
       let n = q.1.1.1 in
-      let g = c.before.before.move-to.ensures in
+      let g = c.move_to.ensures in
       let o = half_halving h n g.0 g.1 refl in
       o.within
 
-  halves_high_lows_requires : halves-lts.Need-high-lows-requires halves_claims halves_at lay-halves.Post
+  halves_high_lows_requires : halves-lts.Need-high_lows-high-requires halves_claims halves_at lay-halves.Post
   halves_high_lows_requires c κs =
-      let c1 = c.before.before.before.before.before.before.before.before.before in
+      let c1 = c in
       let q = c1.requires in
       let h = q.1.0 in
       let n = q.1.1.1 in
-      let g = c.before.before.before.move-to.ensures in
+      let g = c.move_to.ensures in
       let o = half_halving h n g.0 g.1 refl in
       high_asks o
 
-  halves_fall_place_requires : halves-lts.Need-fall-place-requires halves_claims halves_at lay-halves.Post
+  halves_fall_place_requires : halves-lts.Need-fall_place-fall-requires halves_claims halves_at lay-halves.Post
   halves_fall_place_requires c κs =
-      let c1 = c.before.before.before.before.before.before.before.before.before.before in
+      let c1 = c in
       let q = c1.requires in
       let h = q.1.0 in
       let n = q.1.1.1 in
-      let g = c.before.before.before.before.move-to.ensures in
+      let g = c.move_to.ensures in
       let o = half_halving h n g.0 g.1 refl in
       o.within
 
-  halves_add_rise : halves-lts.Need-overflow-add-rise halves_claims halves_at lay-halves.Post
+  halves_add_rise : halves-lts.Need-overflow_add-rise halves_claims halves_at lay-halves.Post
   halves_add_rise c =
-      let c1 = c.before.before.before.before.before.before.before.before.before.before.before in
+      let c1 = c in
       let q = c1.requires in
       let h = q.1.0 in
       let n = q.1.1.1 in
-      let g = c.before.before.before.before.before.move-to.ensures in
+      let g = c.move_to.ensures in
       let o = half_halving h n g.0 g.1 refl in
-      let f = c.fall-place.ensures in
+      let f = c.fall_place-fall.ensures in
       record { fits = omega (arith, f, o.within) }
 
-  halves_mul_side : halves-lts.Need-overflow-mul-side halves_claims halves_at lay-halves.Post
+  halves_mul_side : halves-lts.Need-offset_bounds-side-axis-2 halves_claims halves_at lay-halves.Post
   halves_mul_side c =
-      let c1 = c.before.before.before.before.before.before.before.before.before.before.before in
+      let c1 = c in
       let q = c1.requires in
       let h = q.1.0 in
       let n = q.1.1.1 in
-      let g = c.before.before.before.before.before.move-to.ensures in
+      let g = c.move_to.ensures in
       let o = half_halving h n g.0 g.1 refl in
       record { fits = omega (arith, o.within) }
 
-  halves_element_write_side : halves-lts.Need-element-write-side halves_claims halves_at lay-halves.Post
+  halves_element_write_side : halves-lts.Need-bounds-side-axis-2 halves_claims halves_at lay-halves.Post
   halves_element_write_side c =
-      let c1 = c.before.before.before.before.before.before.before.before.before.before.before in
+      let c1 = c in
       let q = c1.requires in
       let h = q.1.0 in
       let n = q.1.1.1 in
-      let g = c.before.before.before.before.before.move-to.ensures in
+      let g = c.move_to.ensures in
       let o = half_halving h n g.0 g.1 refl in
       o.within
 
-  halves_sub_judge : halves-lts.Need-overflow-sub-judge halves_claims halves_at lay-halves.Post
+  halves_sub_judge : halves-lts.Need-overflow_sub-left halves_claims halves_at lay-halves.Post
   halves_sub_judge c =
-      let c1 = c.before.before.before.before.before.before.before.before.before in
-      let c2 = c1.before.before.before.before.before.before in
+      let c1 = c in
+      let c2 = c1 in
       let q = c2.requires in
       let h = q.1.0 in
       let n = q.1.1.1 in
-      let g = c1.move-to.ensures in
+      let g = c1.move_to.ensures in
       let o = half_halving h n g.0 g.1 refl in
       o.some
 
-  halves_judge_requires : halves-lts.Need-judge-requires halves_claims halves_at lay-halves.Post
+  halves_judge_requires : halves-lts.Need-judge-codes-requires halves_claims halves_at lay-halves.Post
   halves_judge_requires c κs =
-      let c1 = c.before.before.before.before.before.before.before.before.before in
-      let c2 = c1.before.before.before.before.before.before in
+      let c1 = c in
+      let c2 = c1 in
       let q = c2.requires in
       let h = q.1.0 in
       let n = q.1.1.1 in
-      let g = c1.move-to.ensures in
+      let g = c1.move_to.ensures in
       let o = half_halving h n g.0 g.1 refl in
-      let w = c.before.before.before.before.before.high-lows.ensures in
-      let f = c.before.before.before.before.fall-place.ensures in
+      let w = c.high_lows-high.ensures in
+      let f = c.fall_place-fall.ensures in
       (judge_asks o w f refl, q.1.1.0)
 
-  halves_sub_lay_half : halves-lts.Need-overflow-sub-lay-half halves_claims halves_at lay-halves.Post
+  halves_sub_lay_half : halves-lts.Need-overflow_sub-left-2 halves_claims halves_at lay-halves.Post
   halves_sub_lay_half c =
-      let c1 = c.before.before.before.before.before.before.before.before.before.before.before.before in
-      let c2 = c1.before in
-      let c3 = c2.before.before.before.before.before.before in
+      let c1 = c in
+      let c2 = c1 in
+      let c3 = c2 in
       let q = c3.requires in
       let h = q.1.0 in
       let n = q.1.1.1 in
-      let g = c2.move-to.ensures in
+      let g = c2.move_to.ensures in
       let o = half_halving h n g.0 g.1 refl in
       o.some
 
-  halves_add_lay_half : halves-lts.Need-overflow-add-lay-half halves_claims halves_at lay-halves.Post
+  halves_add_lay_half : halves-lts.Need-overflow_add-at halves_claims halves_at lay-halves.Post
   halves_add_lay_half c =
-      let c1 = c.before.before.before.before.before.before.before.before.before.before.before.before in
-      let c2 = c1.before.before in
-      let c3 = c2.before.before.before.before.before.before in
+      let c1 = c in
+      let c2 = c1 in
+      let c3 = c2 in
       let q = c3.requires in
       let h = q.1.0 in
       let n = q.1.1.1 in
-      let g = c2.move-to.ensures in
+      let g = c2.move_to.ensures in
       let o = half_halving h n g.0 g.1 refl in
       record { fits = omega (arith, one_fits _ _ o.fits) }
 
-  halves_lay_half_requires : halves-lts.Need-lay-half-requires halves_claims halves_at lay-halves.Post
+  halves_lay_half_requires : halves-lts.Need-lay_half-requires halves_claims halves_at lay-halves.Post
   halves_lay_half_requires c κs =
-      let c1 = c.before.before.before.before.before.before.before.before.before in
-      let c2 = c1.before in
-      let c3 = c2.before.before.before.before in
-      let c4 = c3.before.before.before.before.before.before in
+      let c1 = c in
+      let c2 = c1 in
+      let c3 = c2 in
+      let c4 = c3 in
       let q = c4.requires in
       let h = q.1.0 in
       let n = q.1.1.1 in
-      let g = c3.move-to.ensures in
+      let g = c3.move_to.ensures in
       let o = half_halving h n g.0 g.1 refl in
-      let w = c2.high-lows.ensures in
-      let f = c1.fall-place.ensures in
-      let j = c.before.before.before.before.judge.ensures in
+      let w = c2.high_lows-high.ensures in
+      let f = c1.fall_place-fall.ensures in
+      let j = c.judge-codes.ensures in
       (omega (arith, q.0, o.some), (low_half o w f refl j, q.1.1))
 
-  halves_sub_lay_half_2 : halves-lts.Need-overflow-sub-lay-half-2 halves_claims halves_at lay-halves.Post
+  halves_sub_lay_half_2 : halves-lts.Need-overflow_sub-left-3 halves_claims halves_at lay-halves.Post
   halves_sub_lay_half_2 c =
-      let c1 = c.before.before.before.before.before.before.before.before.before.before.before.before in
-      let c2 = c1.before.before.before.before.before.before.before.before.before.before in
-      let c3 = c2.before.before.before.before.before.before in
+      let c1 = c in
+      let c2 = c1 in
+      let c3 = c2 in
       let q = c3.requires in
       let h = q.1.0 in
       let n = q.1.1.1 in
-      let g = c2.move-to.ensures in
+      let g = c2.move_to.ensures in
       let o = half_halving h n g.0 g.1 refl in
       o.some
 
-  halves_lay_half_requires_2 : halves-lts.Need-lay-half-requires-2 halves_claims halves_at lay-halves.Post
+  halves_lay_half_requires_2 : halves-lts.Need-lay_half-requires-2 halves_claims halves_at lay-halves.Post
   halves_lay_half_requires_2 c κs =
-      let c1 = c.before.before.before.before.before.before.before.before.before.before.before.before in
-      let c2 = c1.before in
-      let c3 = c2.before.before.before.before.before in
-      let c4 = c3.before in
-      let c5 = c4.before.before.before.before in
-      let c6 = c5.before.before.before.before.before.before in
+      let c1 = c in
+      let c2 = c1 in
+      let c3 = c2 in
+      let c4 = c3 in
+      let c5 = c4 in
+      let c6 = c5 in
       let q = c6.requires in
       let h = q.1.0 in
       let n = q.1.1.1 in
-      let g = c5.move-to.ensures in
+      let g = c5.move_to.ensures in
       let o = half_halving h n g.0 g.1 refl in
-      let w = c4.high-lows.ensures in
-      let f = c3.fall-place.ensures in
-      let j = c2.judge.ensures in
-      let e = c.before.before.before.before.before.before.before.before.lay-half.ensures in
-      let p = unpacked_is _ _ e.0 c.before.before.before.before.before.unpacked.ensures in
+      let w = c4.high_lows-high.ensures in
+      let f = c3.fall_place-fall.ensures in
+      let j = c2.judge-codes.ensures in
+      let e = c.lay_half.ensures in
+      let p = unpacked_is _ _ e.0 c.unpacked-below.ensures in
       (omega (arith, q.0, o.some), (high_half o w f refl j e.1.1.0 e.1.1.1 (upper_lays o _ p w), q.1.1))
 
-  halves_mul_side_2 : halves-lts.Need-overflow-mul-side-2 halves_claims halves_at lay-halves.Post
+  halves_mul_side_2 : halves-lts.Need-offset_bounds-side-axis-3 halves_claims halves_at lay-halves.Post
   halves_mul_side_2 c =
-      let c1 = c.before.before.before.before.before.before.before.before.before.before.before.before in
-      let c2 = c1.before.before.before.before.before.before.before.before.before.before.before.before in
-      let c3 = c2.before.before.before in
-      let c4 = c3.before.before.before.before.before.before in
+      let c1 = c in
+      let c2 = c1 in
+      let c3 = c2 in
+      let c4 = c3 in
       let q = c4.requires in
       let h = q.1.0 in
       let n = q.1.1.1 in
-      let g = c3.move-to.ensures in
+      let g = c3.move_to.ensures in
       let o = half_halving h n g.0 g.1 refl in
       record { fits = omega (arith, o.within) }
 
-  halves_element_write_side_2 : halves-lts.Need-element-write-side-2 halves_claims halves_at lay-halves.Post
+  halves_element_write_side_2 : halves-lts.Need-bounds-side-axis-3 halves_claims halves_at lay-halves.Post
   halves_element_write_side_2 c =
-      let c1 = c.before.before.before.before.before.before.before.before.before.before.before.before in
-      let c2 = c1.before.before.before.before.before.before.before.before.before.before.before.before in
-      let c3 = c2.before.before.before in
-      let c4 = c3.before.before.before.before.before.before in
+      let c1 = c in
+      let c2 = c1 in
+      let c3 = c2 in
+      let c4 = c3 in
       let q = c4.requires in
       let h = q.1.0 in
       let n = q.1.1.1 in
-      let g = c3.move-to.ensures in
+      let g = c3.move_to.ensures in
       let o = half_halving h n g.0 g.1 refl in
       o.within
 
-  halves_move_back_requires : halves-lts.Need-move-back-requires halves_claims halves_at lay-halves.Post
+  halves_move_back_requires : halves-lts.Need-move_back-requires halves_claims halves_at lay-halves.Post
   halves_move_back_requires c κs =
-      let c1 = c.before.before.before.before.before.before.before.before.before.before.before.before in
-      let c2 = c1.before.before in
-      let c3 = c2.before.before.before.before.before.before.before.before.before.before.before.before in
-      let c4 = c3.before.before.before in
-      let c5 = c4.before.before.before.before.before.before in
+      let c1 = c in
+      let c2 = c1 in
+      let c3 = c2 in
+      let c4 = c3 in
+      let c5 = c4 in
       let q = c5.requires in
       let h = q.1.0 in
       let n = q.1.1.1 in
-      let g = c4.move-to.ensures in
+      let g = c4.move_to.ensures in
       let o = half_halving h n g.0 g.1 refl in
-      let e = c2.lay-half.ensures in
-      let d = c.before.before.before.before.before.lay-half2.ensures in
+      let e = c2.lay_half.ensures in
+      let d = c.lay_half-2.ensures in
       back_asks h n g.0 g.1 (d.1.1.1.0 ∙ e.1.1.1.0, d.1.1.1.1 ∙ e.1.1.1.1)
 
   halves_join_requires : halves-lts.Need-join-requires halves_claims halves_at lay-halves.Post
   halves_join_requires c κs =
-      let c1 = c.before.before.before.before.before.before.before.before.before.before.before.before in
-      let c2 = c1.before.before.before.before.before.before.before.before.before.before.before.before in
-      let c3 = c2.before.before.before.before.before.before.before in
-      let c4 = c3.before.before.before.before.before.before in
+      let c1 = c in
+      let c2 = c1 in
+      let c3 = c2 in
+      let c4 = c3 in
       let q = c4.requires in
       let h = q.1.0 in
       let n = q.1.1.1 in
-      let g = c3.move-to.ensures in
+      let g = c3.move_to.ensures in
       let o = half_halving h n g.0 g.1 refl in
       omega (arith, one_fits _ _ o.fits)
 
   halves_packed_requires : halves-lts.Need-packed-requires halves_claims halves_at lay-halves.Post
   halves_packed_requires c κs =
-      let c1 = c.before.before.before.before.before.before.before.before.before.before in
-      let c2 = c1.before.before.before.before.before.before in
-      let c3 = c2.before.before.before in
-      let c4 = c3.before.before.before.before.before.before.before.before.before.before.before in
-      let c5 = c4.before.before.before.before in
-      let c6 = c5.before.before.before.before.before.before in
+      let c1 = c in
+      let c2 = c1 in
+      let c3 = c2 in
+      let c4 = c3 in
+      let c5 = c4 in
+      let c6 = c5 in
       let q = c6.requires in
       let h = q.1.0 in
       let n = q.1.1.1 in
-      let g = c5.move-to.ensures in
+      let g = c5.move_to.ensures in
       let o = half_halving h n g.0 g.1 refl in
-      let w = c4.high-lows.ensures in
-      let e = c3.lay-half.ensures in
-      let p = unpacked_is _ _ e.0 c2.unpacked.ensures in
-      let d = c1.lay-half2.ensures in
-      let r = unpacked_is _ _ d.0 c.before.before.before.before.before.before.before.unpacked2.ensures in
-      joined_fits o _ p w _ _ _ e.1.0 r d.1.0 c.before.before.join.ensures
+      let w = c4.high_lows-high.ensures in
+      let e = c3.lay_half.ensures in
+      let p = unpacked_is _ _ e.0 c2.unpacked-below.ensures in
+      let d = c1.lay_half-2.ensures in
+      let r = unpacked_is _ _ d.0 c.unpacked-above.ensures in
+      joined_fits o _ p w _ _ _ e.1.0 r d.1.0 c.join.ensures
 
-  halves_same_length : halves-lts.Need-same-length halves_claims halves_at lay-halves.Post
+  halves_same_length : halves-lts.Need-shape_of-out halves_claims halves_at lay-halves.Post
   halves_same_length c =
-      let c1 = c.before.before.before.before.before.before.before.before.before.before.before in
-      let c2 = c1.before.before.before.before.before.before.before.before.before in
-      c.before.before.before.join.auto.1.0 ∙ c1.lay-half2.auto.1.1.1.1.1.1.1.1.1.1.1.1.1.1.1.1.1.1.1.0
-      ∙ c2.lay-half.auto.1.1.1.1.1.1.1.1.1.1.1.1.1.1.1.1.1.1.1.0
+      let c1 = c in
+      let c2 = c1 in
+      c.join.auto.out ∙ c1.lay_half-2.auto.out
+      ∙ c2.lay_half.auto.out
 
   halves_returns : halves-lts.Need-returns halves_claims halves_at lay-halves.Post
   halves_returns c =
-      let c1 = c.before.before.before.before.before.before.before.before.before.before.before in
-      let c2 = c1.before.before.before.before.before.before in
-      let c3 = c2.before.before.before in
-      let c4 = c3.before.before.before.before.before in
-      let c5 = c4.before.before.before.before.before in
-      let c6 = c5.before in
-      let c7 = c6.before.before.before.before in
-      let c8 = c7.before.before.before.before.before.before in
+      let c1 = c in
+      let c2 = c1 in
+      let c3 = c2 in
+      let c4 = c3 in
+      let c5 = c4 in
+      let c6 = c5 in
+      let c7 = c6 in
+      let c8 = c7 in
       let q = c8.requires in
       let h = q.1.0 in
       let n = q.1.1.1 in
-      let g = c7.move-to.ensures in
+      let g = c7.move_to.ensures in
       let o = half_halving h n g.0 g.1 refl in
-      let w = c6.high-lows.ensures in
-      let f = c5.fall-place.ensures in
-      let j = c4.judge.ensures in
-      let e = c3.lay-half.ensures in
-      let p = unpacked_is _ _ e.0 c2.unpacked.ensures in
-      let d = c1.lay-half2.ensures in
-      let r = unpacked_is _ _ d.0 c.before.before.before.before.before.before.before.before.unpacked2.ensures in
-      let v = piece_joined o _ p w _ _ _ e.1.0 r d.1.0 c.before.before.before.join.ensures in (
+      let w = c6.high_lows-high.ensures in
+      let f = c5.fall_place-fall.ensures in
+      let j = c4.judge-codes.ensures in
+      let e = c3.lay_half.ensures in
+      let p = unpacked_is _ _ e.0 c2.unpacked-below.ensures in
+      let d = c1.lay_half-2.ensures in
+      let r = unpacked_is _ _ d.0 c.unpacked-above.ensures in
+      let v = piece_joined o _ p w _ _ _ e.1.0 r d.1.0 c.join.ensures in (
         c.packed.ensures ∙ ap packed v.0,
         (
           v.1,
@@ -445,13 +445,13 @@ module _ (t : ℕ) where
               d.1.1.1.0 ∙ e.1.1.1.0,
               d.1.1.1.1
                   ∙ e.1.1.1.1,
-            ) c.before.before.before.before.before.move-back.ensures,
+            ) c.move_back.ensures,
           ),
         ),
       )
 
-pub +lay-half-lay-halves-spec : {M : Type 1} → statement M
-+lay-half-lay-halves-spec = close μ_half μ_halves (λ t. half-lts.spec (half_claims t)
+pub +lay_half_lay_halves_spec : {M : Type 1} → statement M
++lay_half_lay_halves_spec = close μ_half μ_halves (λ t. half-lts.spec (half_claims t)
     (half_at t)
     lay-half.Post
     (λ c κs. search rules)

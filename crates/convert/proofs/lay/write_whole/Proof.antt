@@ -14,98 +14,98 @@ use Rattle.convert.proofs.Answers.{standing, laying, piece_length, noted_whole}
 use Rattle.convert.proofs.lay.write_whole.Statement.{statement}
 use Rattle.convert.proofs.lay.write_whole.Tie as tie
 
-name-rows-requires : tie.Need-name-rows-requires
-name-rows-requires c κs = first_asks c.before.before.before.before.before.before.requires
+name-rows-requires : tie.Need-name_rows-from-requires
+name-rows-requires c κs = first_asks c.requires
 
-name-rows-requires-2 : tie.Need-name-rows-requires-2
-name-rows-requires-2 c κs = second_asks c.before.before.before.before.before.before.before.before.requires c.before.name-rows.ensures.0
+name-rows-requires-2 : tie.Need-name_rows-count-requires
+name-rows-requires-2 c κs = second_asks c.requires c.name_rows-from.ensures.0
 
 begin-requires : tie.Need-begin-requires
 begin-requires c κs =
-    let c1 = c.before.before.before.before.before.before.before.before.before in
-    let c2 = c1.before in
-    let c3 = c2.before.before.before.before in
-    let m = c.before.before.before.before.before.before.before.name-rows.ensures in
-    let n = c.before.before.before.before.before.name-rows2.ensures in
-    let l = c1.levels.ensures in
-    let s = c2.whole-sides.ensures in
+    let c1 = c in
+    let c2 = c1 in
+    let c3 = c2 in
+    let m = c.name_rows-from.ensures in
+    let n = c.name_rows-count.ensures in
+    let l = c1.levels-levels.ensures in
+    let s = c2.whole_sides-side.ensures in
     let r = c3.requires in (
       (accepted _ r.accepted_universe).few_axes,
       (begin_slots r m.1 n.1 m.0 n.0, (side_small (standing r l s), ((refl, refl), refl))),
     )
 
-judge-requires : tie.Need-judge-requires
+judge-requires : tie.Need-judge-codes-requires
 judge-requires c κs =
-    let c1 = c.before.before.before.before.before.before.before.before.before.before.before.before in
-    let c2 = c1.before.before in
-    let c3 = c2.before.before in
-    let c4 = c3.before in
-    let c5 = c4.before.before.before.before in
-    let m = c2.name-rows.ensures in
-    let n = c1.name-rows2.ensures in
-    let l = c3.levels.ensures in
-    let s = c4.whole-sides.ensures in
+    let c1 = c in
+    let c2 = c1 in
+    let c3 = c2 in
+    let c4 = c3 in
+    let c5 = c4 in
+    let m = c2.name_rows-from.ensures in
+    let n = c1.name_rows-count.ensures in
+    let l = c3.levels-levels.ensures in
+    let s = c4.whole_sides-side.ensures in
     let r = c5.requires in
-    (whole_judging r m.1 n.1 m.0 n.0 (standing r l s) s c.before.before.before.before.before.before.begin.ensures, omega (arith, m.0))
+    (whole_judging r m.1 n.1 m.0 n.0 (standing r l s) s c.begin.ensures, omega (arith, m.0))
 
-returns : tie.Need-returns
+returns : tie.Need-returns-then-mark-ne0
 returns c =
-    let c1 = c.before.before.before.before.before.before.before.before.before.before.before.before in
-    let c2 = c1.before.before.before.before.before.before.before.before.before.before.before in
-    let c3 = c2.before.before.before.before.before in
-    let l = c2.levels.ensures in
+    let c1 = c in
+    let c2 = c1 in
+    let c3 = c2 in
+    let l = c2.levels-levels.ensures in
     let o = c3 in
     let r = o.requires in
-    let told = whole_told r c2.levels.result (replicate most_axes 0) c.before.before.before.before.before.before.judge.ensures in
-    let w = piece_closed r _ _ _ told c.before.before.before.before.before.if1.true c.before.before.before.symbol-of.ensures
+    let told = whole_told r c2.levels-levels.result (replicate most_axes 0) c.judge-codes.ensures in
+    let w = piece_closed r _ _ _ told c.if-mark-ne0.true c.symbol_of.ensures
     o.args.out.now 0 in
-    (piece_length r _ l w.0, noted_whole r _ l w.0 _ w.1 c.before.before.note.ensures)
+    (piece_length r _ l w.0, noted_whole r _ l w.0 _ w.1 c.note.ensures)
 
-turns-left-requires : tie.Need-turns-left-requires
+turns-left-requires : tie.Need-turns_left-turns-requires
 turns-left-requires c κs =
-    let c1 = c.before.before.before.before.before.before.before.before.before.before.before.before in
-    let c2 = c1.before.before.before.before.before.before.before.before.before.before.before.before in
-    let c3 = c2.before in
-    (c3.requires.accepted_universe, c.before.axes-left.ensures)
+    let c1 = c in
+    let c2 = c1 in
+    let c3 = c2 in
+    (c3.requires.accepted_universe, c.axes_left-axes.ensures)
 
-lay-halves-requires : tie.Need-lay-halves-requires
+lay-halves-requires : tie.Need-lay_halves-requires
 lay-halves-requires c κs =
-    let c1 = c.before.before.before.before.before.before.before.before.before.before in
-    let c2 = c1.before in
-    let c3 = c2.before in
-    let c4 = c3.before.before.before.before.before.before.before in
-    let c5 = c4.before.before.before.before.before.before in
-    let c6 = c5.before.before in
-    let c7 = c6.before.before in
-    let c8 = c7.before in
-    let c9 = c8.before.before.before.before in
-    let m = c6.name-rows.ensures in
-    let n = c5.name-rows2.ensures in
-    let l = c7.levels.ensures in
-    let s = c8.whole-sides.ensures in
+    let c1 = c in
+    let c2 = c1 in
+    let c3 = c2 in
+    let c4 = c3 in
+    let c5 = c4 in
+    let c6 = c5 in
+    let c7 = c6 in
+    let c8 = c7 in
+    let c9 = c8 in
+    let m = c6.name_rows-from.ensures in
+    let n = c5.name_rows-count.ensures in
+    let l = c7.levels-levels.ensures in
+    let s = c8.whole_sides-side.ensures in
     let r = c9.requires in
-    let told = whole_told r c7.levels.result (replicate most_axes 0) c3.judge.ensures in
-    let whole = laying r l s c1.axes-left.ensures in (
-      whole_half r m.1 n.1 m.0 n.0 (standing r l s) s c4.begin.ensures whole (sym c2.if1.false ∙ told)
-          c.before.before.before.before.before.before.before.before.turns-left.ensures,
+    let told = whole_told r c7.levels-levels.result (replicate most_axes 0) c3.judge-codes.ensures in
+    let whole = laying r l s c1.axes_left-axes.ensures in (
+      whole_half r m.1 n.1 m.0 n.0 (standing r l s) s c4.begin.ensures whole (sym c2.if-mark-ne0.false ∙ told)
+          c.turns_left-turns.ensures,
       (omega (arith, m.0), count_is r m.0 n.0),
     )
 
-returns-2 : tie.Need-returns-2
+returns-2 : tie.Need-returns
 returns-2 c =
-    let c1 = c.before.before.before.before.before.before.before.before.before.before.before.before in
-    let c2 = c1.before.before.before.before.before.before.before.before.before.before.before.before in
-    let c3 = c2.before.before.before.before.before.before.before.before.before.before.before.before in
-    let c4 = c3.before in
-    let c5 = c4.before.before.before.before.before in
-    let l = c4.levels.ensures in
+    let c1 = c in
+    let c2 = c1 in
+    let c3 = c2 in
+    let c4 = c3 in
+    let c5 = c4 in
+    let l = c4.levels-levels.ensures in
     let r = c5.requires in
-    let e = c.before.before.before.before.before.before.before.lay-halves.ensures in
-    let p = unpacked_is _ _ e.0 c.before.before.before.before.unpacked.ensures in
-    (piece_length r _ l p, noted_whole r _ l p _ e.1.0 c.before.before.note2.ensures)
+    let e = c.lay_halves.ensures in
+    let p = unpacked_is _ _ e.0 c.unpacked-piece.ensures in
+    (piece_length r _ l p, noted_whole r _ l p _ e.1.0 c.note-2.ensures)
 
-pub write-whole-spec : {M : Type 1} → statement M
-write-whole-spec =
+pub write_whole_spec : {M : Type 1} → statement M
+write_whole_spec =
     tie.close
     (tie.spec
     (λ c κs. search rules)

@@ -5,21 +5,21 @@ use Rattle.convert.specs.Codes.{join_code}
 use Rattle.convert.proofs.marks.join_code.Statement.{statement}
 use Rattle.convert.proofs.marks.join_code.Tie as tie
 
-returns : tie.Need-returns
+returns : tie.Need-returns-then-word-eq-UNION
 unfolding join_code
-returns c = simp (eq-eqb _ _ c.before.if1.true) c.mixed.ensures
+returns c = simp (eq-eqb _ _ c.if-word-eq-UNION.true) c.mixed.ensures
 
-returns-2 : tie.Need-returns-2
+returns-2 : tie.Need-returns-then-word-eq-INTERSECTION
 unfolding join_code
-returns-2 c = simp (ne_eqb _ _ c.before.before.if1.false, eq-eqb _ _ c.before.if2.true) c.mixed2.ensures
+returns-2 c = simp (ne_eqb _ _ c.if-word-eq-UNION.false, eq-eqb _ _ c.if-word-eq-INTERSECTION.true) c.mixed-then-word-eq-INTERSECTION.ensures
 
-returns-3 : tie.Need-returns-3
+returns-3 : tie.Need-returns
 unfolding join_code
 returns-3 c =
-    let k = c.before.before in
-    simp (ne_eqb _ _ k.before.if1.false, ne_eqb _ _ k.if2.false, ← c.before.opposite-code.ensures) c.mixed3.ensures
+    let k = c in
+    simp (ne_eqb _ _ k.if-word-eq-UNION.false, ne_eqb _ _ k.if-word-eq-INTERSECTION.false, ← c.opposite_code.ensures) c.mixed-2.ensures
 
-pub join-code-spec : {M : Type 1} → statement M
-join-code-spec =
+pub join_code_spec : {M : Type 1} → statement M
+join_code_spec =
     tie.close
     (tie.spec (λ c κs. search rules) returns (λ c κs. search rules) returns-2 (λ c κs. search rules) (λ c κs. search rules) returns-3)
