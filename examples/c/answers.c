@@ -1,7 +1,7 @@
 /* An answer at once: of a scene file, the verdict over its window, and its ends alone, with no room lent. At the
  * repository's top, on x86-64 (on another processor `tests/native` builds the archive, as target/native/libexport.a):
  *
- *   rt staticlib export
+ *   tests/native
  *   gcc -std=c11 -Wall -Wextra -Iinclude examples/c/answers.c target/staticlib/libexport.a -o target/answers-c
  *   target/answers-c examples/sleeve.scene
  *

@@ -3,7 +3,7 @@
  * verdict counts them, and those that they possibly share. At the repository's top, on x86-64 (on another processor
  * `tests/native` builds the archive, as target/native/libexport.a):
  *
- *   rt staticlib export
+ *   tests/native
  *   gcc -std=c11 -Wall -Wextra -Iinclude examples/c/contacts.c target/staticlib/libexport.a -o target/contacts-c
  *   target/contacts-c examples/keyed.scene
  *

@@ -1,7 +1,7 @@
 /* A keyed mover against a static Box, from a text: `axes 4 bits K frame F`, `mover X Y Z` with the size of the mover,
  * `key MOMENT X Y Z` with the near corner at a moment, and `box X Y Z  X Y Z` from near to far. `#` begins a comment.
  *
- *   rt staticlib export
+ *   tests/native
  *   gcc -std=c11 -Wall -Wextra -Iinclude examples/c/mover.c target/staticlib/libexport.a -o target/mover-c
  *   target/mover-c examples/mover.keys
  *

@@ -1,7 +1,7 @@
 /* A solid from layout: an octree as text becomes the merged expression, and comes back as it was, reduced. At the
  * repository's top, on x86-64 (on another processor `tests/native` builds the archive, as target/native/libexport.a):
  *
- *   rt staticlib export
+ *   tests/native
  *   gcc -std=c11 -Wall -Wextra -Iinclude examples/c/octree.c target/staticlib/libexport.a -o target/octree-c
  *   target/octree-c 2 examples/solid.octree
  *

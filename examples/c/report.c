@@ -3,7 +3,7 @@
  * a frame meets a wall one voxel deep in the first and one three voxels deep in the second. At the repository's top, on
  * x86-64 (on another processor `tests/native` builds the archive, as target/native/libexport.a):
  *
- *   rt staticlib export
+ *   tests/native
  *   gcc -std=c11 -Wall -Wextra -Iinclude examples/c/report.c target/staticlib/libexport.a -o target/report-c
  *   target/report-c
  *

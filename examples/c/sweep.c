@@ -2,7 +2,7 @@
  * axis and written as a shape file. At the repository's top, on x86-64 (on another processor `tests/native` builds the
  * archive, as target/native/libexport.a):
  *
- *   rt staticlib export
+ *   tests/native
  *   gcc -std=c11 -Wall -Wextra -Iinclude examples/c/sweep.c target/staticlib/libexport.a -o target/sweep-c
  *   target/sweep-c examples/sleeve.scene target/sleeve.shape
  *

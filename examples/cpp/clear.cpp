@@ -1,7 +1,7 @@
 // The scene of examples/program.txt, converted and judged from C++. At the repository's top, on x86-64 (on another
 // processor `tests/native` builds the archive, as target/native/libexport.a):
 //
-//   rt staticlib export
+//   tests/native
 //   g++ -std=c++17 -Wall -Wextra -Iinclude examples/cpp/clear.cpp target/staticlib/libexport.a -o target/clear-cpp
 //   target/clear-cpp
 //

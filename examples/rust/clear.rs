@@ -2,7 +2,7 @@
 //! repository's top, on x86-64 (on another processor `tests/native` builds the archive, as target/native/libexport.a):
 //!
 //! ```sh
-//! rt staticlib export
+//! tests/native
 //! cargo run --offline --manifest-path rust/durbizhan/Cargo.toml --target-dir target/rust --example clear
 //! ```
 //!

@@ -3,7 +3,7 @@
 //! another processor `tests/native` builds the archive, as target/native/libexport.a):
 //!
 //! ```sh
-//! rt staticlib export
+//! tests/native
 //! cargo run --offline --manifest-path rust/durbizhan/Cargo.toml --target-dir target/rust --example sweep \
 //!     examples/sleeve.scene target/sleeve.shape
 //! ```

@@ -1,6 +1,5 @@
 //! Links the library's static archive. It stands in EXPORT_ARCHIVE, or else where the repository builds it: on x86-64
-//! `rt staticlib export` writes target/staticlib/libexport.a, on another processor `tests/native` writes
-//! target/native/libexport.a.
+//! `tests/native` writes target/staticlib/libexport.a, on another processor target/native/libexport.a.
 
 use std::path::{Path, PathBuf};
 
