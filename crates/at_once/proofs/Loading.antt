@@ -88,7 +88,7 @@ module _ {words codes : List ℕ} {from : ℕ} {starts₀ : List ℕ} where
 
     module _ {now starts : List ℕ} {pending i : ℕ} (g : Loads job now starts pending i) where
       pending_is : pending ≡ length g.shapes
-      pending_is = sym (length_stack starts pending) ∙ ap length g.starts-are ∙ length_starts from g.shapes
+      pending_is = sym (length_stack starts pending) ∙ ap length g.starts_are ∙ length_starts from g.shapes
 
       module _ (h : i < length words) where
         abbrev word : ℕ
@@ -125,18 +125,18 @@ module _ {words codes : List ℕ} {from : ℕ} {starts₀ : List ℕ} where
 
           pub loads_leaf : Loads job (set now (from + i) (2 * word)) (set starts pending (from + i)) (pending + 1) (i + 1)
           loads_leaf =
-              let p : from + i ≡ from + length (loaded g.shapes) = ap (λ (k : ℕ). from + k) g.count-is in
+              let p : from + i ≡ from + length (loaded g.shapes) = ap (λ (k : ℕ). from + k) g.count_is in
               record {
                 shapes = plain_leaf (leaf_of word) ∷ g.shapes;
                 reads = l.2;
-                sides_named = (leaf_sides names word l.0, g.sides-named);
+                sides_named = (leaf_sides names word l.0, g.sides_named);
                 few = omega (arith, leaf_room);
                 most = omega arith;
                 starts_long = length-set starts pending (from + i) ∙ g.starts_long;
-                starts_are = stack_push starts pending (from + i) (omega (arith, leaf_room, g.starts_long)) ∙ ap₂ ◌∷◌ p g.starts-are;
+                starts_are = stack_push starts pending (from + i) (omega (arith, leaf_room, g.starts_long)) ∙ ap₂ ◌∷◌ p g.starts_are;
                 count_is = omega (
                   arith,
-                  g.count-is,
+                  g.count_is,
                   length-append (loaded g.shapes) (postfix (plain_leaf (leaf_of word))),
                   ap length (leaf_postfix (leaf_of word)),
                 );
@@ -178,7 +178,7 @@ module _ {words codes : List ℕ} {from : ℕ} {starts₀ : List ℕ} where
           join_room = (omega (arith, pending_is, ap length a.shapes_are), g.few)
 
           starts_last : get_or starts (pending - 1) 0 ∷ stack_of starts (pending - 1) ≡ starts_from from (a.second ∷ a.first ∷ a.under)
-          starts_last = sym (stack_last starts pending (omega (arith, join_room.0))) ∙ g.starts-are ∙ ap (starts_from from) a.shapes_are
+          starts_last = sym (stack_last starts pending (omega (arith, join_room.0))) ∙ g.starts_are ∙ ap (starts_from from) a.shapes_are
 
           start_is : get_or starts (pending - 1) 0 ≡ from + length front
           start_is = ap (λ (l : List ℕ). get_or l 0 0) starts_last
@@ -187,10 +187,10 @@ module _ {words codes : List ℕ} {from : ℕ} {starts₀ : List ℕ} where
           stood = subst (λ (l : List Plain). HoldsCodes now from (loaded l)) a.shapes_are g.done
 
           count_parts : i ≡ length front + length (postfix a.second)
-          count_parts = g.count-is ∙ ap (λ (l : List Plain). length (loaded l)) a.shapes_are ∙ length-append front (postfix a.second)
+          count_parts = g.count_is ∙ ap (λ (l : List Plain). length (loaded l)) a.shapes_are ∙ length-append front (postfix a.second)
 
           named_two : SidesNamed names a.second × (SidesNamed names a.first × AllSides names a.under)
-          named_two = subst (AllSides names) a.shapes_are g.sides-named
+          named_two = subst (AllSides names) a.shapes_are g.sides_named
 
           pub joining_job : JoinJob now (get_or starts (pending - 1) 0) (from + i) word
           joining_job =
@@ -239,7 +239,7 @@ module _ {words codes : List ℕ} {from : ℕ} {starts₀ : List ℕ} where
           let alone : g.shapes ≡ tree ∷ [] = left_one g.reads none in
           record {
             holds = subst (λ (l : List Plain). HoldsCodes now from (loaded l)) alone g.done;
-            counted = omega (arith, g.count-is, g.most, ap (λ (l : List Plain). length (loaded l)) alone);
+            counted = omega (arith, g.count_is, g.most, ap (λ (l : List Plain). length (loaded l)) alone);
             below = g.below;
             starts_long = g.starts_long;
           }

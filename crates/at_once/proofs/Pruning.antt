@@ -144,10 +144,10 @@ module _ {surfaces : Surfaces} {axes : ℕ} {low side codes : List ℕ} {from co
 
     module _ {now starts marks : List ℕ} {pending end i : ℕ} (g : Going job now starts marks pending end i) where
       pub shelves_kept : Shelves starts marks
-      shelves_kept = record { starts_long = g.starts_long; codes_long = g.marks-long }
+      shelves_kept = record { starts_long = g.starts_long; codes_long = g.marks_long }
 
       count_is : pending ≡ length g.shapes
-      count_is = sym (length_stack marks pending) ∙ ap length g.marks-are ∙ length_codes over g.shapes
+      count_is = sym (length_stack marks pending) ∙ ap length g.marks_are ∙ length_codes over g.shapes
 
       module _ (h : i < from + count) where
         pub store_in : end < length now
@@ -268,9 +268,9 @@ module _ {surfaces : Surfaces} {axes : ℕ} {low side codes : List ℕ} {from co
                   begun = omega (arith, g.begun);
                   few = omega (arith, room);
                   starts_long = length-set starts pending end ∙ g.starts_long;
-                  marks_long = length-set marks pending bits ∙ g.marks-long;
-                  starts_are = stack_push starts pending end (omega (arith, g.starts_long)) ∙ ap₂ ◌∷◌ g.end_is g.starts-are;
-                  marks_are = stack_push marks pending bits (omega (arith, g.marks-long)) ∙ ap₂ ◌∷◌ bits_are g.marks-are;
+                  marks_long = length-set marks pending bits ∙ g.marks_long;
+                  starts_are = stack_push starts pending end (omega (arith, g.starts_long)) ∙ ap₂ ◌∷◌ g.end_is g.starts_are;
+                  marks_are = stack_push marks pending bits (omega (arith, g.marks_long)) ∙ ap₂ ◌∷◌ bits_are g.marks_are;
                   end_is = el ∙ leaf_done.1;
                   within = omega (arith, g.within, el, end_few bits 0 0 end end (omega arith));
                   done = leaf_done.0;
@@ -299,15 +299,15 @@ module _ {surfaces : Surfaces} {axes : ℕ} {low side codes : List ℕ} {from co
 
           marks_two : get_or marks (pending - 1) 0 ∷ get_or marks (pending - 2) 0 ∷ stack_of marks (pending - 2) ≡ left_bits r ∷ left_bits l ∷ codes_of over
               next_join_lem.under
-          marks_two = sym (stack_two marks pending join_two) ∙ g.marks-are ∙ ap (codes_of over) next_join_lem.shapes_are
+          marks_two = sym (stack_two marks pending join_two) ∙ g.marks_are ∙ ap (codes_of over) next_join_lem.shapes_are
 
           starts_two : get_or starts (pending - 1) 0 ∷ get_or starts (pending - 2) 0 ∷ stack_of starts (pending - 2)
               ≡ (to + length (P ++ left_nodes l)) ∷ (to + length P) ∷ starts_of over to next_join_lem.under
-          starts_two = sym (stack_two starts pending join_two) ∙ g.starts-are ∙ ap (starts_of over to) next_join_lem.shapes_are
+          starts_two = sym (stack_two starts pending join_two) ∙ g.starts_are ∙ ap (starts_of over to) next_join_lem.shapes_are
 
           starts_last : get_or starts (pending - 1) 0 ∷ stack_of starts (pending - 1)
               ≡ (to + length (P ++ left_nodes l)) ∷ (to + length P) ∷ starts_of over to next_join_lem.under
-          starts_last = sym (stack_last starts pending (omega (arith, join_two))) ∙ g.starts-are ∙ ap (starts_of over to) next_join_lem.shapes_are
+          starts_last = sym (stack_last starts pending (omega (arith, join_two))) ∙ g.starts_are ∙ ap (starts_of over to) next_join_lem.shapes_are
 
           first_is : get_or marks (pending - 2) 0 ≡ left_bits l
           first_is = let e = marks_two in cc
@@ -365,10 +365,10 @@ module _ {surfaces : Surfaces} {axes : ℕ} {low side codes : List ℕ} {from co
                   begun = omega (arith, g.begun);
                   few = omega (arith, g.few);
                   starts_long = g.starts_long;
-                  marks_long = length-set marks (pending - 2) bits ∙ g.marks-long;
+                  marks_long = length-set marks (pending - 2) bits ∙ g.marks_long;
                   starts_are = under_starts;
                   marks_are =
-                      stack_joined marks pending bits join_two (omega (arith, g.few, g.marks-long))
+                      stack_joined marks pending bits join_two (omega (arith, g.few, g.marks_long))
                       ∙ ap₂ ◌∷◌ (joined_are ∙ ap left_bits (sym whole_left)) under_marks;
                   end_is = rw whole_left (le ∙ join_done.1);
                   within = omega (
@@ -410,13 +410,13 @@ module _ {surfaces : Surfaces} {axes : ℕ} {low side codes : List ℕ} {from co
                 (mark ≡ bits_of (all_mark_by over ps)) × (written over g.shapes ≡ all_postfix (all_left_by over ps))
             by (one {p} c) e =
                 let n : pending ≡ 1 = count_is ∙ ap length e in
-                let s : stack_of marks 1 ≡ left_bits (left_by over p) ∷ [] = ap (stack_of marks) (sym n) ∙ g.marks-are ∙ ap (codes_of over) e in
+                let s : stack_of marks 1 ≡ left_bits (left_by over p) ∷ [] = ap (stack_of marks) (sym n) ∙ g.marks_are ∙ ap (codes_of over) e in
                 let f : get_or marks 0 0 ≡ left_bits (left_by over p) = cc in
                 (m ∙ rw (n, f) (one_mark over p), ap (written over) e ∙ one_nodes over p)
             by (two {p} {q} c d) e =
                 let n : pending ≡ 2 = count_is ∙ ap length e in
                 let s : stack_of marks 2 ≡ left_bits (left_by over q) ∷ left_bits (left_by over p) ∷ [] =
-                ap (stack_of marks) (sym n) ∙ g.marks-are ∙ ap (codes_of over) e in
+                ap (stack_of marks) (sym n) ∙ g.marks_are ∙ ap (codes_of over) e in
                 let f : get_or marks 0 0 ≡ left_bits (left_by over p) = cc in
                 let k : get_or marks 1 0 ≡ left_bits (left_by over q) = cc in
                 (m ∙ rw (n, f, k) (two_mark over p q), ap (written over) e ∙ two_nodes over p q)

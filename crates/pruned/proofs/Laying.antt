@@ -237,35 +237,35 @@ module _ {surfaces : Surfaces} {axes : ℕ} {table low side : List ℕ} {axis ha
       o = opened
 
       above : suc o.n ≤ levels job.step.universe
-      above = omega (arith, job.step.standing.above, job.left_is, o.left-suc)
+      above = omega (arith, job.step.standing.above, job.left_is, o.left_suc)
 
       level_is : b.level ≡ levels job.step.universe - suc o.n
-      level_is = omega (arith, o.left-suc)
+      level_is = omega (arith, o.left_suc)
 
       inner : b.level < levels b.universe
       inner = omega (arith, level_is, above)
 
       -- both halves are examined as they are by the trees themselves
       lower_same : lower_part surfaces trees' o.n b ≡ lower_part surfaces job.trees o.n b
-      lower_same = (lower_left surfaces job.trees b o.undecided-over o.n inner (omega (arith, level_is, above)))
+      lower_same = (lower_left surfaces job.trees b o.undecided_over o.n inner (omega (arith, level_is, above)))
 
       upper_same : upper_part surfaces trees' o.n b ≡ upper_part surfaces job.trees o.n b
-      upper_same = (upper_left surfaces job.trees b o.undecided-over o.n inner (omega (arith, level_is, above)))
+      upper_same = (upper_left surfaces job.trees b o.undecided_over o.n inner (omega (arith, level_is, above)))
 
       n_is : left - 1 ≡ o.n
-      n_is = omega (arith, o.left-suc)
+      n_is = omega (arith, o.left_suc)
 
       whole_shape_lem : examine_all surfaces job.trees left b ≡ halves_shape surfaces trees' (left - 1) b
       whole_shape_lem =
-          ap (λ (k : ℕ). examine_all surfaces job.trees k b) o.left-suc
-          ∙ all_undecided surfaces job.trees o.n b o.undecided-over
+          ap (λ (k : ℕ). examine_all surfaces job.trees k b) o.left_suc
+          ∙ all_undecided surfaces job.trees o.n b o.undecided_over
           ∙ sym (ap₂ halved lower_same upper_same)
           ∙ ap (λ (k : ℕ). halves_shape surfaces trees' k b) (sym n_is)
 
       whole_looked : looked_from surfaces job.trees left b ≡ count + looked_in_halves surfaces trees' (left - 1) b
       whole_looked =
-          ap (λ (k : ℕ). looked_from surfaces job.trees k b) o.left-suc
-          ∙ looked_undecided surfaces job.trees o.n b o.undecided-over
+          ap (λ (k : ℕ). looked_from surfaces job.trees k b) o.left_suc
+          ∙ looked_undecided surfaces job.trees o.n b o.undecided_over
           ∙ ap₂ ◌+◌ nodes_are (ap (λ (k : ℕ). looked_in_halves surfaces trees' k b) (sym n_is))
 
       fewer : nodes ≤ count
@@ -293,7 +293,7 @@ module _ {surfaces : Surfaces} {axes : ℕ} {table low side : List ℕ} {axis ha
             scene = job.scene;
             axes_are = job.step.axes_are;
             standing = rw job.left_is at job.step.standing;
-            some = omega (arith, o.left-suc);
+            some = omega (arith, o.left_suc);
             table_is = job.table_is;
             trees = trees';
             few = o.again;

@@ -27,7 +27,7 @@ use Rattle.convert.specs.Blocks.{Standing, block_left}
 use Rattle.convert.proofs.Blocks.{low_small, side_small}
 use Rattle.convert.proofs.BallMarks.{ball_over, ball_at_lem}
 use Rattle.pruned.specs.Left.{Left, side_left, left_by}
-use Rattle.pruned.specs.Nodes.{Node, of_colour, of_side, word_of, bit_of, node_code, first_ball_side, least_of, greatest_of, moved_least, moved_greatest}
+use Rattle.pruned.specs.Nodes.{joining, Node, of_colour, of_side, word_of, bit_of, node_code, first_ball_side, least_of, greatest_of, moved_least, moved_greatest}
 use Rattle.pruned.specs.Nodes.{SmallExtreme}
 use Rattle.pruned.specs.Nodes.{Stepping, judged_marks, block_of, marks_of, left_bits, value_code, ball_code, turned_code, LeafOf, colour_leaf, side_leaf}
 use Rattle.pruned.specs.Nodes.{LeafJob, LeafJudged}
@@ -174,6 +174,7 @@ module _ {surfaces : Surfaces} {axes : ℕ} {low side : List ℕ} {axis half : �
         by (of_colour c) k p q = rw (p, q) (zero_small, zero_small)
         by (of_side turned (halfspace i)) (side_leaf (halfspace_named h)) p q = rw (p, q) (step.small_parent i h)
         by (of_side turned (ball i)) k p q = rw (p, q) (zero_small, zero_small)
+        by (joining _) k p q = elim k [ ]
 
     constant_told : {c : Colour} → (t ≡ colour c) × (n ≡ of_colour c) → Told (bits_of (decided c)) (held x) (held y)
     unfolding left_by

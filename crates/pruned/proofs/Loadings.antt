@@ -372,7 +372,7 @@ module _ {axes : ℕ} {rows : List ℤ} {sides words : List ℕ} {work : List �
 
     module _ {now : List ℤ} {starts : List ℕ} {pending i : ℕ} (g : Loads job now starts pending i) where
       pending_is : pending ≡ length g.shapes
-      pending_is = sym (length_stack starts pending) ∙ ap length g.starts-are ∙ length_starts from g.shapes
+      pending_is = sym (length_stack starts pending) ∙ ap length g.starts_are ∙ length_starts from g.shapes
 
       module _ (h : i < length words) where
         abbrev word : ℕ
@@ -439,18 +439,18 @@ module _ {axes : ℕ} {rows : List ℤ} {sides words : List ℕ} {work : List �
             loads_leaf {after} a =
                 let stood = stored now (from + i) (pos (node_code n)) (least_of job.sources.surfaces block n) (greatest_of job.sources.surfaces block n) in
                 let e : after ≡ stood = a ∙ rw (same_values.0, same_values.1, leaf_code_is names' word l.0, v.least_is, v.greatest_is) refl in
-                let p : from + i ≡ from + length (loaded g.shapes) = ap (λ (k : ℕ). from + k) g.count-is in
+                let p : from + i ≡ from + length (loaded g.shapes) = ap (λ (k : ℕ). from + k) g.count_is in
                 rw e (record {
                   shapes = plain_leaf (leaf_of word) ∷ g.shapes;
                   reads = l.2;
-                  sides_named = (leaf_sides names' word l.0, g.sides-named);
+                  sides_named = (leaf_sides names' word l.0, g.sides_named);
                   few = omega (arith, leaf_room);
                   most = omega arith;
                   starts_long = length-set starts pending (from + i) ∙ g.starts_long;
-                  starts_are = stack_push starts pending (from + i) (omega (arith, leaf_room, g.starts_long)) ∙ ap₂ ◌∷◌ p g.starts-are;
+                  starts_are = stack_push starts pending (from + i) (omega (arith, leaf_room, g.starts_long)) ∙ ap₂ ◌∷◌ p g.starts_are;
                   count_is = omega (
                     arith,
-                    g.count-is,
+                    g.count_is,
                     length-append (loaded g.shapes) (postfix (plain_leaf (leaf_of word))),
                     ap length (leaf_postfix
                         (leaf_of word)),
@@ -497,17 +497,17 @@ module _ {axes : ℕ} {rows : List ℤ} {sides words : List ℕ} {work : List �
           start_is : get_or starts (pending - 1) 0 ≡ from + length front
           start_is =
               let e : get_or starts (pending - 1) 0 ∷ stack_of starts (pending - 1) ≡ starts_from from (a.second ∷ a.first ∷ a.under) =
-              sym (stack_last starts pending (omega (arith, join_room.0))) ∙ g.starts-are ∙ ap (starts_from from) a.shapes_are in
+              sym (stack_last starts pending (omega (arith, join_room.0))) ∙ g.starts_are ∙ ap (starts_from from) a.shapes_are in
               ap (λ (l : List ℕ). get_or l 0 0) e
 
           stood : Holds job.sources.surfaces block now from (front ++ postfix a.second)
           stood = subst (λ (l : List Plain). Holds job.sources.surfaces block now from (loaded l)) a.shapes_are g.done
 
           count_parts : i ≡ length front + length (postfix a.second)
-          count_parts = g.count-is ∙ ap (λ (l : List Plain). length (loaded l)) a.shapes_are ∙ length-append front (postfix a.second)
+          count_parts = g.count_is ∙ ap (λ (l : List Plain). length (loaded l)) a.shapes_are ∙ length-append front (postfix a.second)
 
           named_two : SidesNamed names' a.second × (SidesNamed names' a.first × AllSides names' a.under)
-          named_two = subst (AllSides names') a.shapes_are g.sides-named
+          named_two = subst (AllSides names') a.shapes_are g.sides_named
 
           pub joining_job : Joining now (get_or starts (pending - 1) 0) (from + i) word
           joining_job =
@@ -537,7 +537,7 @@ module _ {axes : ℕ} {rows : List ℤ} {sides words : List ℕ} {work : List �
               let kept : Holds job.sources.surfaces block after from front =
               holds_same (λ k p q. j.below.same k (omega (arith, start_is))) (holds_front front (postfix a.second) stood) in
               let e : stack_of starts (pending - 1) ≡ starts_from from (a.first ∷ a.under) =
-              ap rest (sym (stack_last starts pending (omega (arith, join_room.0))) ∙ g.starts-are ∙ ap (starts_from from) a.shapes_are) in
+              ap rest (sym (stack_last starts pending (omega (arith, join_room.0))) ∙ g.starts_are ∙ ap (starts_from from) a.shapes_are) in
               record {
                 shapes = plain_node (operator_of word) a.first a.second ∷ a.under;
                 reads = a.reads;
@@ -567,7 +567,7 @@ module _ {axes : ℕ} {rows : List ℤ} {sides words : List ℕ} {work : List �
           subst (λ (l : List Plain). Holds job.sources.surfaces block now from (loaded l)) alone g.done in
           record {
             holds = all;
-            counted = omega (arith, g.count-is, g.most, ap (λ (l : List Plain). length (loaded l)) alone);
+            counted = omega (arith, g.count_is, g.most, ap (λ (l : List Plain). length (loaded l)) alone);
             below = record { same = g.same; long = g.long };
             starts_long = g.starts_long;
           }

@@ -356,7 +356,7 @@ module _ {surfaces : Surfaces} {axes : ℕ} {low : List ℕ} {axis : ℕ} {work 
 
     module _ {pairs : List ℕ} {pending i : ℕ} (g : Passing job pairs pending i) where
       count_is : pending ≡ length g.shapes
-      count_is = sym (length_stack pairs pending) ∙ ap length g.pairs-are ∙ length_pairs job.step g.shapes
+      count_is = sym (length_stack pairs pending) ∙ ap length g.pairs_are ∙ length_pairs job.step g.shapes
 
       module _ (h : i < from + count) where
         pub pair_read_in : 3 * i + 2 < length work
@@ -403,7 +403,7 @@ module _ {surfaces : Surfaces} {axes : ℕ} {low : List ℕ} {axis : ℕ} {work 
                   onward = next.onward;
                   few = omega (arith, pair_room);
                   long = length-set pairs pending pair ∙ g.long;
-                  pairs_are = stack_push pairs pending pair (omega (arith, g.long, pair_room)) ∙ ap₂ ◌∷◌ e g.pairs-are;
+                  pairs_are = stack_push pairs pending pair (omega (arith, g.long, pair_room)) ∙ ap₂ ◌∷◌ e g.pairs_are;
                 })
 
           -- an operator
@@ -419,7 +419,7 @@ module _ {surfaces : Surfaces} {axes : ℕ} {low : List ℕ} {axis : ℕ} {work 
 
             last_two : get_or pairs (pending - 1) 0 ∷ get_or pairs (pending - 2) 0 ∷ stack_of pairs (pending - 2)
                 ≡ pair_by job.step next_join_lem.second ∷ pair_by job.step next_join_lem.first ∷ pairs_of job.step next_join_lem.under
-            last_two = sym (stack_two pairs pending pair_two) ∙ g.pairs-are ∙ ap (pairs_of job.step) next_join_lem.shapes_are
+            last_two = sym (stack_two pairs pending pair_two) ∙ g.pairs_are ∙ ap (pairs_of job.step) next_join_lem.shapes_are
 
             first_is : get_or pairs (pending - 2) 0 ≡ pair_by job.step next_join_lem.first
             first_is = let e = last_two in cc
@@ -454,13 +454,13 @@ module _ {surfaces : Surfaces} {axes : ℕ} {low : List ℕ} {axis : ℕ} {work 
               pair ≡ pair_of (is_black (bits_of (all_mark_by (marks_of job.step.below) ps))) (is_black (bits_of (all_mark_by (marks_of job.step.above) ps)))
           by (one {p} c) e =
               let n : pending ≡ 1 = count_is ∙ ap length e in
-              let s : stack_of pairs 1 ≡ pair_by job.step p ∷ [] = ap (stack_of pairs) (sym n) ∙ g.pairs-are ∙ ap (pairs_of job.step) e in
+              let s : stack_of pairs 1 ≡ pair_by job.step p ∷ [] = ap (stack_of pairs) (sym n) ∙ g.pairs_are ∙ ap (pairs_of job.step) e in
               let f : get_or pairs 0 0 ≡ pair_by job.step p = cc in
               m ∙ rw (n, f) (one_pair job.step p)
           by (two {p} {q} c d) e =
               let n : pending ≡ 2 = count_is ∙ ap length e in
               let s : stack_of pairs 2 ≡ pair_by job.step q ∷ pair_by job.step p ∷ [] =
-              ap (stack_of pairs) (sym n) ∙ g.pairs-are ∙ ap (pairs_of job.step) e in
+              ap (stack_of pairs) (sym n) ∙ g.pairs_are ∙ ap (pairs_of job.step) e in
               let f : get_or pairs 0 0 ≡ pair_by job.step p = cc in
               let k : get_or pairs 1 0 ≡ pair_by job.step q = cc in
               m ∙ rw (n, f, k) (two_pair job.step p q)

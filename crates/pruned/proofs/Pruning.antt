@@ -252,7 +252,7 @@ module _ {surfaces : Surfaces} {axes : ℕ} {low side : List ℕ} {axis half : �
       shelves_kept = record { starts_long = g.starts_long; codes_long = g.codes_long }
 
       count_is : pending ≡ length g.shapes
-      count_is = sym (length_stack codes pending) ∙ ap length g.codes-are ∙ length_codes marks g.shapes
+      count_is = sym (length_stack codes pending) ∙ ap length g.codes_are ∙ length_codes marks g.shapes
 
       module _ (h : i < from + count) where
         pub store_in : 3 * end + 2 < length now
@@ -311,6 +311,7 @@ module _ {surfaces : Surfaces} {axes : ℕ} {low side : List ℕ} {axis half : �
                 by (of_colour c) l p q = rw (p, q) (record { most = omega arith }, record { most = omega arith })
                 by (of_side turned (halfspace k)) (side_leaf (halfspace_named m)) p q = rw (p, q) (job.step.small_block k m)
                 by (of_side turned (ball k)) l p q = rw (p, q) (record { most = omega arith }, record { most = omega arith })
+                by {t = t} (joining _) l p q = elim l [ ]
 
             module _ {bits : ℕ} {x y : ℤ} (judged : LeafJudged leaf_job bits x y) where
               smalls : SmallExtreme x × SmallExtreme y
@@ -358,8 +359,8 @@ module _ {surfaces : Surfaces} {axes : ℕ} {low side : List ℕ} {axis half : �
                     few = omega (arith, room);
                     starts_long = length-set starts pending end ∙ g.starts_long;
                     codes_long = length-set codes pending bits ∙ g.codes_long;
-                    starts_are = stack_push starts pending end (omega (arith, g.starts_long)) ∙ ap₂ ◌∷◌ g.end_is g.starts-are;
-                    codes_are = stack_push codes pending bits (omega (arith, g.codes_long)) ∙ ap₂ ◌∷◌ judged.judged g.codes-are;
+                    starts_are = stack_push starts pending end (omega (arith, g.starts_long)) ∙ ap₂ ◌∷◌ g.end_is g.starts_are;
+                    codes_are = stack_push codes pending bits (omega (arith, g.codes_long)) ∙ ap₂ ◌∷◌ judged.judged g.codes_are;
                     end_is = el ∙ leaf_done.1;
                     within = omega (arith, g.within, el, end_most bits end);
                     done = leaf_done.0;
@@ -398,15 +399,15 @@ module _ {surfaces : Surfaces} {axes : ℕ} {low side : List ℕ} {axis half : �
 
             codes_two : get_or codes (pending - 1) 0 ∷ get_or codes (pending - 2) 0 ∷ stack_of codes (pending - 2) ≡ left_bits y ∷ left_bits x ∷ codes_of marks
                 next_join_lem.under
-            codes_two = sym (stack_two codes pending join_two) ∙ g.codes-are ∙ ap (codes_of marks) next_join_lem.shapes_are
+            codes_two = sym (stack_two codes pending join_two) ∙ g.codes_are ∙ ap (codes_of marks) next_join_lem.shapes_are
 
             starts_two : get_or starts (pending - 1) 0 ∷ get_or starts (pending - 2) 0 ∷ stack_of starts (pending - 2)
                 ≡ (to + length (P ++ left_nodes x)) ∷ (to + length P) ∷ starts_of marks to next_join_lem.under
-            starts_two = sym (stack_two starts pending join_two) ∙ g.starts-are ∙ ap (starts_of marks to) next_join_lem.shapes_are
+            starts_two = sym (stack_two starts pending join_two) ∙ g.starts_are ∙ ap (starts_of marks to) next_join_lem.shapes_are
 
             starts_last : get_or starts (pending - 1) 0 ∷ stack_of starts (pending - 1)
                 ≡ (to + length (P ++ left_nodes x)) ∷ (to + length P) ∷ starts_of marks to next_join_lem.under
-            starts_last = sym (stack_last starts pending (omega (arith, join_two))) ∙ g.starts-are ∙ ap (starts_of marks to) next_join_lem.shapes_are
+            starts_last = sym (stack_last starts pending (omega (arith, join_two))) ∙ g.starts_are ∙ ap (starts_of marks to) next_join_lem.shapes_are
 
             first_is : get_or codes (pending - 2) 0 ≡ left_bits x
             first_is = let e = codes_two in cc
@@ -518,13 +519,13 @@ module _ {surfaces : Surfaces} {axes : ℕ} {low side : List ℕ} {axis half : �
                 (mark ≡ bits_of (all_mark_by marks ps)) × (written marks g.shapes ≡ all_postfix (all_left_by marks ps))
             by (one {p} c) e =
                 let n : pending ≡ 1 = count_is ∙ ap length e in
-                let s : stack_of codes 1 ≡ left_bits (left_by marks p) ∷ [] = ap (stack_of codes) (sym n) ∙ g.codes-are ∙ ap (codes_of marks) e in
+                let s : stack_of codes 1 ≡ left_bits (left_by marks p) ∷ [] = ap (stack_of codes) (sym n) ∙ g.codes_are ∙ ap (codes_of marks) e in
                 let f : get_or codes 0 0 ≡ left_bits (left_by marks p) = cc in
                 (m ∙ rw (n, f) (one_mark marks p), ap (written marks) e ∙ one_nodes marks p)
             by (two {p} {q} c d) e =
                 let n : pending ≡ 2 = count_is ∙ ap length e in
                 let s : stack_of codes 2 ≡ left_bits (left_by marks q) ∷ left_bits (left_by marks p) ∷ [] =
-                ap (stack_of codes) (sym n) ∙ g.codes-are ∙ ap (codes_of marks) e in
+                ap (stack_of codes) (sym n) ∙ g.codes_are ∙ ap (codes_of marks) e in
                 let f : get_or codes 0 0 ≡ left_bits (left_by marks p) = cc in
                 let k : get_or codes 1 0 ≡ left_bits (left_by marks q) = cc in
                 (m ∙ rw (n, f, k) (two_mark marks p q), ap (written marks) e ∙ two_nodes marks p q)

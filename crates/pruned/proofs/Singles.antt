@@ -148,7 +148,7 @@ module _ {surfaces : Surfaces} {turned : Bool} {s : Surface} {left : ℕ} {b : B
             some = opened.some;
             fits = rw (← opened.shape_is) asked.fits;
             tallied = asked.tallied;
-            counts = omega (arith, asked.counts, opened.looked-is);
+            counts = omega (arith, asked.counts, opened.looked_is);
           }
 
       pub single_opened : (m : Bool) (out : List ℕ) {packed : ℕ} {out' looked' : List ℕ} →
@@ -157,7 +157,7 @@ module _ {surfaces : Surfaces} {turned : Bool} {s : Surface} {left : ℕ} {b : B
           record {
             piece = d.piece ∙ ap (λ (k : Shape). packed_shape at (shaped m k)) (sym opened.shape_is);
             room = d.room ∙ ap (λ (k : Shape). laid out at (shaped m k)) (sym opened.shape_is);
-            counted = d.counted ∙ ap (λ (k : ℕ). k ∷ []) (omega (arith, opened.looked-is));
+            counted = d.counted ∙ ap (λ (k : ℕ). k ∷ []) (omega (arith, opened.looked_is));
           }
 
 -- ---- both halves, across the axis of the block's level

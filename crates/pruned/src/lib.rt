@@ -1,5 +1,7 @@
 // The pruned conversion: raw and merged, of one tree and of two, carrying from a block to its halves only what is left
 // of the trees, in lent room.
+#![tactic(auto)]
+
 mod answer;
 mod ball;
 mod conversion;

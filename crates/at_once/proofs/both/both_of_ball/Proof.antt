@@ -15,12 +15,12 @@ word-of-ball-requires c κs = search rules
 word-of-ball-requires-2 : tie.Need-word-of-ball-requires-2
 word-of-ball-requires-2 c κs =
     let c2 = c.before.before in let c3 = c2.before in
-    (rw c2.places-along.ensures c3.requires.1.0, c3.requires.1.1.1)
+    (rw c2.places_along.ensures c3.requires.1.0, c3.requires.1.1.1)
 
 returns : tie.Need-returns
 returns c =
     let c2 = c.before.before in let c3 = c2.before in let c4 = c3.before in
-    (c2.word-of-ball.ensures, ball_along c4.args.i c3.places-along.ensures c.word-of-ball2.ensures)
+    (c2.word-of-ball.ensures, ball_along c4.args.i c3.places_along.ensures c.word-of-ball2.ensures)
 
 pub both-of-ball-spec : {M : Type 1} → statement M
 both-of-ball-spec =

@@ -6,18 +6,18 @@ use Rattle.at_once.proofs.conversion.of_two.Statement.{statement}
 use Rattle.at_once.proofs.conversion.of_two.Tie as tie
 
 returns : tie.Need-returns
-returns c = ends_refused _ _ c.before.before.scene-refusal.ensures c.before.if1.true c.refused.ensures
+returns c = ends_refused _ _ c.before.before.scene_refusal.ensures c.before.if1.true c.refused.ensures
 
 add-needed : tie.Need-overflow-add-needed
-add-needed c = record { fits = levels_fit (all_ready c.before.before.scene-refusal.ensures c.before.if1.false) c.levels.ensures }
+add-needed c = record { fits = levels_fit (all_ready c.before.before.scene_refusal.ensures c.before.if1.false) c.levels.ensures }
 
 mul-needed : tie.Need-overflow-mul-needed
-mul-needed c = record { fits = codes_fit (all_ready c.before.before.scene-refusal.ensures c.before.if1.false) c.levels.ensures }
+mul-needed c = record { fits = codes_fit (all_ready c.before.before.scene_refusal.ensures c.before.if1.false) c.levels.ensures }
 
 in-least-requires : tie.Need-in-least-requires
 in-least-requires c κs =
     let l = c.before.before in
-    few_ready (all_ready l.before.before.scene-refusal.ensures l.before.if1.false) l.levels.ensures c.before.if2.true
+    few_ready (all_ready l.before.before.scene_refusal.ensures l.before.if1.false) l.levels.ensures c.before.if2.true
 
 returns-2 : tie.Need-returns-2
 returns-2 c =
@@ -27,7 +27,7 @@ returns-2 c =
 in-few-requires : tie.Need-in-few-requires
 in-few-requires c κs =
     let l = c.before.before.before in
-    few_ready (all_ready l.before.before.scene-refusal.ensures l.before.if1.false) l.levels.ensures c.before.if3.true
+    few_ready (all_ready l.before.before.scene_refusal.ensures l.before.if1.false) l.levels.ensures c.before.if3.true
 
 returns-3 : tie.Need-returns-3
 returns-3 c =

@@ -43,7 +43,7 @@ returns c =
     let b = c.before.before in
     let k = b.before.before in
     room_is _ _ _ k.before.before.before.requires.accepted_universe k.halfspace-words.ensures b.before.halfspace-words2.ensures
-    b.ball-words.ensures c.before.ball-words2.ensures c.room.ensures
+    b.ball_words.ensures c.before.ball-words2.ensures c.room.ensures
 
 pub room-of-spec : {M : Type 1} → statement M
 room-of-spec =

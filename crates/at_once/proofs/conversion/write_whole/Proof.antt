@@ -16,7 +16,7 @@ write-block-requires c κs =
     let k = s.before.before.before.before.before.before.before.before in
     let loaded = b.load-both.ensures (both_job k.requires shelf_long) in
     let tabled = s.before.lengths-of.ensures in
-    let sides = s.whole-sides.ensures in (
+    let sides = s.whole_sides.ensures in (
       whole_job k.requires l.levels.ensures shelf_long tabled sides loaded,
       (
         record { starts_long = loaded.starts_long; codes_long = shelf_long },
@@ -33,7 +33,7 @@ returns c =
     let k = s.before.before.before.before.before.before.before.before in
     let loaded = b.load-both.ensures (both_job k.requires shelf_long) in
     let tabled = s.before.lengths-of.ensures in
-    let sides = s.whole-sides.ensures in
+    let sides = s.whole_sides.ensures in
     let job = whole_job k.requires l.levels.ensures shelf_long tabled sides loaded in
     whole_written k.requires l.levels.ensures shelf_long tabled sides loaded _ (w.write-block.ensures job)
 

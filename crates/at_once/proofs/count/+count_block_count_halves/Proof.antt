@@ -151,7 +151,7 @@ module _ (t : ℕ) where
       let two : 2 ≤ k.args.left + 1 = omega (arith, i2.if2.false) in
       let e = p.prune.ensures in (
         λ job. c.joined.ensures ∙ count_black_lem job.block k.args.first k.args.last two (e.0 (prune_job job.block two)) g.greater.ensures
-            l.lesser.ensures i1.if1.false i4.if4.true k.args.contact v.voxels-of.ensures,
+            l.lesser.ensures i1.if1.false i4.if4.true k.args.contact v.voxels_of.ensures,
         (pruned_back j.block two (e.0 (prune_job j.block two)), (e.1, (k.requires.1.1.1.0, unmoved))),
       )
 

@@ -25,7 +25,7 @@ join-word-requires-2 c κs =
     let l = c.before.before in let b = l.before.before.before in let j = b.before.before.before.before.before.before.before.before.requires.0 in
     let e = b.both_words.ensures in
     let low = count_lower j some in
-    let high = count_upper j some (l.join-word.ensures (count_word low six (trees_are low.block six e.0))) put_same in
+    let high = count_upper j some (l.join_word.ensures (count_word low six (trees_are low.block six e.0))) put_same in
     count_word high six (trees_are high.block six e.1.0)
 
 returns : tie.Need-returns
@@ -33,7 +33,7 @@ returns c =
     let l = c.before.before.before in let b = l.before.before.before in let k = b.before.before.before.before.before.before.before.before in
     let e = b.both_words.ensures in (
       λ job. let low = count_lower job some in
-          count_both job some (l.join-word.ensures (count_word low six (trees_are low.block six e.0))) put_same
+          count_both job some (l.join_word.ensures (count_word low six (trees_are low.block six e.0))) put_same
           (λ high. c.join-word2.ensures (count_word high six (trees_are high.block six e.1.0))) put_same,
       (words_back _ _ _, e.1.1),
     )

@@ -189,7 +189,7 @@ module _ (t : ℕ) where
       let k = i3.before.before.before.before.before.before.before.before.before.before in
       let j = k.requires.1.0 in
       let two : 2 ≤ k.args.left + 1 = omega (arith, i3.if3.false) in
-      h.end-halves.ensures.1.0.below.long ∙ (below_same j two (p.prune.ensures.0 (prune_job j two))).long
+      h.end_halves.ensures.1.0.below.long ∙ (below_same j two (p.prune.ensures.0 (prune_job j two))).long
 
   end_block_returns_6 : end-block-lts.Need-returns-6 end_block_claims end_block_at end-block.Post
   end_block_returns_6 c =
@@ -201,7 +201,7 @@ module _ (t : ℕ) where
       let w = i4.if4.false in
       let b = i5.if5.false in
       let e = p.prune.ensures.0 in
-      let f = h.end-halves.ensures in (
+      let f = h.end_halves.ensures in (
         λ job. let q = e (prune_job job two) in
             end_opened job k.args.first k.args.last k.args.backward k.args.known two q w b k.args.left refl
             (f.0 (left_job job two q w b k.args.left refl)),

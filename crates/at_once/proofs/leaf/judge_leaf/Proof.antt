@@ -21,7 +21,7 @@ row-of-requires c κs = sym c.before.is-row-side.ensures ∙ c.if1.true
 
 extremes-of-row-requires : tie.Need-extremes-of-row-requires
 extremes-of-row-requires c κs =
-    let k = c.before.before.before.requires in let e = sym c.before.before.is-row-side.ensures ∙ c.before.if1.true in
+    let k = c.before.before.before.requires in let e = sym c.before.before.is_row_side.ensures ∙ c.before.if1.true in
     row_stands k.0 e c.row_of.ensures k.1.0 k.1.1
 
 side-code-requires : tie.Need-side-code-requires
@@ -30,7 +30,7 @@ side-code-requires c κs = search rules
 returns : tie.Need-returns
 returns c =
     let c5 = c.before.before.before.before.before in let r = c5.before in
-    let k = r.before.before.before.requires in let e = sym r.before.before.is-row-side.ensures ∙ r.before.if1.true in
+    let k = r.before.before.before.requires in let e = sym r.before.before.is_row_side.ensures ∙ r.before.if1.true in
     λ j. row_judged j e r.row_of.ensures k.1.0 k.1.1 c5.extremes-of-row.ensures c.side-code.ensures
 
 returns-2 : tie.Need-returns-2

@@ -34,7 +34,7 @@ mul-values c =
     let l = c.before.before.before.before.before in
     let j = l.before.before.requires in
     let h = c.before.before.before.before.loop-test.true in
-    let e = sym c.before.before.is-row-side.ensures ∙ c.before.if1.true in
+    let e = sym c.before.before.is_row_side.ensures ∙ c.before.if1.true in
     omega (arith, row_below j l.loop.invariant.1 h e c.row_of.ensures)
 
 mul-values-2 : tie.Need-overflow-mul-values-2 invariant-loop decreases-loop
@@ -42,7 +42,7 @@ mul-values-2 c =
     let l = c.before.before.before.before.before in
     let j = l.before.before.requires in
     let h = c.before.before.before.before.loop-test.true in
-    let e = sym c.before.before.is-row-side.ensures ∙ c.before.if1.true in
+    let e = sym c.before.before.is_row_side.ensures ∙ c.before.if1.true in
     omega (arith, row_below j l.loop.invariant.1 h e c.row_of.ensures)
 
 shared-slice-copy-out-values : tie.Need-shared-slice-copy-out-values invariant-loop decreases-loop
@@ -50,7 +50,7 @@ shared-slice-copy-out-values c =
     let l = c.before.before.before.before.before in
     let j = l.before.before.requires in
     let h = c.before.before.before.before.loop-test.true in
-    let e = sym c.before.before.is-row-side.ensures ∙ c.before.if1.true in
+    let e = sym c.before.before.is_row_side.ensures ∙ c.before.if1.true in
     row_here j l.loop.invariant.1 h e c.row_of.ensures
 
 mul-t17 : tie.Need-overflow-mul-t17 invariant-loop decreases-loop

@@ -52,7 +52,7 @@ move-row-requires c κs =
     let l = c4.before.before.before in
     let t = l.before.before.before in
     let g = l.loop.invariant in
-    side_job t.args.up t.requires g.0 c4.before.before.loop-test.true g.1.1 (sym c4.is-row-side.ensures ∙ c2.before.if1.true)
+    side_job t.args.up t.requires g.0 c4.before.before.loop-test.true g.1.1 (sym c4.is_row_side.ensures ∙ c2.before.if1.true)
     c2.row_of.ensures l.before.doublings.ensures
 
 add-i : tie.Need-overflow-add-i invariant-loop decreases-loop

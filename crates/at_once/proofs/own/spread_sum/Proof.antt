@@ -21,7 +21,7 @@ add-result c =
     omega (
       arith,
       squares_few t.requires t.args.possible,
-      squares_are t.requires t.args.possible c.before.before.before.before.spread-square.ensures c.before.before.spread-square2.ensures
+      squares_are t.requires t.args.possible c.before.before.before.before.spread_square.ensures c.before.before.spread-square2.ensures
           c.spread-square3.ensures,
     )
 
@@ -31,14 +31,14 @@ add-result-2 c =
     omega (
       arith,
       squares_few t.requires t.args.possible,
-      squares_are t.requires t.args.possible c.before.before.before.before.spread-square.ensures c.before.before.spread-square2.ensures
+      squares_are t.requires t.args.possible c.before.before.before.before.spread_square.ensures c.before.before.spread-square2.ensures
           c.spread-square3.ensures,
     )
 
 returns : tie.Need-returns
 returns c =
     let t = c.before.before.before.before.before.before in
-    squares_are t.requires t.args.possible c.before.before.before.before.spread-square.ensures c.before.before.spread-square2.ensures
+    squares_are t.requires t.args.possible c.before.before.before.before.spread_square.ensures c.before.before.spread-square2.ensures
     c.spread-square3.ensures
 
 pub spread-sum-spec : {M : Type 1} → statement M

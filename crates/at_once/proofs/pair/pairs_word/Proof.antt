@@ -15,14 +15,14 @@ first-pair-requires c κs =
 pair-of-thirty-two-requires : tie.Need-pair-of-thirty-two-requires
 pair-of-thirty-two-requires c κs =
     let c1 = c.before in let c2 = c1.before in let c3 = c2.before in
-    let few = few_held c3.requires in whole_pair few c2.both-steps.ensures (pair_held few c1.first-pair.ensures)
+    let few = few_held c3.requires in whole_pair few c2.both-steps.ensures (pair_held few c1.first_pair.ensures)
 
 returns : tie.Need-returns
 returns c =
     let c2 = c.before.before in let c3 = c2.before in let c4 = c3.before in
     let few = few_held c4.requires in
     held_mask c4.ranges.v c4.args.steps.now 6
-    (pairs_are few c3.both-steps.ensures (pair_held few c2.first-pair.ensures) c.pair-of-thirty-two.ensures)
+    (pairs_are few c3.both-steps.ensures (pair_held few c2.first_pair.ensures) c.pair-of-thirty-two.ensures)
 
 pub pairs-word-spec : {M : Type 1} → statement M
 pairs-word-spec =

@@ -152,10 +152,10 @@ module _ (t : ℕ) where
       (omega (arith, k.pre.0), (h, (some, (p.1, (k.pre.1.1.1.0, v)))))
 
   raw_block_same_length_5 : raw-block-lts.Need-same-length-5 raw_block_claims raw_block_at raw-block.Post
-  raw_block_same_length_5 c = c.before.before.before.before.raw-halves.auto.1.1.1.1.1.1.1.1.0 ∙ c.before.before.before.before.before.before.before.before.before.before.before.before.before.before.before.before.prune.auto.1.1.1.1.1.0
+  raw_block_same_length_5 c = c.before.before.before.before.raw_halves.auto.1.1.1.1.1.1.1.1.0 ∙ c.before.before.before.before.before.before.before.before.before.before.before.before.before.before.before.before.prune.auto.1.1.1.1.1.0
 
   raw_block_same_length_6 : raw-block-lts.Need-same-length-6 raw_block_claims raw_block_at raw-block.Post
-  raw_block_same_length_6 c = c.before.before.before.before.raw-halves.auto.1.1.1.1.1.1.1.1.1.1.1.1.1.0
+  raw_block_same_length_6 c = c.before.before.before.before.raw_halves.auto.1.1.1.1.1.1.1.1.1.1.1.1.1.0
 
   raw_block_returns_3 : raw-block-lts.Need-returns-3 raw_block_claims raw_block_at raw-block.Post
   raw_block_returns_3 c =
@@ -169,7 +169,7 @@ module _ (t : ℕ) where
       let p = c.before.before.before.before.before.before.before.before.before.before.before.before.before.before.before.before.prune.ensures
       in
       let z = c.before.before.before.before.before.before.before.before.before.before.before.before.before.if2.false in
-      let h = c.before.before.before.before.raw-halves.ensures in (
+      let h = c.before.before.before.before.raw_halves.ensures in (
         λ job. open_written job two (p.0 (prune_job job two)) some z k.args.left refl
             (h.0 (halves_job job two (p.0 (prune_job job two)) some z k.args.left refl)),
         (open_back j k.pre.1.1.1.0 two (p.0 (prune_job j two)) z k.args.left refl h.1.0, h.1.1),

@@ -6,7 +6,7 @@ use Rattle.at_once.proofs.shared.contacts_of_two.Statement.{statement}
 use Rattle.at_once.proofs.shared.contacts_of_two.Tie as tie
 
 returns : tie.Need-returns
-returns c = contacts_refused _ _ _ _ _ _ c.before.before.refusal-of.ensures c.before.if1.true c.refused.ensures
+returns c = contacts_refused _ _ _ _ _ _ c.before.before.refusal_of.ensures c.before.if1.true c.refused.ensures
 
 whole-tally-requires : tie.Need-whole-tally-requires
 whole-tally-requires c κs = all_ready _ _ _ _ _ _ c.before.refusal-of.ensures c.if1.false

@@ -12,7 +12,7 @@ axes-left-requires c κs = tt
 lengths-of-requires : tie.Need-lengths-of-requires
 lengths-of-requires c κs =
     let c1 = c.before in let c4 = c1.before.before.before in
-    (c4.requires.scene.accepted_universe, c1.axes-left.ensures)
+    (c4.requires.scene.accepted_universe, c1.axes_left.ensures)
 
 whole-sides-requires : tie.Need-whole-sides-requires
 whole-sides-requires c κs = tt
@@ -39,7 +39,7 @@ tally-block-requires c κs =
     let k = c24 in
     let b = c14.load-both.ensures (both_job k.requires codes_long shelf_long) in
     let tabled = c19.lengths-of.ensures in
-    let sides = c18.whole-sides.ensures in
+    let sides = c18.whole_sides.ensures in
     let l = c8.levels.ensures in (
       whole_job k.requires l codes_long shelf_long tabled sides b,
       (
@@ -62,7 +62,7 @@ returns c =
     let k = c26 in
     let b = c16.load-both.ensures (both_job k.requires codes_long shelf_long) in
     let tabled = c21.lengths-of.ensures in
-    let sides = c20.whole-sides.ensures in
+    let sides = c20.whole_sides.ensures in
     let l = c10.levels.ensures in
     whole_tally k.requires l codes_long shelf_long tabled sides b (c1.tally-block.ensures.0 (whole_job k.requires l codes_long shelf_long tabled sides b))
 

@@ -173,7 +173,7 @@ module _ (t : ℕ) where
       let two : 2 ≤ k.args.left + 1 = omega (arith, i2.if2.false) in
       let e = p.prune.ensures in (
         λ job. tally_black job k.args.first k.args.last two (e.0 (prune_job job two)) g.greater.ensures l.lesser.ensures i1.if1.false
-            i4.if4.true v.voxels-of.ensures c.tally-of3.ensures,
+            i4.if4.true v.voxels_of.ensures c.tally-of3.ensures,
         (pruned_back j two (e.0 (prune_job j two)), (record { pruning = e.1; words = k.requires.1.1.0.words }, unmoved)),
       )
 

@@ -29,17 +29,17 @@ first-pair-requires-3 c κs =
 pair-of-sixteen-requires : tie.Need-pair-of-sixteen-requires
 pair-of-sixteen-requires c κs =
     let c3 = c.before.before.before in let c5 = c3.before.before in let c6 = c5.before in
-    low_half (few_held c6.requires.0) c5.both-steps.ensures c3.first-pair.ensures
+    low_half (few_held c6.requires.0) c5.both-steps.ensures c3.first_pair.ensures
 
 add-pair-of-sixteen : tie.Need-overflow-add-pair-of-sixteen
 add-pair-of-sixteen c =
     let c4 = c.before.before.before.before in let c6 = c4.before.before in let c7 = c6.before in
-    end_fits (few_held c7.requires.0) c6.both-steps.ensures c4.first-pair.ensures
+    end_fits (few_held c7.requires.0) c6.both-steps.ensures c4.first_pair.ensures
 
 pair-of-sixteen-requires-2 : tie.Need-pair-of-sixteen-requires-2
 pair-of-sixteen-requires-2 c κs =
     let c5 = c.before.before.before.before.before in let c7 = c5.before.before in let c8 = c7.before in
-    high_half (few_held c8.requires.0) c7.both-steps.ensures c5.first-pair.ensures
+    high_half (few_held c8.requires.0) c7.both-steps.ensures c5.first_pair.ensures
 
 pair-of-sixteen-requires-3 : tie.Need-pair-of-sixteen-requires-3
 pair-of-sixteen-requires-3 c κs =
@@ -82,7 +82,7 @@ returns c =
     let steps = c17.args.steps.now in let twice = c16.both-steps.ensures in
     record {
       sure = held_mask c17.ranges.below steps 6
-          (halves_are (few_held c17.requires.0) twice c14.first-pair.ensures c10.pair-of-sixteen.ensures c8.pair-of-sixteen2.ensures);
+          (halves_are (few_held c17.requires.0) twice c14.first_pair.ensures c10.pair-of-sixteen.ensures c8.pair-of-sixteen2.ensures);
       centre = held_mask c17.ranges.v steps 6
           (halves_are (few_held c17.requires.1.0) twice c13.first-pair2.ensures c6.pair-of-sixteen3.ensures c4.pair-of-sixteen4.ensures);
       possible = held_mask c17.ranges.above steps 6

@@ -24,7 +24,7 @@ alike-requires c κs = tt
 returns : tie.Need-returns
 returns c =
     let c1 = c.before in let c2 = c1.before in let c3 = c2.before in let c4 = c3.before in
-    three_ones c4.requires.0 c2.fall-of.ensures c1.if1.true c4.requires.1 c3.all_ones.ensures c.alike.ensures
+    three_ones c4.requires.0 c2.fall_of.ensures c1.if1.true c4.requires.1 c3.all_ones.ensures c.alike.ensures
 
 rise-of-requires : tie.Need-rise-of-requires
 rise-of-requires c κs =
@@ -34,7 +34,7 @@ rise-of-requires c κs =
 add-greatest : tie.Need-overflow-add-greatest
 add-greatest c =
     let c2 = c.before.before in let c4 = c2.before.before in
-    greatest_fits c4.requires.0.possible c2.fall-of.ensures c.rise-of.ensures
+    greatest_fits c4.requires.0.possible c2.fall_of.ensures c.rise-of.ensures
 
 alike-requires-2 : tie.Need-alike-requires-2
 alike-requires-2 c κs = tt
@@ -42,17 +42,17 @@ alike-requires-2 c κs = tt
 returns-2 : tie.Need-returns-2
 returns-2 c =
     let c1 = c.before in let c2 = c1.before in let c4 = c2.before.before in let c6 = c4.before.before in
-    three_none c6.requires.0 c4.fall-of.ensures c2.rise-of.ensures c1.if2.true c6.requires.1 c.alike2.ensures
+    three_none c6.requires.0 c4.fall_of.ensures c2.rise_of.ensures c1.if2.true c6.requires.1 c.alike2.ensures
 
 sub-if3 : tie.Need-overflow-sub-if3
 sub-if3 c =
     let c1 = c.before in let c3 = c1.before.before in let c5 = c3.before.before in
-    three_fits c5.requires.0 c3.fall-of.ensures c1.rise-of.ensures
+    three_fits c5.requires.0 c3.fall_of.ensures c1.rise_of.ensures
 
 pairs-words-requires : tie.Need-pairs-words-requires
 pairs-words-requires c κs =
     let c1 = c.before in let c2 = c1.before in let c3 = c2.before in let c4 = c3.before in let c6 = c4.before.before in
-    let falls = c4.fall-of.ensures in let rises = c2.rise-of.ensures in
+    let falls = c4.fall_of.ensures in let rises = c2.rise_of.ensures in
     let low = c3.if1.false in let high = c1.if2.false in let apart = c.if3.true in (
       few_below c6.requires.0 falls rises low high apart c6.ranges.below,
       (few_centre c6.requires.0 falls rises low high apart c6.ranges.v, few_above c6.requires.0 falls rises low high apart c6.ranges.above),

@@ -6,7 +6,7 @@ use Rattle.at_once.proofs.verdict.ends_at_once.Tie as tie
 
 returns : tie.Need-returns
 returns c =
-    spanned_refused _ _ _ _ _ _ c.before.before.refusal-of.ensures c.before.if1.true c.refused.ensures
+    spanned_refused _ _ _ _ _ _ c.before.before.refusal_of.ensures c.before.if1.true c.refused.ensures
 
 whole-span-requires : tie.Need-whole-span-requires
 whole-span-requires c κs = all_ready _ _ _ _ _ _ c.before.refusal-of.ensures c.if1.false

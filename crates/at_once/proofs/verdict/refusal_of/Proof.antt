@@ -9,7 +9,7 @@ returns c = refused_scene_lem _ _ _ _ _ _ c.before.scene-refusal.ensures c.if1.t
 
 returns-2 : tie.Need-returns-2
 returns-2 c =
-    refused_window _ _ _ _ _ _ c.before.before.scene-refusal.ensures c.before.if1.false c.window-refusal.ensures
+    refused_window _ _ _ _ _ _ c.before.before.scene_refusal.ensures c.before.if1.false c.window-refusal.ensures
 
 pub refusal-of-spec : {M : Type 1} → statement M
 refusal-of-spec =

@@ -39,7 +39,7 @@ end-block-requires c κs =
     let k = c21 in
     let b = c10.load-both.ensures (both_job k.requires codes_long shelf_long) in
     let tabled = c15.lengths-of.ensures in
-    let sides = c14.whole-sides.ensures in
+    let sides = c14.whole_sides.ensures in
     let l = c18.levels.ensures in (
       whole_job k.requires l codes_long shelf_long tabled sides b,
       (record { starts_long = b.starts_long; codes_long = shelf_long }, (shelves_long, whole_values k.requires l codes_long shelf_long tabled sides b)),
@@ -56,7 +56,7 @@ returns c =
     let k = c24 in
     let b = c13.load-both.ensures (both_job k.requires codes_long shelf_long) in
     let tabled = c18.lengths-of.ensures in
-    let sides = c17.whole-sides.ensures in
+    let sides = c17.whole_sides.ensures in
     let l = c21.levels.ensures in
     span_clear k.requires l codes_long shelf_long tabled sides b refl
     (c2.end-block.ensures.0 (whole_job k.requires l codes_long shelf_long tabled sides b)) c.if1.true
@@ -72,7 +72,7 @@ end-block-requires-2 c κs =
     let k = c33 in
     let b = c22.load-both.ensures (both_job k.requires codes_long shelf_long) in
     let tabled = c27.lengths-of.ensures in
-    let sides = c26.whole-sides.ensures in
+    let sides = c26.whole_sides.ensures in
     let l = c30.levels.ensures in
     let f = c11.end-block.ensures in (
       again_job k.requires l codes_long shelf_long tabled sides b refl (f.0 (whole_job k.requires l codes_long shelf_long tabled sides b)) f.1.0,
@@ -99,7 +99,7 @@ returns-2 c =
     let k = c35 in
     let b = c24.load-both.ensures (both_job k.requires codes_long shelf_long) in
     let tabled = c29.lengths-of.ensures in
-    let sides = c28.whole-sides.ensures in
+    let sides = c28.whole_sides.ensures in
     let l = c32.levels.ensures in
     let f = c13.end-block.ensures in
     let p = f.0 (whole_job k.requires l codes_long shelf_long tabled sides b) in

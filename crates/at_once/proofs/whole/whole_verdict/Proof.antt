@@ -36,7 +36,7 @@ count-block-requires c κs =
     let k = c21 in
     let b = c11.load-both.ensures (both_job k.requires codes_long shelf_long) in
     let tabled = c16.lengths-of.ensures in
-    let sides = c15.whole-sides.ensures in
+    let sides = c15.whole_sides.ensures in
     let l = c5.levels.ensures in (
       whole_count k.requires l codes_long shelf_long tabled sides b,
       (record { starts_long = b.starts_long; codes_long = shelf_long }, (shelves_long, whole_values k.requires l codes_long shelf_long tabled sides b)),
@@ -56,7 +56,7 @@ returns c =
     let k = c24 in
     let b = c14.load-both.ensures (both_job k.requires codes_long shelf_long) in
     let tabled = c19.lengths-of.ensures in
-    let sides = c18.whole-sides.ensures in
+    let sides = c18.whole_sides.ensures in
     let l = c8.levels.ensures in
     whole_verdict k.requires l codes_long shelf_long tabled sides b
     (c2.count-block.ensures.0 (whole_count k.requires l codes_long shelf_long tabled sides b)) c.verdict-from.ensures

@@ -28,19 +28,19 @@ add-result : tie.Need-overflow-add-result
 add-result c =
     let c6 = c.before.before.before.before.before.before in let c4 = c.before.before.before.before in let c2 = c.before.before in
     let t = c6 in
-    two_fits t.requires t.args.places c4.square-along.ensures c2.square-along2.ensures c.square-along3.ensures
+    two_fits t.requires t.args.places c4.square_along.ensures c2.square-along2.ensures c.square-along3.ensures
 
 add-result-2 : tie.Need-overflow-add-result-2
 add-result-2 c =
     let c6 = c.before.before.before.before.before.before in let c4 = c.before.before.before.before in let c2 = c.before.before in
     let t = c6 in
-    three_fits t.requires t.args.places c4.square-along.ensures c2.square-along2.ensures c.square-along3.ensures
+    three_fits t.requires t.args.places c4.square_along.ensures c2.square-along2.ensures c.square-along3.ensures
 
 returns : tie.Need-returns
 returns c =
     let c6 = c.before.before.before.before.before.before in let c4 = c.before.before.before.before in let c2 = c.before.before in
     let t = c6 in
-    squares_are t.requires t.args.places c4.square-along.ensures c2.square-along2.ensures c.square-along3.ensures
+    squares_are t.requires t.args.places c4.square_along.ensures c2.square-along2.ensures c.square-along3.ensures
 
 pub distance-of-spec : {M : Type 1} → statement M
 distance-of-spec =

@@ -60,7 +60,7 @@ returns : tie.Need-returns
 returns c =
     let c9 = c.before.before.before.before.before.before.before.before.before in
     let c6 = c.before.before.before.before.before.before in let c3 = c.before.before.before in let t = c9 in
-    offs_are t.requires.0 t.requires.1 c6.off-along.ensures c3.off-along2.ensures c.off-along3.ensures
+    offs_are t.requires.0 t.requires.1 c6.off_along.ensures c3.off-along2.ensures c.off-along3.ensures
 
 pub offs-of-ball-spec : {M : Type 1} → statement M
 offs-of-ball-spec =

@@ -16,7 +16,7 @@ rise-of-requires : tie.Need-rise-of-requires
 rise-of-requires c κs = small_steps c.before.before.requires
 
 add-greatest : tie.Need-overflow-add-greatest
-add-greatest c = greatest_fits c.before.before.before.requires c.before.before.fall-of.ensures c.rise-of.ensures
+add-greatest c = greatest_fits c.before.before.before.requires c.before.before.fall_of.ensures c.rise-of.ensures
 
 returns-2 : tie.Need-returns-2
 returns-2 c = none_are c.before.before.before.before.requires c.before.before.before.fall-of.ensures c.before.rise-of.ensures c.if2.true
@@ -27,7 +27,7 @@ sub-if3 c = apart_fits c.before.before.before.before.requires c.before.before.be
 pairs-word-requires : tie.Need-pairs-word-requires
 pairs-word-requires c κs =
     let c3 = c.before.before.before in
-    few_values c3.before.before.requires c3.before.fall-of.ensures c.before.before.rise-of.ensures c3.if1.false c.before.if2.false
+    few_values c3.before.before.requires c3.before.fall-of.ensures c.before.before.rise_of.ensures c3.if1.false c.before.if2.false
     c.if3.true
 
 returns-3 : tie.Need-returns-3

@@ -16,7 +16,7 @@ returns : tie.Need-returns
 returns c = search rules
 
 pruned-of-one-requires : tie.Need-pruned-of-one-requires
-pruned-of-one-requires c κs = let h = c.before.if1.false in (h, c.before.before.nodes-of.ensures h)
+pruned-of-one-requires c κs = let h = c.before.if1.false in (h, c.before.before.nodes_of.ensures h)
 
 same-length-2 : tie.Need-same-length-2
 same-length-2 c = search rules

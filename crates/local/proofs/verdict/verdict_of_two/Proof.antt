@@ -17,7 +17,7 @@ refused-requires : tie.Need-refused-requires
 refused-requires c κs = search rules
 
 returns : tie.Need-returns
-returns c = stopped_early _ _ _ _ _ _ _ c.before.before.scene-refusal.ensures c.before.if2.true c.refused.ensures
+returns c = stopped_early _ _ _ _ _ _ _ c.before.before.scene_refusal.ensures c.before.if2.true c.refused.ensures
 
 refused-requires-2 : tie.Need-refused-requires-2
 refused-requires-2 c κs = search rules
@@ -25,7 +25,7 @@ refused-requires-2 c κs = search rules
 returns-2 : tie.Need-returns-2
 returns-2 c =
     let s = c.before.before in
-    stopped_window _ _ _ _ _ _ _ s.scene-refusal.ensures c.before.if2.false s.before.before.window-refusal.ensures s.before.if1.true c.refused2.ensures
+    stopped_window _ _ _ _ _ _ _ s.scene_refusal.ensures c.before.if2.false s.before.before.window_refusal.ensures s.before.if1.true c.refused2.ensures
 
 raw_of-two-requires : tie.Need-raw_of-two-requires
 raw_of-two-requires c κs = search rules

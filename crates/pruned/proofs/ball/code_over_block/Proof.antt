@@ -4,14 +4,14 @@ use Rattle.pruned.proofs.BallCodes.{Walked, ball_laws}
 use Rattle.pruned.proofs.ball.code_over_block.Statement.{statement}
 use Rattle.pruned.proofs.ball.code_over_block.Tie as tie
 
-abbrev invariant-loop : tie.invariant-loop
+abbrev invariant-loop : tie.invariant-loop-axis
 invariant-loop places balls i low side first near₀ far₀ axis₀ near far axis = Walked places i balls low side near far axis
 
-abbrev decreases-loop : tie.decreases-loop
+abbrev decreases-loop : tie.decreases-loop-axis
 decreases-loop places balls i low side first near₀ far₀ axis₀ near far axis = places - axis
 
-pub code-over-block-spec : {M : Type 1} → statement M
-code-over-block-spec =
+pub code_over_block_spec : {M : Type 1} → statement M
+code_over_block_spec =
     tie.close
     (tie.spec
     invariant-loop

@@ -4,14 +4,14 @@ use Rattle.pruned.proofs.Conversions.{merged_one_lem}
 use Rattle.pruned.proofs.conversion.merged_of_one.Statement.{statement}
 use Rattle.pruned.proofs.conversion.merged_of_one.Tie as tie
 
-same_length : tie.Need-same-length
-same_length c = c.before.before.before.of_one.auto.1.1.1.1.1.0
+same_length : tie.Need-shape_of-work
+same_length c = c.of_one.auto.work
 
-same-length-2 : tie.Need-same-length-2
-same-length-2 c = c.before.before.before.of_one.auto.1.1.1.1.1.1.0
+same-length-2 : tie.Need-shape_of-out
+same-length-2 c = c.of_one.auto.out
 
 returns : tie.Need-returns
-returns c = merged_one_lem _ _ _ _ _ c.before.before.before.of_one.ensures
+returns c = merged_one_lem _ _ _ _ _ c.of_one.ensures
 
-pub merged-of-one-spec : {M : Type 1} → statement M
-merged-of-one-spec = tie.close (tie.spec (λ c κs. search rules) same_length same-length-2 returns)
+pub merged_of_one_spec : {M : Type 1} → statement M
+merged_of_one_spec = tie.close (tie.spec (λ c κs. search rules) same_length same-length-2 returns)

@@ -7,48 +7,48 @@ use Rattle.pruned.proofs.Conversions.{one_ready}
 use Rattle.pruned.proofs.conversion.of_one.Statement.{statement}
 use Rattle.pruned.proofs.conversion.of_one.Tie as tie
 
-returns : tie.Need-returns
-returns c = converted_refused (one_number _ _ _ c.before.before.scene-refusal.ensures) c.before.if1.true c.refused.ensures
+returns : tie.Need-returns-then-refusal-ne0
+returns c = converted_refused (one_number _ _ _ c.scene_refusal-refusal.ensures) c.if-refusal-ne0.true c.refused.ensures
 
-add-needed : tie.Need-overflow-add-needed
-add-needed c = omega (arith, one_levels _ _ _ c.before.before.scene-refusal.ensures c.before.if1.false c.levels.ensures)
+add-needed : tie.Need-overflow_add-needed
+add-needed c = omega (arith, one_levels _ _ _ c.scene_refusal-refusal.ensures c.if-refusal-ne0.false c.levels.ensures)
 
-mul-needed : tie.Need-overflow-mul-needed
-mul-needed c = omega (arith, one_few _ _ _ c.before.before.scene-refusal.ensures c.before.if1.false c.levels.ensures)
+mul-needed : tie.Need-overflow_mul-needed
+mul-needed c = omega (arith, one_few _ _ _ c.scene_refusal-refusal.ensures c.if-refusal-ne0.false c.levels.ensures)
 
-returns-2 : tie.Need-returns-2
+returns-2 : tie.Need-returns-then-work-needed
 returns-2 c =
-    let s = c.before.before.before.before.scene-refusal.ensures in
-    let z = c.before.before.before.if1.false in
-    converted_short (one_zero _ _ _ s z) (one_needed _ _ _ s z c.before.before.levels.ensures) c.before.if2.true c.short-of-work.ensures
+    let s = c.scene_refusal-refusal.ensures in
+    let z = c.if-refusal-ne0.false in
+    converted_short (one_zero _ _ _ s z) (one_needed _ _ _ s z c.levels.ensures) c.if-work-needed.true c.short_of_work.ensures
 
-written-of-one-requires : tie.Need-written-of-one-requires
+written-of-one-requires : tie.Need-written_of_one-requires
 written-of-one-requires c κs =
-    let s = c.before.before.before.before.before.scene-refusal.ensures in
-    let z = c.before.before.before.before.if1.false in
-    one_ready _ _ _ s z c.before.before.before.levels.ensures c.before.before.if2.false (omega
-    (arith, c.before.before.before.before.before.before.before.before.before.well_formed.1.1.1.1.1.0.1))
+    let s = c.scene_refusal-refusal.ensures in
+    let z = c.if-refusal-ne0.false in
+    one_ready _ _ _ s z c.levels.ensures c.if-work-needed.false (omega
+    (arith, c.well_formed.1.1.1.1.1.0.1))
 
-same_length : tie.Need-same-length
-same_length c = c.before.before.before.written-of-one.auto.1.1.1.1.1.0
+same_length : tie.Need-shape_of-work
+same_length c = c.written_of_one.auto.work
 
-same-length-2 : tie.Need-same-length-2
-same-length-2 c = c.before.before.before.written-of-one.auto.1.1.1.1.1.1.0
+same-length-2 : tie.Need-shape_of-out
+same-length-2 c = c.written_of_one.auto.out
 
-returns-3 : tie.Need-returns-3
+returns-3 : tie.Need-returns
 returns-3 c =
-    let s = c.before.before.before.before.before.before.before.before.before.scene-refusal.ensures in
-    let z = c.before.before.before.before.before.before.before.before.if1.false in
+    let s = c.scene_refusal-refusal.ensures in
+    let z = c.if-refusal-ne0.false in
     converted_ended (one_zero _ _ _ s z) (omega (
       arith,
       one_needed _ _ _ s z
-          c.before.before.before.before.before.before.before.levels.ensures,
-      c.before.before.before.before.before.before.if2.false,
+          c.levels.ensures,
+      c.if-work-needed.false,
     ))
-    c.before.before.before.written-of-one.ensures
+    c.written_of_one.ensures
 
-pub of-one-spec : {M : Type 1} → statement M
-of-one-spec =
+pub of_one_spec : {M : Type 1} → statement M
+of_one_spec =
     tie.close
     (tie.spec
     (λ c. search rules)

@@ -7,51 +7,51 @@ use Rattle.pruned.proofs.Conversions.{two_ready}
 use Rattle.pruned.proofs.conversion.of_two.Statement.{statement}
 use Rattle.pruned.proofs.conversion.of_two.Tie as tie
 
-returns : tie.Need-returns
-returns c = converted_refused c.before.before.scene-refusal.ensures c.before.if1.true c.refused.ensures
+returns : tie.Need-returns-then-refusal-ne0
+returns c = converted_refused c.scene_refusal-refusal.ensures c.if-refusal-ne0.true c.refused.ensures
 
-add_words : tie.Need-overflow-add-words
-add_words c = omega (arith, two_words _ _ _ _ c.before.scene-refusal.ensures c.if1.false)
+add_words : tie.Need-overflow_add-words
+add_words c = omega (arith, two_words _ _ _ _ c.scene_refusal-refusal.ensures c.if-refusal-ne0.false)
 
-add-needed : tie.Need-overflow-add-needed
-add-needed c = omega (arith, two_levels _ _ _ _ c.before.before.scene-refusal.ensures c.before.if1.false c.levels.ensures)
+add-needed : tie.Need-overflow_add-needed
+add-needed c = omega (arith, two_levels _ _ _ _ c.scene_refusal-refusal.ensures c.if-refusal-ne0.false c.levels.ensures)
 
-mul-needed : tie.Need-overflow-mul-needed
-mul-needed c = omega (arith, two_few _ _ _ _ c.before.before.scene-refusal.ensures c.before.if1.false c.levels.ensures)
+mul-needed : tie.Need-overflow_mul-needed
+mul-needed c = omega (arith, two_few _ _ _ _ c.scene_refusal-refusal.ensures c.if-refusal-ne0.false c.levels.ensures)
 
-returns-2 : tie.Need-returns-2
+returns-2 : tie.Need-returns-then-work-needed
 returns-2 c =
-    let s = c.before.before.before.before.scene-refusal.ensures in
-    let z = c.before.before.before.if1.false in
-    converted_short (two_zero _ _ _ _ s z) (two_needed _ _ _ _ s z c.before.before.levels.ensures) c.before.if2.true c.short-of-work.ensures
+    let s = c.scene_refusal-refusal.ensures in
+    let z = c.if-refusal-ne0.false in
+    converted_short (two_zero _ _ _ _ s z) (two_needed _ _ _ _ s z c.levels.ensures) c.if-work-needed.true c.short_of_work.ensures
 
-written-of-two-requires : tie.Need-written-of-two-requires
+written-of-two-requires : tie.Need-written_of_two-requires
 written-of-two-requires c κs =
-    let s = c.before.before.before.before.before.scene-refusal.ensures in
-    let z = c.before.before.before.before.if1.false in
-    two_ready _ _ _ _ s z c.before.before.before.levels.ensures c.before.before.if2.false (omega
-    (arith, c.before.before.before.before.before.before.before.before.before.well_formed.1.1.1.1.1.1.0.1))
+    let s = c.scene_refusal-refusal.ensures in
+    let z = c.if-refusal-ne0.false in
+    two_ready _ _ _ _ s z c.levels.ensures c.if-work-needed.false (omega
+    (arith, c.well_formed.1.1.1.1.1.1.0.1))
 
-same_length : tie.Need-same-length
-same_length c = c.before.before.before.written-of-two.auto.1.1.1.1.1.1.0
+same_length : tie.Need-shape_of-work
+same_length c = c.written_of_two.auto.work
 
-same-length-2 : tie.Need-same-length-2
-same-length-2 c = c.before.before.before.written-of-two.auto.1.1.1.1.1.1.1.0
+same-length-2 : tie.Need-shape_of-out
+same-length-2 c = c.written_of_two.auto.out
 
-returns-3 : tie.Need-returns-3
+returns-3 : tie.Need-returns
 returns-3 c =
-    let s = c.before.before.before.before.before.before.before.before.before.scene-refusal.ensures in
-    let z = c.before.before.before.before.before.before.before.before.if1.false in
+    let s = c.scene_refusal-refusal.ensures in
+    let z = c.if-refusal-ne0.false in
     converted_ended (two_zero _ _ _ _ s z) (omega (
       arith,
       two_needed _ _ _ _ s z
-          c.before.before.before.before.before.before.before.levels.ensures,
-      c.before.before.before.before.before.before.if2.false,
+          c.levels.ensures,
+      c.if-work-needed.false,
     ))
-    c.before.before.before.written-of-two.ensures
+    c.written_of_two.ensures
 
-pub of-two-spec : {M : Type 1} → statement M
-of-two-spec =
+pub of_two_spec : {M : Type 1} → statement M
+of_two_spec =
     tie.close
     (tie.spec
     (λ c κs. search rules)

@@ -6,38 +6,38 @@ use Rattle.pruned.proofs.conversion.written_of_one.Statement.{statement}
 use Rattle.pruned.proofs.conversion.written_of_one.Tie as tie
 
 load-requires : tie.Need-load-requires
-load-requires c κs = one_loading c.before.before.before.before.before.before.requires c.before.before.before.whole-sides.ensures _ refl
+load-requires c κs = one_loading c.requires c.whole_sides-side.ensures _ refl
 
-room-for-requires : tie.Need-room-for-requires
-room-for-requires c κs = c.before.before.before.before.before.before.before.before.before.before.requires.scene.accepted_universe
+room-for-requires : tie.Need-room_for-room-requires
+room-for-requires c κs = c.requires.scene.accepted_universe
 
-write-whole-requires : tie.Need-write-whole-requires
+write-whole-requires : tie.Need-write_whole-requires
 write-whole-requires c κs =
-    let r = c.before.before.before.before.before.before.before.before.before.before.before.before.before.before.before.requires in
-    let e = c.before.before.before.before.before.before.before.before.before.before.before.before.whole-sides.ensures in
-    one_whole r e _ refl (c.before.before.before.before.before.before.before.before.load.ensures (one_loading r e _ refl))
-    c.before.before.before.before.before.before.halfspace-words.ensures c.before.before.before.before.before.ball-words.ensures
-    c.before.before.before.before.room_for.ensures
+    let r = c.requires in
+    let e = c.whole_sides-side.ensures in
+    one_whole r e _ refl (c.load.ensures (one_loading r e _ refl))
+    c.halfspace_words-leaves.ensures c.ball_words-round.ensures
+    c.room_for-room.ensures
 
-same_length : tie.Need-same-length
-same_length c = c.before.before.before.write-whole.auto.1.1.1.1.1.0
-    ∙ c.before.before.before.before.before.before.before.before.before.before.before.before.load.auto.1.1.1.1.0
+same_length : tie.Need-shape_of-work
+same_length c = c.write_whole.auto.work
+    ∙ c.load.auto.work
 
-same-length-2 : tie.Need-same-length-2
-same-length-2 c = c.before.before.before.write-whole.auto.1.1.1.1.1.1.1.1.1.0
+same-length-2 : tie.Need-shape_of-out
+same-length-2 c = c.write_whole.auto.out
 
 returns : tie.Need-returns
 returns c =
-    let r = c.before.before.before.before.before.before.before.before.before.before.before.before.before.before.before.before.before.before.before.requires in
-    let e = c.before.before.before.before.before.before.before.before.before.before.before.before.before.before.before.before.whole-sides.ensures in
-    let d = c.before.before.before.before.before.before.before.before.before.before.before.before.load.ensures (one_loading r e _ refl) in
-    let p = c.before.before.before.before.before.before.before.before.before.before.halfspace-words.ensures in
-    let q = c.before.before.before.before.before.before.before.before.before.ball-words.ensures in
-    let a = c.before.before.before.before.before.before.before.before.room_for.ensures in
-    one_ended r e _ refl d p q a _ _ (c.before.before.before.write-whole.ensures (one_whole r e _ refl d p q a))
+    let r = c.requires in
+    let e = c.whole_sides-side.ensures in
+    let d = c.load.ensures (one_loading r e _ refl) in
+    let p = c.halfspace_words-leaves.ensures in
+    let q = c.ball_words-round.ensures in
+    let a = c.room_for-room.ensures in
+    one_ended r e _ refl d p q a _ _ (c.write_whole.ensures (one_whole r e _ refl d p q a))
 
-pub written-of-one-spec : {M : Type 1} → statement M
-written-of-one-spec =
+pub written_of_one_spec : {M : Type 1} → statement M
+written_of_one_spec =
     tie.close
     (tie.spec
     (λ c κs. search rules)

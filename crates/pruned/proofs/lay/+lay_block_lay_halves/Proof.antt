@@ -49,7 +49,7 @@ abbrev lay_halves_below : ℕ → In 10 lay-halves-kinds.ps
 lay_halves_below t =
     and 10 lay-halves-kinds.ps (falls 10 lay-halves-kinds.ps ◌<◌ μ_lay_halves t) lay-halves.Pre
 
-lay_block_add_behind : (t : ℕ) → lay-block-lts.Need-overflow-add-behind (
+lay_block_add_behind : (t : ℕ) → lay-block-lts.Need-overflow_add-behind (
   prune-reads.Asked,
   prune-reads.Learnt,
   symbol-of-reads.Asked,
@@ -61,9 +61,9 @@ lay_block_add_behind : (t : ℕ) → lay-block-lts.Need-overflow-add-behind (
   lay_halves_below t,
   lay-halves.Post,
 ) (lay_block_at t) lay-block.Post
-lay_block_add_behind t c = let k = c.before in let j = k.requires.1.0 in omega (arith, j.room, j.bounded)
+lay_block_add_behind t c = let k = c in let j = k.requires.1.0 in omega (arith, j.room, j.bounded)
 
-lay_block_prune_requires : (t : ℕ) → lay-block-lts.Need-prune-requires (
+lay_block_prune_requires : (t : ℕ) → lay-block-lts.Need-prune-kept-requires (
   prune-reads.Asked,
   prune-reads.Learnt,
   symbol-of-reads.Asked,
@@ -75,9 +75,9 @@ lay_block_prune_requires : (t : ℕ) → lay-block-lts.Need-prune-requires (
   lay_halves_below t,
   lay-halves.Post,
 ) (lay_block_at t) lay-block.Post
-lay_block_prune_requires t c κs = let k = c.before.before.before.before.before.before in let j = k.requires.1.0 in (block_pruning j, k.requires.1.1)
+lay_block_prune_requires t c κs = let k = c in let j = k.requires.1.0 in (block_pruning j, k.requires.1.1)
 
-lay_block_element_copy_out_looked : (t : ℕ) → lay-block-lts.Need-element-copy-out-looked (
+lay_block_element_copy_out_looked : (t : ℕ) → lay-block-lts.Need-bounds-looked-0 (
   prune-reads.Asked,
   prune-reads.Learnt,
   symbol-of-reads.Asked,
@@ -91,7 +91,7 @@ lay_block_element_copy_out_looked : (t : ℕ) → lay-block-lts.Need-element-cop
 ) (lay_block_at t) lay-block.Post
 lay_block_element_copy_out_looked t c = omega arith
 
-lay_block_add_looked : (t : ℕ) → lay-block-lts.Need-overflow-add-looked (
+lay_block_add_looked : (t : ℕ) → lay-block-lts.Need-overflow_add-looked (
   prune-reads.Asked,
   prune-reads.Learnt,
   symbol-of-reads.Asked,
@@ -103,10 +103,10 @@ lay_block_add_looked : (t : ℕ) → lay-block-lts.Need-overflow-add-looked (
   lay_halves_below t,
   lay-halves.Post,
 ) (lay_block_at t) lay-block.Post
-lay_block_add_looked t c = let k = c.before.before.before.before.before.before.before.before.before in
+lay_block_add_looked t c = let k = c in
     let j = k.requires.1.0 in omega (arith, tally_fits j)
 
-lay_block_element_write_looked : (t : ℕ) → lay-block-lts.Need-element-write-looked (
+lay_block_element_write_looked : (t : ℕ) → lay-block-lts.Need-bounds-looked-0-2 (
   prune-reads.Asked,
   prune-reads.Learnt,
   symbol-of-reads.Asked,
@@ -120,7 +120,7 @@ lay_block_element_write_looked : (t : ℕ) → lay-block-lts.Need-element-write-
 ) (lay_block_at t) lay-block.Post
 lay_block_element_write_looked t c = omega arith
 
-lay_block_add_result : (t : ℕ) → lay-block-lts.Need-overflow-add-result (
+lay_block_add_result : (t : ℕ) → lay-block-lts.Need-overflow_add-result (
   prune-reads.Asked,
   prune-reads.Learnt,
   symbol-of-reads.Asked,
@@ -132,10 +132,10 @@ lay_block_add_result : (t : ℕ) → lay-block-lts.Need-overflow-add-result (
   lay_halves_below t,
   lay-halves.Post,
 ) (lay_block_at t) lay-block.Post
-lay_block_add_result t c = let k = c.before.before.before.before.before.before.before.before.before.before in
+lay_block_add_result t c = let k = c in
     let j = k.requires.1.0 in omega (arith, at_fits j)
 
-lay_block_mul_result : (t : ℕ) → lay-block-lts.Need-overflow-mul-result (
+lay_block_mul_result : (t : ℕ) → lay-block-lts.Need-overflow_mul-result (
   prune-reads.Asked,
   prune-reads.Learnt,
   symbol-of-reads.Asked,
@@ -147,10 +147,10 @@ lay_block_mul_result : (t : ℕ) → lay-block-lts.Need-overflow-mul-result (
   lay_halves_below t,
   lay-halves.Post,
 ) (lay_block_at t) lay-block.Post
-lay_block_mul_result t c = let k = c.before.before.before.before.before.before.before.before.before.before in
+lay_block_mul_result t c = let k = c in
     let j = k.requires.1.0 in omega (arith, at_fits j)
 
-lay_block_symbol_of_requires : (t : ℕ) → lay-block-lts.Need-symbol-of-requires (
+lay_block_symbol_of_requires : (t : ℕ) → lay-block-lts.Need-symbol_of-requires (
   prune-reads.Asked,
   prune-reads.Learnt,
   symbol-of-reads.Asked,
@@ -164,7 +164,7 @@ lay_block_symbol_of_requires : (t : ℕ) → lay-block-lts.Need-symbol-of-requir
 ) (lay_block_at t) lay-block.Post
 lay_block_symbol_of_requires t c κs = tt
 
-lay_block_cast_result : (t : ℕ) → lay-block-lts.Need-overflow-cast-result (
+lay_block_cast_result : (t : ℕ) → lay-block-lts.Need-overflow_cast-result (
   prune-reads.Asked,
   prune-reads.Learnt,
   symbol-of-reads.Asked,
@@ -178,7 +178,7 @@ lay_block_cast_result : (t : ℕ) → lay-block-lts.Need-overflow-cast-result (
 ) (lay_block_at t) lay-block.Post
 lay_block_cast_result t c = search rules
 
-lay_block_add_result_2 : (t : ℕ) → lay-block-lts.Need-overflow-add-result-2 (
+lay_block_add_result_2 : (t : ℕ) → lay-block-lts.Need-overflow_add-result-then-mark-ne0 (
   prune-reads.Asked,
   prune-reads.Learnt,
   symbol-of-reads.Asked,
@@ -190,10 +190,10 @@ lay_block_add_result_2 : (t : ℕ) → lay-block-lts.Need-overflow-add-result-2 
   lay_halves_below t,
   lay-halves.Post,
 ) (lay_block_at t) lay-block.Post
-lay_block_add_result_2 t c = let k = c.before.before.before.before.before.before.before.before.before.before.before in
-    let j = k.requires.1.0 in omega (arith, at_fits j, c.symbol-of.ensures, symbol_few c.before.before.before.before.prune.result.mark)
+lay_block_add_result_2 t c = let k = c in
+    let j = k.requires.1.0 in omega (arith, at_fits j, c.symbol_of.ensures, symbol_few c.prune-kept.result.mark)
 
-lay_block_same_length : (t : ℕ) → lay-block-lts.Need-same-length (
+lay_block_same_length : (t : ℕ) → lay-block-lts.Need-shape_of-work-then-mark-ne0 (
   prune-reads.Asked,
   prune-reads.Learnt,
   symbol-of-reads.Asked,
@@ -205,10 +205,10 @@ lay_block_same_length : (t : ℕ) → lay-block-lts.Need-same-length (
   lay_halves_below t,
   lay-halves.Post,
 ) (lay_block_at t) lay-block.Post
-lay_block_same_length t c = let k = c.before.before.before.before.before.before.before.before.before.before.before in
-    let j = k.requires.1.0 in (c.before.before.before.before.prune.ensures.0 (block_pruning j)).below.long
+lay_block_same_length t c = let k = c in
+    let j = k.requires.1.0 in (c.prune-kept.ensures.0 (block_pruning j)).below.long
 
-lay_block_returns : (t : ℕ) → lay-block-lts.Need-returns (
+lay_block_returns : (t : ℕ) → lay-block-lts.Need-returns-then-mark-ne0 (
   prune-reads.Asked,
   prune-reads.Learnt,
   symbol-of-reads.Asked,
@@ -220,13 +220,13 @@ lay_block_returns : (t : ℕ) → lay-block-lts.Need-returns (
   lay_halves_below t,
   lay-halves.Post,
 ) (lay_block_at t) lay-block.Post
-lay_block_returns t c = let q = c.before.before.before.before in (
-  λ job. block_closed job (q.prune.ensures.0 (block_pruning job)) _ _
-      c.before.if1.true c.symbol-of.ensures,
-  q.prune.ensures.1,
+lay_block_returns t c = let q = c in (
+  λ job. block_closed job (q.prune-kept.ensures.0 (block_pruning job)) _ _
+      c.if-mark-ne0.true c.symbol_of.ensures,
+  q.prune-kept.ensures.1,
 )
 
-lay_block_is_single_requires : (t : ℕ) → lay-block-lts.Need-is-single-requires (
+lay_block_is_single_requires : (t : ℕ) → lay-block-lts.Need-is_single-requires (
   prune-reads.Asked,
   prune-reads.Learnt,
   symbol-of-reads.Asked,
@@ -238,10 +238,10 @@ lay_block_is_single_requires : (t : ℕ) → lay-block-lts.Need-is-single-requir
   lay_halves_below t,
   lay-halves.Post,
 ) (lay_block_at t) lay-block.Post
-lay_block_is_single_requires t c κs = let j = c.before.before.before.before.before.before.before.before.before.before.before.requires.1.0 in λ e.
-    lone_code (block_halves j (c.before.before.before.before.prune.ensures.0 (block_pruning j)) c.before.if1.false) e
+lay_block_is_single_requires t c κs = let j = c.requires.1.0 in λ e.
+    lone_code (block_halves j (c.prune-kept.ensures.0 (block_pruning j)) c.if-mark-ne0.false) e
 
-lay_block_lay_single_requires : (t : ℕ) → lay-block-lts.Need-lay-single-requires (
+lay_block_lay_single_requires : (t : ℕ) → lay-block-lts.Need-lay_single-requires (
   prune-reads.Asked,
   prune-reads.Learnt,
   symbol-of-reads.Asked,
@@ -254,15 +254,15 @@ lay_block_lay_single_requires : (t : ℕ) → lay-block-lts.Need-lay-single-requ
   lay-halves.Post,
 ) (lay_block_at t) lay-block.Post
 lay_block_lay_single_requires t c κs =
-    let k = c.before.before.before.before.before.before.before.before.before.before.before.before.before.before.before.before.before.before
+    let k = c
     in
-    let j = k.pre.1.0 in
-    let w = c.before.before.before.before.before.before.is-single.ensures c.before.before.before.before.before.if2.true in
-    let q = c.before.before.before.before.before.before.before.before.before.before.before.prune.ensures.0 in
-    let z = c.before.before.before.before.before.before.before.before.if1.false in
+    let j = k.requires.1.0 in
+    let w = c.is_single.ensures c.if-is_single.true in
+    let q = c.prune-kept.ensures.0 in
+    let z = c.if-mark-ne0.false in
     single_job (block_halves j (q (block_pruning j)) z) w.0 w.1
 
-lay_block_same_length_2 : (t : ℕ) → lay-block-lts.Need-same-length-2 (
+lay_block_same_length_2 : (t : ℕ) → lay-block-lts.Need-shape_of-work-then-is_single (
   prune-reads.Asked,
   prune-reads.Learnt,
   symbol-of-reads.Asked,
@@ -274,9 +274,9 @@ lay_block_same_length_2 : (t : ℕ) → lay-block-lts.Need-same-length-2 (
   lay_halves_below t,
   lay-halves.Post,
 ) (lay_block_at t) lay-block.Post
-lay_block_same_length_2 t c = c.before.before.before.before.before.before.before.before.before.before.before.before.before.before.prune.auto.1.1.1.1.1.1.1.1.1.0
+lay_block_same_length_2 t c = c.prune-kept.auto.work
 
-lay_block_same_length_3 : (t : ℕ) → lay-block-lts.Need-same-length-3 (
+lay_block_same_length_3 : (t : ℕ) → lay-block-lts.Need-shape_of-out-then-is_single (
   prune-reads.Asked,
   prune-reads.Learnt,
   symbol-of-reads.Asked,
@@ -288,9 +288,9 @@ lay_block_same_length_3 : (t : ℕ) → lay-block-lts.Need-same-length-3 (
   lay_halves_below t,
   lay-halves.Post,
 ) (lay_block_at t) lay-block.Post
-lay_block_same_length_3 t c = c.before.before.lay-single.auto.1.1.1.1.1.1.1.1.1.1.1.0
+lay_block_same_length_3 t c = c.lay_single.auto.out
 
-lay_block_returns_2 : (t : ℕ) → lay-block-lts.Need-returns-2 (
+lay_block_returns_2 : (t : ℕ) → lay-block-lts.Need-returns-then-is_single (
   prune-reads.Asked,
   prune-reads.Learnt,
   symbol-of-reads.Asked,
@@ -303,16 +303,16 @@ lay_block_returns_2 : (t : ℕ) → lay-block-lts.Need-returns-2 (
   lay-halves.Post,
 ) (lay_block_at t) lay-block.Post
 lay_block_returns_2 t c =
-    let w = c.before.before.before.before.before.before.before.before.before.is-single.ensures c.before.before.before.before.before.before.before.before.if2.true in
-    let l = c.before.before.lay-single.ensures in
-    let q = c.before.before.before.before.before.before.before.before.before.before.before.before.before.before.prune.ensures in
-    let z = c.before.before.before.before.before.before.before.before.before.before.before.if1.false in (
+    let w = c.is_single.ensures c.if-is_single.true in
+    let l = c.lay_single.ensures in
+    let q = c.prune-kept.ensures in
+    let z = c.if-mark-ne0.false in (
       λ job. block_done job (q.0 (block_pruning job)) z _ _ (single_done (block_halves job (q.0 (block_pruning job)) z) w.0 w.1 _ _
           (l (single_job (block_halves job (q.0 (block_pruning job)) z) w.0 w.1))),
       q.1,
     )
 
-lay_block_lay_halves_requires : (t : ℕ) → lay-block-lts.Need-lay-halves-requires (
+lay_block_lay_halves_requires : (t : ℕ) → lay-block-lts.Need-lay_halves-requires (
   prune-reads.Asked,
   prune-reads.Learnt,
   symbol-of-reads.Asked,
@@ -324,15 +324,15 @@ lay_block_lay_halves_requires : (t : ℕ) → lay-block-lts.Need-lay-halves-requ
   lay_halves_below t,
   lay-halves.Post,
 ) (lay_block_at t) lay-block.Post
-lay_block_lay_halves_requires t c κs = let k = c.before.before.before.before.before.before.before.before.before.before.before.before.before.before.before.before.before.before.before.before in let j = k.pre.1.0 in (
-  omega (arith, k.pre.0),
+lay_block_lay_halves_requires t c κs = let k = c in let j = k.requires.1.0 in (
+  omega (arith, k.requires.0),
   (
-    block_halves j (c.before.before.before.before.before.before.before.before.before.before.before.before.before.prune.ensures.0 (block_pruning j)) c.before.before.before.before.before.before.before.before.before.before.if1.false,
-    c.before.before.before.before.before.before.before.before.before.before.before.before.before.prune.ensures.1,
+    block_halves j (c.prune-kept.ensures.0 (block_pruning j)) c.if-mark-ne0.false,
+    c.prune-kept.ensures.1,
   ),
 )
 
-lay_block_same_length_4 : (t : ℕ) → lay-block-lts.Need-same-length-4 (
+lay_block_same_length_4 : (t : ℕ) → lay-block-lts.Need-shape_of-work (
   prune-reads.Asked,
   prune-reads.Learnt,
   symbol-of-reads.Asked,
@@ -344,9 +344,9 @@ lay_block_same_length_4 : (t : ℕ) → lay-block-lts.Need-same-length-4 (
   lay_halves_below t,
   lay-halves.Post,
 ) (lay_block_at t) lay-block.Post
-lay_block_same_length_4 t c = c.before.before.before.lay-halves.auto.1.1.1.1.1.1.1.1.0 ∙ c.before.before.before.before.before.before.before.before.before.before.before.before.before.before.before.before.before.prune.auto.1.1.1.1.1.1.1.1.1.0
+lay_block_same_length_4 t c = c.lay_halves.auto.work ∙ c.prune-kept.auto.work
 
-lay_block_same_length_5 : (t : ℕ) → lay-block-lts.Need-same-length-5 (
+lay_block_same_length_5 : (t : ℕ) → lay-block-lts.Need-shape_of-out (
   prune-reads.Asked,
   prune-reads.Learnt,
   symbol-of-reads.Asked,
@@ -358,9 +358,9 @@ lay_block_same_length_5 : (t : ℕ) → lay-block-lts.Need-same-length-5 (
   lay_halves_below t,
   lay-halves.Post,
 ) (lay_block_at t) lay-block.Post
-lay_block_same_length_5 t c = c.before.before.before.lay-halves.auto.1.1.1.1.1.1.1.1.1.1.1.1.1.1.0
+lay_block_same_length_5 t c = c.lay_halves.auto.out
 
-lay_block_returns_3 : (t : ℕ) → lay-block-lts.Need-returns-3 (
+lay_block_returns_3 : (t : ℕ) → lay-block-lts.Need-returns (
   prune-reads.Asked,
   prune-reads.Learnt,
   symbol-of-reads.Asked,
@@ -372,12 +372,12 @@ lay_block_returns_3 : (t : ℕ) → lay-block-lts.Need-returns-3 (
   lay_halves_below t,
   lay-halves.Post,
 ) (lay_block_at t) lay-block.Post
-lay_block_returns_3 t c = let l = c.before.before.before.lay-halves.ensures in (
-  λ job. block_done job (c.before.before.before.before.before.before.before.before.before.before.before.before.before.before.before.before.before.prune.ensures.0 (block_pruning job)) c.before.before.before.before.before.before.before.before.before.before.before.before.before.before.if1.false _ _ (l.0 (block_halves job (c.before.before.before.before.before.before.before.before.before.before.before.before.before.before.before.before.before.prune.ensures.0 (block_pruning job)) c.before.before.before.before.before.before.before.before.before.before.before.before.before.before.if1.false)),
+lay_block_returns_3 t c = let l = c.lay_halves.ensures in (
+  λ job. block_done job (c.prune-kept.ensures.0 (block_pruning job)) c.if-mark-ne0.false _ _ (l.0 (block_halves job (c.prune-kept.ensures.0 (block_pruning job)) c.if-mark-ne0.false)),
   l.1,
 )
 
-lay_halves_sub_axis : (t : ℕ) → lay-halves-lts.Need-overflow-sub-axis (
+lay_halves_sub_axis : (t : ℕ) → lay-halves-lts.Need-overflow_sub-axis (
   lay-pair-reads.Asked,
   lay-pair-reads.Learnt,
   doublings-reads.Asked,
@@ -387,9 +387,9 @@ lay_halves_sub_axis : (t : ℕ) → lay-halves-lts.Need-overflow-sub-axis (
   join-reads.Asked,
   join-reads.Learnt,
 ) (lay_halves_at t) lay-halves.Post
-lay_halves_sub_axis t c = let k = c.before in let j = k.requires.1.0 in j.some
+lay_halves_sub_axis t c = let k = c in let j = k.requires.1.0 in j.some
 
-lay_halves_mul_axis : (t : ℕ) → lay-halves-lts.Need-overflow-mul-axis (
+lay_halves_mul_axis : (t : ℕ) → lay-halves-lts.Need-offset_bounds-table-left (
   lay-pair-reads.Asked,
   lay-pair-reads.Learnt,
   doublings-reads.Asked,
@@ -399,9 +399,9 @@ lay_halves_mul_axis : (t : ℕ) → lay-halves-lts.Need-overflow-mul-axis (
   join-reads.Asked,
   join-reads.Learnt,
 ) (lay_halves_at t) lay-halves.Post
-lay_halves_mul_axis t c = let k = c.before in let j = k.requires.1.0 in omega (arith, place_in j)
+lay_halves_mul_axis t c = let k = c in let j = k.requires.1.0 in omega (arith, place_in j)
 
-lay_halves_element_copy_out_axis : (t : ℕ) → lay-halves-lts.Need-element-copy-out-axis (
+lay_halves_element_copy_out_axis : (t : ℕ) → lay-halves-lts.Need-bounds-table-left (
   lay-pair-reads.Asked,
   lay-pair-reads.Learnt,
   doublings-reads.Asked,
@@ -411,9 +411,9 @@ lay_halves_element_copy_out_axis : (t : ℕ) → lay-halves-lts.Need-element-cop
   join-reads.Asked,
   join-reads.Learnt,
 ) (lay_halves_at t) lay-halves.Post
-lay_halves_element_copy_out_axis t c = let k = c.before in let j = k.requires.1.0 in omega (arith, place_in j)
+lay_halves_element_copy_out_axis t c = let k = c in let j = k.requires.1.0 in omega (arith, place_in j)
 
-lay_halves_lay_pair_requires : (t : ℕ) → lay-halves-lts.Need-lay-pair-requires (
+lay_halves_lay_pair_requires : (t : ℕ) → lay-halves-lts.Need-lay_pair-requires (
   lay-pair-reads.Asked,
   lay-pair-reads.Learnt,
   doublings-reads.Asked,
@@ -424,12 +424,12 @@ lay_halves_lay_pair_requires : (t : ℕ) → lay-halves-lts.Need-lay-pair-requir
   join-reads.Learnt,
 ) (lay_halves_at t) lay-halves.Post
 lay_halves_lay_pair_requires t c κs =
-    let z = c.before.before.before.before.before.if1.true in
-    let k = c.before.before.before.before.before.before.before.before in
+    let z = c.if-left-eq1.true in
+    let k = c in
     let j = k.requires.1.0 in
     (pair_job j z, (k.requires.1.1.codes_long, (pair_tally j z, pair_fits j z)))
 
-lay_halves_same_length : (t : ℕ) → lay-halves-lts.Need-same-length (
+lay_halves_same_length : (t : ℕ) → lay-halves-lts.Need-shape_of-work-then-left-eq1 (
   lay-pair-reads.Asked,
   lay-pair-reads.Learnt,
   doublings-reads.Asked,
@@ -441,7 +441,7 @@ lay_halves_same_length : (t : ℕ) → lay-halves-lts.Need-same-length (
 ) (lay_halves_at t) lay-halves.Post
 lay_halves_same_length t c = refl
 
-lay_halves_same_length_2 : (t : ℕ) → lay-halves-lts.Need-same-length-2 (
+lay_halves_same_length_2 : (t : ℕ) → lay-halves-lts.Need-shape_of-out-then-left-eq1 (
   lay-pair-reads.Asked,
   lay-pair-reads.Learnt,
   doublings-reads.Asked,
@@ -451,9 +451,9 @@ lay_halves_same_length_2 : (t : ℕ) → lay-halves-lts.Need-same-length-2 (
   join-reads.Asked,
   join-reads.Learnt,
 ) (lay_halves_at t) lay-halves.Post
-lay_halves_same_length_2 t c = c.before.before.lay-pair.auto.1.1.1.1.1.1.1.1.1.1.1.0
+lay_halves_same_length_2 t c = c.lay_pair.auto.out
 
-lay_halves_returns : (t : ℕ) → lay-halves-lts.Need-returns (
+lay_halves_returns : (t : ℕ) → lay-halves-lts.Need-returns-then-left-eq1 (
   lay-pair-reads.Asked,
   lay-pair-reads.Learnt,
   doublings-reads.Asked,
@@ -464,14 +464,14 @@ lay_halves_returns : (t : ℕ) → lay-halves-lts.Need-returns (
   join-reads.Learnt,
 ) (lay_halves_at t) lay-halves.Post
 lay_halves_returns t c =
-    let z = c.before.before.before.before.before.before.before.before.if1.true in
-    let k = c.before.before.before.before.before.before.before.before.before.before.before in
-    let l = c.before.before.lay-pair.ensures in (
+    let z = c.if-left-eq1.true in
+    let k = c in
+    let l = c.lay_pair.ensures in (
       λ job. pair_done job z _ _ (l.0 (pair_job job z)) (l.1.0 (pair_job job z)) l.1.1.0,
       record { starts_long = k.requires.1.1.starts_long; codes_long = l.1.1.1 },
     )
 
-lay_halves_mul_near : (t : ℕ) → lay-halves-lts.Need-overflow-mul-near (
+lay_halves_mul_near : (t : ℕ) → lay-halves-lts.Need-offset_bounds-low-axis (
   lay-pair-reads.Asked,
   lay-pair-reads.Learnt,
   doublings-reads.Asked,
@@ -481,9 +481,9 @@ lay_halves_mul_near : (t : ℕ) → lay-halves-lts.Need-overflow-mul-near (
   join-reads.Asked,
   join-reads.Learnt,
 ) (lay_halves_at t) lay-halves.Post
-lay_halves_mul_near t c = let k = c.before.before.before in let j = k.requires.1.0 in omega (arith, axis_within j)
+lay_halves_mul_near t c = let k = c in let j = k.requires.1.0 in omega (arith, axis_within j)
 
-lay_halves_element_copy_out_near : (t : ℕ) → lay-halves-lts.Need-element-copy-out-near (
+lay_halves_element_copy_out_near : (t : ℕ) → lay-halves-lts.Need-bounds-low-axis (
   lay-pair-reads.Asked,
   lay-pair-reads.Learnt,
   doublings-reads.Asked,
@@ -493,9 +493,9 @@ lay_halves_element_copy_out_near : (t : ℕ) → lay-halves-lts.Need-element-cop
   join-reads.Asked,
   join-reads.Learnt,
 ) (lay_halves_at t) lay-halves.Post
-lay_halves_element_copy_out_near t c = let k = c.before.before.before in let j = k.requires.1.0 in omega (arith, axis_within j)
+lay_halves_element_copy_out_near t c = let k = c in let j = k.requires.1.0 in omega (arith, axis_within j)
 
-lay_halves_mul_whole : (t : ℕ) → lay-halves-lts.Need-overflow-mul-whole (
+lay_halves_mul_whole : (t : ℕ) → lay-halves-lts.Need-offset_bounds-side-axis (
   lay-pair-reads.Asked,
   lay-pair-reads.Learnt,
   doublings-reads.Asked,
@@ -505,9 +505,9 @@ lay_halves_mul_whole : (t : ℕ) → lay-halves-lts.Need-overflow-mul-whole (
   join-reads.Asked,
   join-reads.Learnt,
 ) (lay_halves_at t) lay-halves.Post
-lay_halves_mul_whole t c = let k = c.before.before.before.before in let j = k.requires.1.0 in omega (arith, axis_within j)
+lay_halves_mul_whole t c = let k = c in let j = k.requires.1.0 in omega (arith, axis_within j)
 
-lay_halves_element_copy_out_whole : (t : ℕ) → lay-halves-lts.Need-element-copy-out-whole (
+lay_halves_element_copy_out_whole : (t : ℕ) → lay-halves-lts.Need-bounds-side-axis (
   lay-pair-reads.Asked,
   lay-pair-reads.Learnt,
   doublings-reads.Asked,
@@ -517,9 +517,9 @@ lay_halves_element_copy_out_whole : (t : ℕ) → lay-halves-lts.Need-element-co
   join-reads.Asked,
   join-reads.Learnt,
 ) (lay_halves_at t) lay-halves.Post
-lay_halves_element_copy_out_whole t c = let k = c.before.before.before.before in let j = k.requires.1.0 in omega (arith, axis_within j)
+lay_halves_element_copy_out_whole t c = let k = c in let j = k.requires.1.0 in omega (arith, axis_within j)
 
-lay_halves_doublings_requires : (t : ℕ) → lay-halves-lts.Need-doublings-requires (
+lay_halves_doublings_requires : (t : ℕ) → lay-halves-lts.Need-doublings-times-requires (
   lay-pair-reads.Asked,
   lay-pair-reads.Learnt,
   doublings-reads.Asked,
@@ -531,7 +531,7 @@ lay_halves_doublings_requires : (t : ℕ) → lay-halves-lts.Need-doublings-requ
 ) (lay_halves_at t) lay-halves.Post
 lay_halves_doublings_requires t c κs = tt
 
-lay_halves_mul_side : (t : ℕ) → lay-halves-lts.Need-overflow-mul-side (
+lay_halves_mul_side : (t : ℕ) → lay-halves-lts.Need-offset_bounds-side-axis-2 (
   lay-pair-reads.Asked,
   lay-pair-reads.Learnt,
   doublings-reads.Asked,
@@ -541,9 +541,9 @@ lay_halves_mul_side : (t : ℕ) → lay-halves-lts.Need-overflow-mul-side (
   join-reads.Asked,
   join-reads.Learnt,
 ) (lay_halves_at t) lay-halves.Post
-lay_halves_mul_side t c = let k = c.before.before.before.before.before.before in let j = k.requires.1.0 in omega (arith, axis_within j)
+lay_halves_mul_side t c = let k = c in let j = k.requires.1.0 in omega (arith, axis_within j)
 
-lay_halves_element_write_side : (t : ℕ) → lay-halves-lts.Need-element-write-side (
+lay_halves_element_write_side : (t : ℕ) → lay-halves-lts.Need-bounds-side-axis-2 (
   lay-pair-reads.Asked,
   lay-pair-reads.Learnt,
   doublings-reads.Asked,
@@ -553,9 +553,9 @@ lay_halves_element_write_side : (t : ℕ) → lay-halves-lts.Need-element-write-
   join-reads.Asked,
   join-reads.Learnt,
 ) (lay_halves_at t) lay-halves.Post
-lay_halves_element_write_side t c = let k = c.before.before.before.before.before.before in let j = k.requires.1.0 in omega (arith, axis_within j)
+lay_halves_element_write_side t c = let k = c in let j = k.requires.1.0 in omega (arith, axis_within j)
 
-lay_halves_sub_lay_block : (t : ℕ) → lay-halves-lts.Need-overflow-sub-lay-block (
+lay_halves_sub_lay_block : (t : ℕ) → lay-halves-lts.Need-overflow_sub-left (
   lay-pair-reads.Asked,
   lay-pair-reads.Learnt,
   doublings-reads.Asked,
@@ -565,9 +565,9 @@ lay_halves_sub_lay_block : (t : ℕ) → lay-halves-lts.Need-overflow-sub-lay-bl
   join-reads.Asked,
   join-reads.Learnt,
 ) (lay_halves_at t) lay-halves.Post
-lay_halves_sub_lay_block t c = let k = c.before.before.before.before.before.before.before.before in let j = k.requires.1.0 in j.some
+lay_halves_sub_lay_block t c = let k = c in let j = k.requires.1.0 in j.some
 
-lay_halves_add_lay_block : (t : ℕ) → lay-halves-lts.Need-overflow-add-lay-block (
+lay_halves_add_lay_block : (t : ℕ) → lay-halves-lts.Need-overflow_add-at (
   lay-pair-reads.Asked,
   lay-pair-reads.Learnt,
   doublings-reads.Asked,
@@ -577,10 +577,10 @@ lay_halves_add_lay_block : (t : ℕ) → lay-halves-lts.Need-overflow-add-lay-bl
   join-reads.Asked,
   join-reads.Learnt,
 ) (lay_halves_at t) lay-halves.Post
-lay_halves_add_lay_block t c = let k = c.before.before.before.before.before.before.before.before.before.before.before.before.before in
+lay_halves_add_lay_block t c = let k = c in
     let j = k.requires.1.0 in omega (arith, j.fits)
 
-lay_halves_lay_block_requires : (t : ℕ) → lay-halves-lts.Need-lay-block-requires (
+lay_halves_lay_block_requires : (t : ℕ) → lay-halves-lts.Need-lay_block-below-requires (
   lay-pair-reads.Asked,
   lay-pair-reads.Learnt,
   doublings-reads.Asked,
@@ -590,17 +590,17 @@ lay_halves_lay_block_requires : (t : ℕ) → lay-halves-lts.Need-lay-block-requ
   join-reads.Asked,
   join-reads.Learnt,
 ) (lay_halves_at t) lay-halves.Post
-lay_halves_lay_block_requires t c κs = let k = c.before.before.before.before.before.before.before.before.before.before.before.before.before in
+lay_halves_lay_block_requires t c κs = let k = c in
     let j = k.requires.1.0 in (
       omega (arith, k.requires.0, j.some),
       (
-        lower_job j c.before.before.before.before.before.before.before.doublings.ensures
-            c.before.before.before.before.before.before.before.before.before.before.if1.false,
+        lower_job j c.doublings-times.ensures
+            c.if-left-eq1.false,
         k.requires.1.1,
       ),
     )
 
-lay_halves_add_low : (t : ℕ) → lay-halves-lts.Need-overflow-add-low (
+lay_halves_add_low : (t : ℕ) → lay-halves-lts.Need-overflow_add-low (
   lay-pair-reads.Asked,
   lay-pair-reads.Learnt,
   doublings-reads.Asked,
@@ -611,10 +611,10 @@ lay_halves_add_low : (t : ℕ) → lay-halves-lts.Need-overflow-add-low (
   join-reads.Learnt,
 ) (lay_halves_at t) lay-halves.Post
 lay_halves_add_low t c =
-    let k = c.before.before.before.before.before.before.before.before.before.before.before.before.before.before.before.before.before in
-    let j = k.pre.1.0 in omega (arith, near_fits j)
+    let k = c in
+    let j = k.requires.1.0 in omega (arith, near_fits j)
 
-lay_halves_mul_low : (t : ℕ) → lay-halves-lts.Need-overflow-mul-low (
+lay_halves_mul_low : (t : ℕ) → lay-halves-lts.Need-offset_bounds-low-axis-2 (
   lay-pair-reads.Asked,
   lay-pair-reads.Learnt,
   doublings-reads.Asked,
@@ -625,10 +625,10 @@ lay_halves_mul_low : (t : ℕ) → lay-halves-lts.Need-overflow-mul-low (
   join-reads.Learnt,
 ) (lay_halves_at t) lay-halves.Post
 lay_halves_mul_low t c =
-    let k = c.before.before.before.before.before.before.before.before.before.before.before.before.before.before.before.before.before in
-    let j = k.pre.1.0 in omega (arith, axis_within j)
+    let k = c in
+    let j = k.requires.1.0 in omega (arith, axis_within j)
 
-lay_halves_element_write_low : (t : ℕ) → lay-halves-lts.Need-element-write-low (
+lay_halves_element_write_low : (t : ℕ) → lay-halves-lts.Need-bounds-low-axis-2 (
   lay-pair-reads.Asked,
   lay-pair-reads.Learnt,
   doublings-reads.Asked,
@@ -639,9 +639,9 @@ lay_halves_element_write_low : (t : ℕ) → lay-halves-lts.Need-element-write-l
   join-reads.Learnt,
 ) (lay_halves_at t) lay-halves.Post
 lay_halves_element_write_low t c =
-    let k = c.before.before.before.before.before.before.before.before.before.before.before.before.before.before.before.before.before in let j = k.pre.1.0 in omega (arith, axis_within j)
+    let k = c in let j = k.requires.1.0 in omega (arith, axis_within j)
 
-lay_halves_sub_lay_block_2 : (t : ℕ) → lay-halves-lts.Need-overflow-sub-lay-block-2 (
+lay_halves_sub_lay_block_2 : (t : ℕ) → lay-halves-lts.Need-overflow_sub-left-2 (
   lay-pair-reads.Asked,
   lay-pair-reads.Learnt,
   doublings-reads.Asked,
@@ -652,9 +652,9 @@ lay_halves_sub_lay_block_2 : (t : ℕ) → lay-halves-lts.Need-overflow-sub-lay-
   join-reads.Learnt,
 ) (lay_halves_at t) lay-halves.Post
 lay_halves_sub_lay_block_2 t c =
-    let k = c.before.before.before.before.before.before.before.before.before.before.before.before.before.before.before.before.before.before.before in let j = k.pre.1.0 in j.some
+    let k = c in let j = k.requires.1.0 in j.some
 
-lay_halves_lay_block_requires_2 : (t : ℕ) → lay-halves-lts.Need-lay-block-requires-2 (
+lay_halves_lay_block_requires_2 : (t : ℕ) → lay-halves-lts.Need-lay_block-above-requires (
   lay-pair-reads.Asked,
   lay-pair-reads.Learnt,
   doublings-reads.Asked,
@@ -665,16 +665,16 @@ lay_halves_lay_block_requires_2 : (t : ℕ) → lay-halves-lts.Need-lay-block-re
   join-reads.Learnt,
 ) (lay_halves_at t) lay-halves.Post
 lay_halves_lay_block_requires_2 t c κs =
-    let y = c.before.before.before.before.before.before.before.before.before.before.before.before.before.before.before in
-    let z = y.before.before.before.before.before.before.if1.false in
-    let k = c.before.before.before.before.before.before.before.before.before.before.before.before.before.before.before.before.before.before.before.before.before.before.before.before in let j = k.pre.1.0 in
-    let d = c.before.before.before.before.before.before.before.before.before.before.before.before.before.before.before.before.before.before.doublings.ensures in
-    let e = c.before.before.before.before.before.before.before.before.before.before.lay-block.ensures in (
-      omega (arith, k.pre.0, j.some),
+    let y = c in
+    let z = y.if-left-eq1.false in
+    let k = c in let j = k.requires.1.0 in
+    let d = c.doublings-times.ensures in
+    let e = c.lay_block-below.ensures in (
+      omega (arith, k.requires.0, j.some),
       (upper_job j _ _ d z (e.0 (lower_job j d z)), e.1),
     )
 
-lay_halves_mul_low_2 : (t : ℕ) → lay-halves-lts.Need-overflow-mul-low-2 (
+lay_halves_mul_low_2 : (t : ℕ) → lay-halves-lts.Need-offset_bounds-low-axis-3 (
   lay-pair-reads.Asked,
   lay-pair-reads.Learnt,
   doublings-reads.Asked,
@@ -685,9 +685,9 @@ lay_halves_mul_low_2 : (t : ℕ) → lay-halves-lts.Need-overflow-mul-low-2 (
   join-reads.Learnt,
 ) (lay_halves_at t) lay-halves.Post
 lay_halves_mul_low_2 t c =
-    let k = c.before.before.before.before.before.before.before.before.before.before.before.before.before.before.before.before.before.before.before.before.before.before.before.before.before.before.before.before in let j = k.pre.1.0 in omega (arith, axis_within j)
+    let k = c in let j = k.requires.1.0 in omega (arith, axis_within j)
 
-lay_halves_element_write_low_2 : (t : ℕ) → lay-halves-lts.Need-element-write-low-2 (
+lay_halves_element_write_low_2 : (t : ℕ) → lay-halves-lts.Need-bounds-low-axis-3 (
   lay-pair-reads.Asked,
   lay-pair-reads.Learnt,
   doublings-reads.Asked,
@@ -697,9 +697,9 @@ lay_halves_element_write_low_2 : (t : ℕ) → lay-halves-lts.Need-element-write
   join-reads.Asked,
   join-reads.Learnt,
 ) (lay_halves_at t) lay-halves.Post
-lay_halves_element_write_low_2 t c = let k = c.before.before.before.before.before.before.before.before.before.before.before.before.before.before.before.before.before.before.before.before.before.before.before.before.before.before.before.before in let j = k.pre.1.0 in omega (arith, axis_within j)
+lay_halves_element_write_low_2 t c = let k = c in let j = k.requires.1.0 in omega (arith, axis_within j)
 
-lay_halves_mul_side_2 : (t : ℕ) → lay-halves-lts.Need-overflow-mul-side-2 (
+lay_halves_mul_side_2 : (t : ℕ) → lay-halves-lts.Need-offset_bounds-side-axis-3 (
   lay-pair-reads.Asked,
   lay-pair-reads.Learnt,
   doublings-reads.Asked,
@@ -710,9 +710,9 @@ lay_halves_mul_side_2 : (t : ℕ) → lay-halves-lts.Need-overflow-mul-side-2 (
   join-reads.Learnt,
 ) (lay_halves_at t) lay-halves.Post
 lay_halves_mul_side_2 t c =
-    let k = c.before.before.before.before.before.before.before.before.before.before.before.before.before.before.before.before.before.before.before.before.before.before.before.before.before.before.before.before in let j = k.pre.1.0 in omega (arith, axis_within j)
+    let k = c in let j = k.requires.1.0 in omega (arith, axis_within j)
 
-lay_halves_element_write_side_2 : (t : ℕ) → lay-halves-lts.Need-element-write-side-2 (
+lay_halves_element_write_side_2 : (t : ℕ) → lay-halves-lts.Need-bounds-side-axis-3 (
   lay-pair-reads.Asked,
   lay-pair-reads.Learnt,
   doublings-reads.Asked,
@@ -722,9 +722,9 @@ lay_halves_element_write_side_2 : (t : ℕ) → lay-halves-lts.Need-element-writ
   join-reads.Asked,
   join-reads.Learnt,
 ) (lay_halves_at t) lay-halves.Post
-lay_halves_element_write_side_2 t c = let k = c.before.before.before.before.before.before.before.before.before.before.before.before.before.before.before.before.before.before.before.before.before.before.before.before.before.before.before.before in let j = k.pre.1.0 in omega (arith, axis_within j)
+lay_halves_element_write_side_2 t c = let k = c in let j = k.requires.1.0 in omega (arith, axis_within j)
 
-lay_halves_cast_join : (t : ℕ) → lay-halves-lts.Need-overflow-cast-join (
+lay_halves_cast_join : (t : ℕ) → lay-halves-lts.Need-overflow_cast-below (
   lay-pair-reads.Asked,
   lay-pair-reads.Learnt,
   doublings-reads.Asked,
@@ -736,7 +736,7 @@ lay_halves_cast_join : (t : ℕ) → lay-halves-lts.Need-overflow-cast-join (
 ) (lay_halves_at t) lay-halves.Post
 lay_halves_cast_join t c = omega arith
 
-lay_halves_cast_join_2 : (t : ℕ) → lay-halves-lts.Need-overflow-cast-join-2 (
+lay_halves_cast_join_2 : (t : ℕ) → lay-halves-lts.Need-overflow_cast-above (
   lay-pair-reads.Asked,
   lay-pair-reads.Learnt,
   doublings-reads.Asked,
@@ -759,13 +759,13 @@ lay_halves_join_requires : (t : ℕ) → lay-halves-lts.Need-join-requires (
   join-reads.Learnt,
 ) (lay_halves_at t) lay-halves.Post
 lay_halves_join_requires t c κs =
-    let y = c.before.before.before.before.before.before.before.before.before.before.before.before.before.before.before in
-    let z = y.before.before.before.before.before.before.before.before.before.before.before.if1.false in
-    let k = c.before.before.before.before.before.before.before.before.before.before.before.before.before.before.before.before.before.before.before.before.before.before.before.before.before.before.before.before.before in let j = k.pre.1.0 in
-    let e = c.before.before.before.before.before.before.before.before.before.before.before.before.before.before.before.lay-block.ensures
-    in let d = c.before.before.before.before.before.before.before.before.before.before.before.before.before.before.before.before.before.before.before.before.before.before.before.doublings.ensures in join_asks j _ _ d z (e.0 (lower_job j d z)) c.before.before.before.before.lay-block2.ensures.0
+    let y = c in
+    let z = y.if-left-eq1.false in
+    let k = c in let j = k.requires.1.0 in
+    let e = c.lay_block-below.ensures
+    in let d = c.doublings-times.ensures in join_asks j _ _ d z (e.0 (lower_job j d z)) c.lay_block-above.ensures.0
 
-lay_halves_same_length_3 : (t : ℕ) → lay-halves-lts.Need-same-length-3 (
+lay_halves_same_length_3 : (t : ℕ) → lay-halves-lts.Need-shape_of-work (
   lay-pair-reads.Asked,
   lay-pair-reads.Learnt,
   doublings-reads.Asked,
@@ -775,10 +775,10 @@ lay_halves_same_length_3 : (t : ℕ) → lay-halves-lts.Need-same-length-3 (
   join-reads.Asked,
   join-reads.Learnt,
 ) (lay_halves_at t) lay-halves.Post
-lay_halves_same_length_3 t c = c.before.before.before.before.before.before.before.lay-block2.auto.1.1.1.1.1.1.1.1.1.1.1.0
-    ∙ c.before.before.before.before.before.before.before.before.before.before.before.before.before.before.before.before.before.before.lay-block.auto.1.1.1.1.1.1.1.1.1.1.1.0
+lay_halves_same_length_3 t c = c.lay_block-above.auto.work
+    ∙ c.lay_block-below.auto.work
 
-lay_halves_same_length_4 : (t : ℕ) → lay-halves-lts.Need-same-length-4 (
+lay_halves_same_length_4 : (t : ℕ) → lay-halves-lts.Need-shape_of-out (
   lay-pair-reads.Asked,
   lay-pair-reads.Learnt,
   doublings-reads.Asked,
@@ -788,11 +788,11 @@ lay_halves_same_length_4 : (t : ℕ) → lay-halves-lts.Need-same-length-4 (
   join-reads.Asked,
   join-reads.Learnt,
 ) (lay_halves_at t) lay-halves.Post
-lay_halves_same_length_4 t c = c.before.before.join.auto.1.0
-    ∙ c.before.before.before.before.before.before.before.lay-block2.auto.1.1.1.1.1.1.1.1.1.1.1.1.1.1.1.1.1.0
-    ∙ c.before.before.before.before.before.before.before.before.before.before.before.before.before.before.before.before.before.before.lay-block.auto.1.1.1.1.1.1.1.1.1.1.1.1.1.1.1.1.1.0
+lay_halves_same_length_4 t c = c.join.auto.out
+    ∙ c.lay_block-above.auto.out
+    ∙ c.lay_block-below.auto.out
 
-lay_halves_returns_2 : (t : ℕ) → lay-halves-lts.Need-returns-2 (
+lay_halves_returns_2 : (t : ℕ) → lay-halves-lts.Need-returns (
   lay-pair-reads.Asked,
   lay-pair-reads.Learnt,
   doublings-reads.Asked,
@@ -803,14 +803,14 @@ lay_halves_returns_2 : (t : ℕ) → lay-halves-lts.Need-returns-2 (
   join-reads.Learnt,
 ) (lay_halves_at t) lay-halves.Post
 lay_halves_returns_2 t c =
-    let y = c.before.before.before.before.before.before.before.before.before.before.before.before.before.before.before in
-    let z = y.before.before.before.before.before.before.before.before.before.before.before.before.before.before.if1.false in
-    let e = c.before.before.before.before.before.before.before.before.before.before.before.before.before.before.before.before.before.before.lay-block.ensures in let f = c.before.before.before.before.before.before.before.lay-block2.ensures in
-    let o = c.before.before.join.ensures in let d = c.before.before.before.before.before.before.before.before.before.before.before.before.before.before.before.before.before.before.before.before.before.before.before.before.before.before.doublings.ensures in
+    let y = c in
+    let z = y.if-left-eq1.false in
+    let e = c.lay_block-below.ensures in let f = c.lay_block-above.ensures in
+    let o = c.join.ensures in let d = c.doublings-times.ensures in
     (λ job. halves_done job _ _ d z (e.0 (lower_job job d z)) f.0 o.0 o.1, f.1)
 
-pub +lay-block-lay-halves-spec : {M : Type 1} → statement M
-+lay-block-lay-halves-spec = close μ_lay_block μ_lay_halves (λ t. lay-block-lts.spec (
+pub +lay_block_lay_halves_spec : {M : Type 1} → statement M
++lay_block_lay_halves_spec = close μ_lay_block μ_lay_halves (λ t. lay-block-lts.spec (
   prune-reads.Asked,
   prune-reads.Learnt,
   symbol-of-reads.Asked,

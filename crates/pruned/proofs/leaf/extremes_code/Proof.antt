@@ -6,22 +6,22 @@ use Rattle.pruned.proofs.leaf.extremes_code.Statement.{statement}
 use Rattle.pruned.proofs.leaf.extremes_code.Tie as tie
 use Rattle.pruned.proofs.marks.tested_code.Reads as tested-code-reads
 
-add-tested-code : tie.Need-overflow-add-tested-code
-add-tested-code c = total_fits c.before.requires.0 c.before.requires.1
+add-tested-code : tie.Need-overflow_add-least
+add-tested-code c = total_fits c.requires.0 c.requires.1
 
-tested-code-requires : tie.Need-tested-code-requires
+tested-code-requires : tie.Need-tested_code-requires
 tested-code-requires c κs = search rules
 
-returns : tie.Need-returns
-returns c = let k = c.before.before in c.tested-code.ensures ∙ centre_code k.requires.0 k.requires.1 c.before.if1.true refl
+returns : tie.Need-returns-then-centre
+returns c = let k = c in c.tested_code.ensures ∙ centre_code k.requires.0 k.requires.1 c.if-centre.true refl
 
-tested-code-requires-2 : tie.Need-tested-code-requires-2
+tested-code-requires-2 : tie.Need-tested_code-requires-2
 tested-code-requires-2 c κs = search rules
 
-returns-2 : tie.Need-returns-2
-returns-2 c = let k = c.before.before in c.tested-code2.ensures ∙ block_code k.requires.0 k.requires.1 c.before.if1.false refl refl
+returns-2 : tie.Need-returns
+returns-2 c = let k = c in c.tested_code-2.ensures ∙ block_code k.requires.0 k.requires.1 c.if-centre.false refl refl
 
-pub extremes-code-spec : {M : Type 1} → statement M
-extremes-code-spec =
+pub extremes_code_spec : {M : Type 1} → statement M
+extremes_code_spec =
     tie.close
     (tie.spec add-tested-code tested-code-requires returns tested-code-requires-2 returns-2)

@@ -10,15 +10,15 @@ use Rattle.pruned.proofs.leaf.judge_over.Statement.{statement}
 use Rattle.pruned.proofs.leaf.judge_over.Tie as tie
 use Rattle.pruned.proofs.marks.side_code.Reads as side-code-reads
 
-side-code-requires : tie.Need-side-code-requires
+side-code-requires : tie.Need-side_code-requires
 side-code-requires c κs = search rules
 
 returns : tie.Need-returns
 returns c =
-    let k = c.before in (
-      c.side-code.ensures ∙ ap (turned_code (eqb (k.args.code % 2) 1)) (block_code k.requires.0 k.requires.1 {centre = false} refl refl refl),
+    let k = c in (
+      c.side_code.ensures ∙ ap (turned_code (eqb (k.args.code % 2) 1)) (block_code k.requires.0 k.requires.1 {centre = false} refl refl refl),
       ((extreme_near k.requires.0).same, (extreme_near k.requires.1).same),
     )
 
-pub judge-over-spec : {M : Type 1} → statement M
-judge-over-spec = tie.close (tie.spec side-code-requires returns)
+pub judge_over_spec : {M : Type 1} → statement M
+judge_over_spec = tie.close (tie.spec side-code-requires returns)

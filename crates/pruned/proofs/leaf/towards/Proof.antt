@@ -3,14 +3,14 @@ use Rattle.pruned.proofs.Moving.{opposite_fits, towards_high, towards_low}
 use Rattle.pruned.proofs.leaf.towards.Statement.{statement}
 use Rattle.pruned.proofs.leaf.towards.Tie as tie
 
-returns : tie.Need-returns
-returns c = towards_high c.before.requires c.if1.true
+returns : tie.Need-returns-then-high
+returns c = towards_high c.requires c.if-high.true
 
-sub-result : tie.Need-overflow-sub-result
-sub-result c = opposite_fits c.before.requires
+sub-result : tie.Need-overflow_sub-result
+sub-result c = opposite_fits c.requires
 
-returns-2 : tie.Need-returns-2
-returns-2 c = towards_low c.before.requires c.if1.false
+returns-2 : tie.Need-returns
+returns-2 c = towards_low c.requires c.if-high.false
 
-pub towards-spec : {M : Type 1} → statement M
-towards-spec = tie.close (tie.spec returns sub-result returns-2)
+pub towards_spec : {M : Type 1} → statement M
+towards_spec = tie.close (tie.spec returns sub-result returns-2)

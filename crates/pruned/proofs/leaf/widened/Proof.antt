@@ -6,20 +6,20 @@ use Rattle.pruned.proofs.leaf.widened.Statement.{statement}
 use Rattle.pruned.proofs.leaf.widened.Tie as tie
 use Rattle.pruned.proofs.leaf.moved_by.Reads as moved-by-reads
 
-cast-moved-by : tie.Need-overflow-cast-moved-by
+cast-moved-by : tie.Need-overflow_cast-side
 cast-moved-by c = search rules
 
-mul-moved-by : tie.Need-overflow-mul-moved-by
+mul-moved-by : tie.Need-overflow_mul-coefficient
 mul-moved-by c = amount_fits c.requires.0 c.requires.1.0
 
-moved-by-requires : tie.Need-moved-by-requires
-moved-by-requires c κs = let k = c.before.before.requires in amount_asks k.0 k.1.0 k.1.1.1 k.1.1.0
+moved-by-requires : tie.Need-moved_by-wider-requires
+moved-by-requires c κs = let k = c.requires in amount_asks k.0 k.1.0 k.1.1.1 k.1.1.0
 
 returns : tie.Need-returns
 returns c =
-    let k = c.before.before.before.before.requires in
-    let m = moved_is k.0 k.1.0 k.1.1.1 k.1.1.0 c.before.moved_by.ensures in
+    let k = c.requires in
+    let m = moved_is k.0 k.1.0 k.1.1.1 k.1.1.0 c.moved_by-wider.ensures in
     widened_is k.0 k.1.0 k.1.1.0 k.1.1.1 m.0 m.1
 
-pub widened-spec : {M : Type 1} → statement M
-widened-spec = tie.close (tie.spec cast-moved-by mul-moved-by moved-by-requires returns)
+pub widened_spec : {M : Type 1} → statement M
+widened_spec = tie.close (tie.spec cast-moved-by mul-moved-by moved-by-requires returns)

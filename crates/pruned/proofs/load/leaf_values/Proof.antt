@@ -4,21 +4,21 @@ use Rattle.pruned.proofs.Loadings.{values_constant, values_ball, whole_ready, va
 use Rattle.pruned.proofs.load.leaf_values.Statement.{statement}
 use Rattle.pruned.proofs.load.leaf_values.Tie as tie
 
-returns : tie.Need-returns
-returns c = λ job. values_constant job c.if1.true
+returns : tie.Need-returns-then-word-lt-FIRST_HALFSPACE
+returns c = λ job. values_constant job c.if-word-lt-FIRST_HALFSPACE.true
 
-returns-2 : tie.Need-returns-2
-returns-2 c = λ job. values_ball job c.if2.true
+returns-2 : tie.Need-returns-then-word-ge-FIRST_BALL
+returns-2 c = λ job. values_ball job c.if-word-ge-FIRST_BALL.true
 
-cast-whole-extremes : tie.Need-overflow-cast-whole-extremes
+cast-whole-extremes : tie.Need-overflow_cast-word
 cast-whole-extremes c = search rules
 
-whole-extremes-requires : tie.Need-whole-extremes-requires
-whole-extremes-requires c κs = whole_ready c.before.before.requires c.before.if1.false c.if2.false
+whole-extremes-requires : tie.Need-whole_extremes-requires
+whole-extremes-requires c κs = whole_ready c.requires c.if-word-lt-FIRST_HALFSPACE.false c.if-word-ge-FIRST_BALL.false
 
-returns-3 : tie.Need-returns-3
-returns-3 c = λ job. values_halfspace job c.before.before.if1.false c.before.if2.false c.whole-extremes.ensures
+returns-3 : tie.Need-returns
+returns-3 c = λ job. values_halfspace job c.if-word-lt-FIRST_HALFSPACE.false c.if-word-ge-FIRST_BALL.false c.whole_extremes.ensures
 
-pub leaf-values-spec : {M : Type 1} → statement M
-leaf-values-spec =
+pub leaf_values_spec : {M : Type 1} → statement M
+leaf_values_spec =
     tie.close (tie.spec returns returns-2 cast-whole-extremes whole-extremes-requires returns-3)

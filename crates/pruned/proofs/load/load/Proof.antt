@@ -2,176 +2,176 @@
 use Prim.Native.Nat.{◌+◌, ◌*◌, ◌-◌}
 use native.Mathlib.Omega.{arith}
 use mathlib.Core.Path.{sym, ◌∙◌}
-use mathlib.Core.Logic.{⊎_elim}
 use lib.ListN.{length}
 use Rattle.pruned.specs.Loading.{Loading}
 use Rattle.pruned.proofs.Loadings.{Loads, loads_start, place_few, inside, word_small, leaf_word, leaf_room, leaf_storable, loads_leaf, join_room}
 use Rattle.pruned.proofs.Loadings.{joining_job, loads_join, loads_end}
 use Rattle.pruned.proofs.load.load.Statement.{statement}
+use Rattle.pruned.proofs.load.load.Lts.{then-is_operator, else-is_operator}
 use Rattle.pruned.proofs.load.load.Tie as tie
 use Rattle.csg.proofs.is_operator.Reads as is-operator-reads
 use Rattle.pruned.proofs.load.leaf_values.Reads as leaf-values-reads
 use Rattle.pruned.proofs.load.load_operator.Reads as load-operator-reads
 use Rattle.pruned.proofs.prune.store_node.Reads as store-node-reads
 
-abbrev invariant-loop : tie.invariant-loop
+abbrev invariant-loop : tie.invariant-loop-i
 invariant-loop axes rows side words work₀ from starts₀ pending₀ i₀ work starts pending i =
     (job : Loading axes rows side words work₀ from starts₀) → Loads job work starts pending i
 
-abbrev decreases-loop : tie.decreases-loop
+abbrev decreases-loop : tie.decreases-loop-i
 decreases-loop axes rows side words work₀ from starts₀ pending₀ i₀ work starts pending i = length words - i
 
-loop-holds : tie.Need-loop-init invariant-loop decreases-loop
+loop-holds : tie.Need-loop-i-init invariant-loop decreases-loop
 loop-holds c = λ job. loads_start job
 
-mul-word : tie.Need-overflow-mul-word invariant-loop decreases-loop
+mul-word : tie.Need-offset_bounds-words-i invariant-loop decreases-loop
 mul-word c =
-    let j = c.before.before.before.requires in
-    omega (arith, place_few j (c.before.loop.invariant j) c.loop-test.true)
+    let j = c.requires in
+    omega (arith, place_few j (c.loop-i.invariant j) c.loop-i-test.true)
 
-shared-slice-read-word : tie.Need-shared-slice-read-word invariant-loop decreases-loop
-shared-slice-read-word c = c.before.loop-test.true
+shared-slice-read-word : tie.Need-bounds-words-i invariant-loop decreases-loop
+shared-slice-read-word c = c.loop-i-test.true
 
-add_at : tie.Need-overflow-add-at invariant-loop decreases-loop
+add_at : tie.Need-overflow_add-at invariant-loop decreases-loop
 add_at c =
-    let j = c.before.before.before.before.requires in
-    let g = c.before.before.loop.invariant j in
-    let h = c.before.loop-test.true in
+    let j = c.requires in
+    let g = c.loop-i.invariant j in
+    let h = c.loop-i-test.true in
     omega (arith, inside j g h, g.long, j.bounded)
 
-is-operator-requires : tie.Need-is-operator-requires invariant-loop decreases-loop
+is-operator-requires : tie.Need-is_operator-requires invariant-loop decreases-loop
 is-operator-requires c κs = tt
 
-sub-start : tie.Need-overflow-sub-start invariant-loop decreases-loop
+sub-start : tie.Need-overflow_sub-start invariant-loop decreases-loop
 sub-start c =
-    let j = c.before.before.before.before.before.before.requires in
-    let g = c.before.before.before.before.loop.invariant j in
-    let h = c.before.before.before.loop-test.true in
-    let o = sym c.before.is-operator.ensures ∙ c.if1.true in
+    let j = c.requires in
+    let g = c.loop-i.invariant j in
+    let h = c.loop-i-test.true in
+    let o = sym c.is_operator.ensures ∙ c.if-is_operator.true in
     omega (arith, join_room j g h o)
 
-mul-start : tie.Need-overflow-mul-start invariant-loop decreases-loop
+mul-start : tie.Need-offset_bounds-starts-pending invariant-loop decreases-loop
 mul-start c =
-    let j = c.before.before.before.before.before.before.requires in
-    let g = c.before.before.before.before.loop.invariant j in
-    let h = c.before.before.before.loop-test.true in
-    let o = sym c.before.is-operator.ensures ∙ c.if1.true in
+    let j = c.requires in
+    let g = c.loop-i.invariant j in
+    let h = c.loop-i-test.true in
+    let o = sym c.is_operator.ensures ∙ c.if-is_operator.true in
     omega (arith, join_room j g h o)
 
-element-copy-out-start : tie.Need-element-copy-out-start invariant-loop decreases-loop
+element-copy-out-start : tie.Need-bounds-starts-pending invariant-loop decreases-loop
 element-copy-out-start c =
-    let j = c.before.before.before.before.before.before.requires in
-    let g = c.before.before.before.before.loop.invariant j in
-    let h = c.before.before.before.loop-test.true in
-    let o = sym c.before.is-operator.ensures ∙ c.if1.true in
+    let j = c.requires in
+    let g = c.loop-i.invariant j in
+    let h = c.loop-i-test.true in
+    let o = sym c.is_operator.ensures ∙ c.if-is_operator.true in
     omega (arith, join_room j g h o)
 
-load-operator-requires : tie.Need-load-operator-requires invariant-loop decreases-loop
+load-operator-requires : tie.Need-load_operator-requires invariant-loop decreases-loop
 load-operator-requires c κs =
-    let k = c.before.before in
-    let j = k.before.before.before.before.before.before.requires in
-    let g = k.before.before.before.before.loop.invariant j in
-    let h = k.before.before.before.loop-test.true in
-    let o = sym k.before.is-operator.ensures ∙ k.if1.true in
+    let k = c in
+    let j = k.requires in
+    let g = k.loop-i.invariant j in
+    let h = k.loop-i-test.true in
+    let o = sym k.is_operator.ensures ∙ k.if-is_operator.true in
     joining_job j g h o
 
-sub-pending : tie.Need-overflow-sub-pending invariant-loop decreases-loop
+sub-pending : tie.Need-overflow_sub-pending invariant-loop decreases-loop
 sub-pending c =
-    let k = c.before.before.before.before in
-    let j = k.before.before.before.before.before.before.requires in
-    let g = k.before.before.before.before.loop.invariant j in
-    let h = k.before.before.before.loop-test.true in
-    let o = sym k.before.is-operator.ensures ∙ k.if1.true in
+    let k = c in
+    let j = k.requires in
+    let g = k.loop-i.invariant j in
+    let h = k.loop-i-test.true in
+    let o = sym k.is_operator.ensures ∙ k.if-is_operator.true in
     omega (arith, join_room j g h o)
 
-leaf-values-requires : tie.Need-leaf-values-requires invariant-loop decreases-loop
+leaf-values-requires : tie.Need-leaf_values-values-requires invariant-loop decreases-loop
 leaf-values-requires c κs =
     let k = c in
-    let j = k.before.before.before.before.before.before.requires in
-    let g = k.before.before.before.before.loop.invariant j in
-    let h = k.before.before.before.loop-test.true in
-    let o = sym k.before.is-operator.ensures ∙ k.if1.false in
+    let j = k.requires in
+    let g = k.loop-i.invariant j in
+    let h = k.loop-i-test.true in
+    let o = sym k.is_operator.ensures ∙ k.if-is_operator.false in
     leaf_word j g h o
 
-cast-store-node : tie.Need-overflow-cast-store-node invariant-loop decreases-loop
+cast-store-node : tie.Need-overflow_cast-word invariant-loop decreases-loop
 cast-store-node c =
-    let k = c.before.before in
-    let j = k.before.before.before.before.before.before.requires in
-    let g = k.before.before.before.before.loop.invariant j in
-    let h = k.before.before.before.loop-test.true in
-    let o = sym k.before.is-operator.ensures ∙ k.if1.false in
+    let k = c in
+    let j = k.requires in
+    let g = k.loop-i.invariant j in
+    let h = k.loop-i-test.true in
+    let o = sym k.is_operator.ensures ∙ k.if-is_operator.false in
     omega (arith, word_small j g h o)
 
-mul-store-node : tie.Need-overflow-mul-store-node invariant-loop decreases-loop
+mul-store-node : tie.Need-overflow_mul-word invariant-loop decreases-loop
 mul-store-node c =
-    let k = c.before.before in
-    let j = k.before.before.before.before.before.before.requires in
-    let g = k.before.before.before.before.loop.invariant j in
-    let h = k.before.before.before.loop-test.true in
-    let o = sym k.before.is-operator.ensures ∙ k.if1.false in
+    let k = c in
+    let j = k.requires in
+    let g = k.loop-i.invariant j in
+    let h = k.loop-i-test.true in
+    let o = sym k.is_operator.ensures ∙ k.if-is_operator.false in
     omega (arith, word_small j g h o)
 
-store-node-requires : tie.Need-store-node-requires invariant-loop decreases-loop
+store-node-requires : tie.Need-store_node-requires invariant-loop decreases-loop
 store-node-requires c κs =
-    let k = c.before.before.before.before in
-    let j = k.before.before.before.before.before.before.requires in
-    let g = k.before.before.before.before.loop.invariant j in
-    let h = k.before.before.before.loop-test.true in
-    let o = sym k.before.is-operator.ensures ∙ k.if1.false in
-    leaf_storable j g h o (c.before.before.before.leaf-values.ensures (leaf_word j g h o))
+    let k = c in
+    let j = k.requires in
+    let g = k.loop-i.invariant j in
+    let h = k.loop-i-test.true in
+    let o = sym k.is_operator.ensures ∙ k.if-is_operator.false in
+    leaf_storable j g h o (c.leaf_values-values.ensures (leaf_word j g h o))
 
-mul-starts : tie.Need-overflow-mul-starts invariant-loop decreases-loop
+mul-starts : tie.Need-offset_bounds-starts-pending-else-is_operator invariant-loop decreases-loop
 mul-starts c =
-    let k = c.before.before.before.before.before.before in
-    let j = k.before.before.before.before.before.before.requires in
-    let g = k.before.before.before.before.loop.invariant j in
-    let h = k.before.before.before.loop-test.true in
-    let o = sym k.before.is-operator.ensures ∙ k.if1.false in
+    let k = c in
+    let j = k.requires in
+    let g = k.loop-i.invariant j in
+    let h = k.loop-i-test.true in
+    let o = sym k.is_operator.ensures ∙ k.if-is_operator.false in
     omega (arith, leaf_room j g h o)
 
-element-write-starts : tie.Need-element-write-starts invariant-loop decreases-loop
+element-write-starts : tie.Need-bounds-starts-pending-else-is_operator invariant-loop decreases-loop
 element-write-starts c =
-    let k = c.before.before.before.before.before.before in
-    let j = k.before.before.before.before.before.before.requires in
-    let g = k.before.before.before.before.loop.invariant j in
-    let h = k.before.before.before.loop-test.true in
-    let o = sym k.before.is-operator.ensures ∙ k.if1.false in
+    let k = c in
+    let j = k.requires in
+    let g = k.loop-i.invariant j in
+    let h = k.loop-i-test.true in
+    let o = sym k.is_operator.ensures ∙ k.if-is_operator.false in
     omega (arith, leaf_room j g h o)
 
-add-pending : tie.Need-overflow-add-pending invariant-loop decreases-loop
+add-pending : tie.Need-overflow_add-pending invariant-loop decreases-loop
 add-pending c =
-    let k = c.before.before.before.before.before.before in
-    let j = k.before.before.before.before.before.before.requires in
-    let g = k.before.before.before.before.loop.invariant j in
-    let h = k.before.before.before.loop-test.true in
-    let o = sym k.before.is-operator.ensures ∙ k.if1.false in
+    let k = c in
+    let j = k.requires in
+    let g = k.loop-i.invariant j in
+    let h = k.loop-i-test.true in
+    let o = sym k.is_operator.ensures ∙ k.if-is_operator.false in
     omega (arith, leaf_room j g h o)
 
-add-i : tie.Need-overflow-add-i invariant-loop decreases-loop
+add-i : tie.Need-overflow_add-i invariant-loop decreases-loop
 add-i c =
-    let j = c.before.before.before.before.before.before.requires in
-    let g = c.before.before.before.before.loop.invariant j in
-    let h = c.before.before.before.loop-test.true in
+    let j = c.requires in
+    let g = c.loop-i.invariant j in
+    let h = c.loop-i-test.true in
     omega (arith, inside j g h, g.long, j.bounded)
 
-loop-less : tie.Need-loop-smaller invariant-loop decreases-loop
-loop-less c = omega (arith, c.before.before.before.loop-test.true)
+loop-less : tie.Need-loop-i-smaller invariant-loop decreases-loop
+loop-less c = omega (arith, c.loop-i-test.true)
 
-loop-again : tie.Need-loop-preserved invariant-loop decreases-loop
+loop-again : tie.Need-loop-i-preserved invariant-loop decreases-loop
 loop-again c =
-    let h = c.before.before.before.loop-test.true in
-    let e = c.before.is-operator.ensures in
-    λ j. let g = c.before.before.before.before.loop.invariant j in
-    ⊎_elim
-    (λ w. let o = sym e ∙ w.0.taken in rw (w.5, w.6, w.7) (loads_join j g h o (w.3.ensures (joining_job j g h o))))
-    (λ w. let o = sym e ∙ w.0.left in rw (w.7, w.8, w.9) (loads_leaf j g h o (w.1.ensures (leaf_word j g h o)) w.5.ensures))
-    c.if1.branch
+    let h = c.loop-i-test.true in
+    let e = c.is_operator.ensures in
+    λ j. let g = c.loop-i.invariant j in
+    elim c.if-is_operator.branch [
+      | then-is_operator w ↦ let o = sym e ∙ w.if-is_operator.true in rw (w.work-is, w.starts-is, w.pending-is) (loads_join j g h o (w.load_operator.ensures (joining_job j g h o)))
+      | else-is_operator w ↦ let o = sym e ∙ w.if-is_operator.false in rw (w.work-is, w.starts-is, w.pending-is) (loads_leaf j g h o (w.leaf_values-values.ensures (leaf_word j g h o)) w.store_node.ensures)
+    ]
 
-same_length : tie.Need-same-length invariant-loop decreases-loop
-same_length c = (c.before.loop.invariant c.before.before.before.requires).long
+same_length : tie.Need-shape_of-work invariant-loop decreases-loop
+same_length c = (c.loop-i.invariant c.requires).long
 
 returns : tie.Need-returns invariant-loop decreases-loop
-returns c = λ job. loads_end job (c.before.loop.invariant job) c.loop-test.false
+returns c = λ job. loads_end job (c.loop-i.invariant job) c.loop-i-test.false
 
 pub load_spec : {M : Type 1} → statement M
 load_spec =

@@ -6,38 +6,38 @@ use Rattle.pruned.proofs.load.load_operator.Statement.{statement}
 use Rattle.pruned.proofs.load.load_operator.Tie as tie
 
 turn-requires : tie.Need-turn-requires
-turn-requires c κs = turning_asks c.before.before.requires
+turn-requires c κs = turning_asks c.requires
 
-store-node-requires : tie.Need-store-node-requires
+store-node-requires : tie.Need-store_node-requires
 store-node-requires c κs =
-    let j = c.before.before.before.before.before.requires in
-    turned_storable j c.before.before.before.before.if1.true (c.before.before.turn.ensures (turning_asks j))
+    let j = c.requires in
+    turned_storable j c.if-word-eq-MINUS.true (c.turn.ensures (turning_asks j))
 
-same_length : tie.Need-same-length
+same_length : tie.Need-shape_of-work-then-word-eq-MINUS
 same_length c =
-    let j = c.before.before.before.before.before.before.before.requires in
-    let t = c.before.before.before.before.turn.ensures (turning_asks j) in
-    (joined_turned j c.before.before.before.before.before.before.if1.true t c.before.store-node.ensures).below.long
+    let j = c.requires in
+    let t = c.turn.ensures (turning_asks j) in
+    (joined_turned j c.if-word-eq-MINUS.true t c.store_node.ensures).below.long
 
-returns : tie.Need-returns
+returns : tie.Need-returns-then-word-eq-MINUS
 returns c =
-    λ j. let t = c.before.before.before.before.turn.ensures (turning_asks j) in
-    joined_turned j c.before.before.before.before.before.before.if1.true t c.before.store-node.ensures
+    λ j. let t = c.turn.ensures (turning_asks j) in
+    joined_turned j c.if-word-eq-MINUS.true t c.store_node.ensures
 
-mul-store-node : tie.Need-overflow-mul-store-node
+mul-store-node : tie.Need-overflow_mul-word
 mul-store-node c = search rules
 
-store-node-requires-2 : tie.Need-store-node-requires-2
-store-node-requires-2 c κs = plain_storable c.before.before.requires c.before.if1.false
+store-node-requires-2 : tie.Need-store_node-requires-2
+store-node-requires-2 c κs = plain_storable c.requires c.if-word-eq-MINUS.false
 
-same-length-2 : tie.Need-same-length-2
-same-length-2 c = (joined_plain c.before.before.before.before.requires c.before.before.before.if1.false c.before.store-node2.ensures).below.long
+same-length-2 : tie.Need-shape_of-work
+same-length-2 c = (joined_plain c.requires c.if-word-eq-MINUS.false c.store_node-2.ensures).below.long
 
-returns-2 : tie.Need-returns-2
-returns-2 c = λ j. joined_plain j c.before.before.before.if1.false c.before.store-node2.ensures
+returns-2 : tie.Need-returns
+returns-2 c = λ j. joined_plain j c.if-word-eq-MINUS.false c.store_node-2.ensures
 
-pub load-operator-spec : {M : Type 1} → statement M
-load-operator-spec =
+pub load_operator_spec : {M : Type 1} → statement M
+load_operator_spec =
     tie.close
     (tie.spec
     turn-requires

@@ -44,7 +44,7 @@ abbrev lone_halves_below : ℕ → In 3 lone-halves-kinds.ps
 lone_halves_below t =
     and 3 lone-halves-kinds.ps (falls 3 lone-halves-kinds.ps ◌<◌ μ_lone_halves t) lone-halves.Pre
 
-lone_block_extremes_code_requires : (t : ℕ) → lone-block-lts.Need-extremes-code-requires (
+lone_block_extremes_code_requires : (t : ℕ) → lone-block-lts.Need-extremes_code-requires (
   extremes-code-reads.Asked,
   extremes-code-reads.Learnt,
   lone-leaf-reads.Asked,
@@ -52,9 +52,9 @@ lone_block_extremes_code_requires : (t : ℕ) → lone-block-lts.Need-extremes-c
   lone_halves_below t,
   lone-halves.Post,
 ) (lone_block_at t) lone-block.Post
-lone_block_extremes_code_requires t c κs = values_small c.before.before.requires.1.lone
+lone_block_extremes_code_requires t c κs = values_small c.requires.1.lone
 
-lone_block_lone_leaf_requires : (t : ℕ) → lone-block-lts.Need-lone-leaf-requires (
+lone_block_lone_leaf_requires : (t : ℕ) → lone-block-lts.Need-lone_leaf-requires (
   extremes-code-reads.Asked,
   extremes-code-reads.Learnt,
   lone-leaf-reads.Asked,
@@ -62,9 +62,9 @@ lone_block_lone_leaf_requires : (t : ℕ) → lone-block-lts.Need-lone-leaf-requ
   lone_halves_below t,
   lone-halves.Post,
 ) (lone_block_at t) lone-block.Post
-lone_block_lone_leaf_requires t c κs = place_fits c.before.before.before.requires.1.asked
+lone_block_lone_leaf_requires t c κs = place_fits c.requires.1.asked
 
-lone_block_returns : (t : ℕ) → lone-block-lts.Need-returns (
+lone_block_returns : (t : ℕ) → lone-block-lts.Need-returns-then-left-eq0 (
   extremes-code-reads.Asked,
   extremes-code-reads.Learnt,
   lone-leaf-reads.Asked,
@@ -72,9 +72,9 @@ lone_block_returns : (t : ℕ) → lone-block-lts.Need-returns (
   lone_halves_below t,
   lone-halves.Post,
 ) (lone_block_at t) lone-block.Post
-lone_block_returns t c = λ job. centre_closed job c.before.before.if1.true c.before.extremes-code.ensures c.lone-leaf.ensures _ _
+lone_block_returns t c = λ job. centre_closed job c.if-left-eq0.true c.extremes_code.ensures c.lone_leaf.ensures _ _
 
-lone_block_lone_leaf_requires_2 : (t : ℕ) → lone-block-lts.Need-lone-leaf-requires-2 (
+lone_block_lone_leaf_requires_2 : (t : ℕ) → lone-block-lts.Need-lone_leaf-requires-then-least-ge0 (
   extremes-code-reads.Asked,
   extremes-code-reads.Learnt,
   lone-leaf-reads.Asked,
@@ -82,9 +82,9 @@ lone_block_lone_leaf_requires_2 : (t : ℕ) → lone-block-lts.Need-lone-leaf-re
   lone_halves_below t,
   lone-halves.Post,
 ) (lone_block_at t) lone-block.Post
-lone_block_lone_leaf_requires_2 t c κs = place_fits c.before.before.before.requires.1.asked
+lone_block_lone_leaf_requires_2 t c κs = place_fits c.requires.1.asked
 
-lone_block_returns_2 : (t : ℕ) → lone-block-lts.Need-returns-2 (
+lone_block_returns_2 : (t : ℕ) → lone-block-lts.Need-returns-then-least-ge0 (
   extremes-code-reads.Asked,
   extremes-code-reads.Learnt,
   lone-leaf-reads.Asked,
@@ -92,9 +92,9 @@ lone_block_returns_2 : (t : ℕ) → lone-block-lts.Need-returns-2 (
   lone_halves_below t,
   lone-halves.Post,
 ) (lone_block_at t) lone-block.Post
-lone_block_returns_2 t c = λ job. black_closed job c.before.before.if1.false c.before.if2.true c.lone-leaf2.ensures _ _
+lone_block_returns_2 t c = λ job. black_closed job c.if-left-eq0.false c.if-least-ge0.true c.lone_leaf-then-least-ge0.ensures _ _
 
-lone_block_lone_leaf_requires_3 : (t : ℕ) → lone-block-lts.Need-lone-leaf-requires-3 (
+lone_block_lone_leaf_requires_3 : (t : ℕ) → lone-block-lts.Need-lone_leaf-requires-then-greatest-le0 (
   extremes-code-reads.Asked,
   extremes-code-reads.Learnt,
   lone-leaf-reads.Asked,
@@ -102,9 +102,9 @@ lone_block_lone_leaf_requires_3 : (t : ℕ) → lone-block-lts.Need-lone-leaf-re
   lone_halves_below t,
   lone-halves.Post,
 ) (lone_block_at t) lone-block.Post
-lone_block_lone_leaf_requires_3 t c κs = place_fits c.before.before.before.before.requires.1.asked
+lone_block_lone_leaf_requires_3 t c κs = place_fits c.requires.1.asked
 
-lone_block_returns_3 : (t : ℕ) → lone-block-lts.Need-returns-3 (
+lone_block_returns_3 : (t : ℕ) → lone-block-lts.Need-returns-then-greatest-le0 (
   extremes-code-reads.Asked,
   extremes-code-reads.Learnt,
   lone-leaf-reads.Asked,
@@ -112,9 +112,9 @@ lone_block_returns_3 : (t : ℕ) → lone-block-lts.Need-returns-3 (
   lone_halves_below t,
   lone-halves.Post,
 ) (lone_block_at t) lone-block.Post
-lone_block_returns_3 t c = λ job. white_closed job c.before.before.before.if1.false c.before.before.if2.false c.before.if3.true c.lone-leaf3.ensures _ _
+lone_block_returns_3 t c = λ job. white_closed job c.if-left-eq0.false c.if-least-ge0.false c.if-greatest-le0.true c.lone_leaf-then-greatest-le0.ensures _ _
 
-lone_block_lone_halves_requires : (t : ℕ) → lone-block-lts.Need-lone-halves-requires (
+lone_block_lone_halves_requires : (t : ℕ) → lone-block-lts.Need-lone_halves-requires (
   extremes-code-reads.Asked,
   extremes-code-reads.Learnt,
   lone-leaf-reads.Asked,
@@ -122,12 +122,12 @@ lone_block_lone_halves_requires : (t : ℕ) → lone-block-lts.Need-lone-halves-
   lone_halves_below t,
   lone-halves.Post,
 ) (lone_block_at t) lone-block.Post
-lone_block_lone_halves_requires t c κs = let k = c.before.before.before.before.before.before in (
+lone_block_lone_halves_requires t c κs = let k = c in (
   omega (arith, k.requires.0),
-  open_asked k.requires.1 c.before.before.before.before.if1.false c.before.before.before.if2.false c.before.before.if3.false,
+  open_asked k.requires.1 c.if-left-eq0.false c.if-least-ge0.false c.if-greatest-le0.false,
 )
 
-lone_block_same_length : (t : ℕ) → lone-block-lts.Need-same-length (
+lone_block_same_length : (t : ℕ) → lone-block-lts.Need-shape_of-out (
   extremes-code-reads.Asked,
   extremes-code-reads.Learnt,
   lone-leaf-reads.Asked,
@@ -135,9 +135,9 @@ lone_block_same_length : (t : ℕ) → lone-block-lts.Need-same-length (
   lone_halves_below t,
   lone-halves.Post,
 ) (lone_block_at t) lone-block.Post
-lone_block_same_length t c = c.before.before.lone-halves.auto.1.1.1.1.1.1.1.0
+lone_block_same_length t c = c.lone_halves.auto.out
 
-lone_block_returns_4 : (t : ℕ) → lone-block-lts.Need-returns-4 (
+lone_block_returns_4 : (t : ℕ) → lone-block-lts.Need-returns (
   extremes-code-reads.Asked,
   extremes-code-reads.Learnt,
   lone-leaf-reads.Asked,
@@ -145,10 +145,10 @@ lone_block_returns_4 : (t : ℕ) → lone-block-lts.Need-returns-4 (
   lone_halves_below t,
   lone-halves.Post,
 ) (lone_block_at t) lone-block.Post
-lone_block_returns_4 t c = let x = c.before.before.before.before.before.before.before.if1.false in let y = c.before.before.before.before.before.before.if2.false in let z = c.before.before.before.before.before.if3.false in
-    λ job. open_done job x y z _ _ (c.before.before.lone-halves.ensures (open_asked job x y z))
+lone_block_returns_4 t c = let x = c.if-left-eq0.false in let y = c.if-least-ge0.false in let z = c.if-greatest-le0.false in
+    λ job. open_done job x y z _ _ (c.lone_halves.ensures (open_asked job x y z))
 
-lone_halves_sub_step : (t : ℕ) → lone-halves-lts.Need-overflow-sub-step (
+lone_halves_sub_step : (t : ℕ) → lone-halves-lts.Need-overflow_sub-step (
   moved-by-reads.Asked,
   moved-by-reads.Learnt,
   lone_block_below t,
@@ -156,9 +156,9 @@ lone_halves_sub_step : (t : ℕ) → lone-halves-lts.Need-overflow-sub-step (
   join-reads.Asked,
   join-reads.Learnt,
 ) (lone_halves_at t) lone-halves.Post
-lone_halves_sub_step t c = c.before.requires.1.asked.some
+lone_halves_sub_step t c = c.requires.1.asked.some
 
-lone_halves_mul_step : (t : ℕ) → lone-halves-lts.Need-overflow-mul-step (
+lone_halves_mul_step : (t : ℕ) → lone-halves-lts.Need-offset_bounds-steps-left (
   moved-by-reads.Asked,
   moved-by-reads.Learnt,
   lone_block_below t,
@@ -166,9 +166,9 @@ lone_halves_mul_step : (t : ℕ) → lone-halves-lts.Need-overflow-mul-step (
   join-reads.Asked,
   join-reads.Learnt,
 ) (lone_halves_at t) lone-halves.Post
-lone_halves_mul_step t c = omega (arith, level_fits c.before.requires.1)
+lone_halves_mul_step t c = omega (arith, level_fits c.requires.1)
 
-lone_halves_element_copy_out_step : (t : ℕ) → lone-halves-lts.Need-element-copy-out-step (
+lone_halves_element_copy_out_step : (t : ℕ) → lone-halves-lts.Need-bounds-steps-left (
   moved-by-reads.Asked,
   moved-by-reads.Learnt,
   lone_block_below t,
@@ -176,9 +176,9 @@ lone_halves_element_copy_out_step : (t : ℕ) → lone-halves-lts.Need-element-c
   join-reads.Asked,
   join-reads.Learnt,
 ) (lone_halves_at t) lone-halves.Post
-lone_halves_element_copy_out_step t c = level_fits c.before.requires.1
+lone_halves_element_copy_out_step t c = level_fits c.requires.1
 
-lone_halves_element_copy_out_looked : (t : ℕ) → lone-halves-lts.Need-element-copy-out-looked (
+lone_halves_element_copy_out_looked : (t : ℕ) → lone-halves-lts.Need-bounds-looked-0 (
   moved-by-reads.Asked,
   moved-by-reads.Learnt,
   lone_block_below t,
@@ -188,7 +188,7 @@ lone_halves_element_copy_out_looked : (t : ℕ) → lone-halves-lts.Need-element
 ) (lone_halves_at t) lone-halves.Post
 lone_halves_element_copy_out_looked t c = omega arith
 
-lone_halves_add_looked : (t : ℕ) → lone-halves-lts.Need-overflow-add-looked (
+lone_halves_add_looked : (t : ℕ) → lone-halves-lts.Need-overflow_add-looked (
   moved-by-reads.Asked,
   moved-by-reads.Learnt,
   lone_block_below t,
@@ -196,9 +196,9 @@ lone_halves_add_looked : (t : ℕ) → lone-halves-lts.Need-overflow-add-looked 
   join-reads.Asked,
   join-reads.Learnt,
 ) (lone_halves_at t) lone-halves.Post
-lone_halves_add_looked t c = omega (arith, tally_fits c.before.before.before.requires.1)
+lone_halves_add_looked t c = omega (arith, tally_fits c.requires.1)
 
-lone_halves_element_write_looked : (t : ℕ) → lone-halves-lts.Need-element-write-looked (
+lone_halves_element_write_looked : (t : ℕ) → lone-halves-lts.Need-bounds-looked-0-2 (
   moved-by-reads.Asked,
   moved-by-reads.Learnt,
   lone_block_below t,
@@ -208,7 +208,7 @@ lone_halves_element_write_looked : (t : ℕ) → lone-halves-lts.Need-element-wr
 ) (lone_halves_at t) lone-halves.Post
 lone_halves_element_write_looked t c = omega arith
 
-lone_halves_moved_by_requires : (t : ℕ) → lone-halves-lts.Need-moved-by-requires (
+lone_halves_moved_by_requires : (t : ℕ) → lone-halves-lts.Need-moved_by-lower-requires (
   moved-by-reads.Asked,
   moved-by-reads.Learnt,
   lone_block_below t,
@@ -216,9 +216,9 @@ lone_halves_moved_by_requires : (t : ℕ) → lone-halves-lts.Need-moved-by-requ
   join-reads.Asked,
   join-reads.Learnt,
 ) (lone_halves_at t) lone-halves.Post
-lone_halves_moved_by_requires t c κs = moves_asked c.before.before.before.requires.1
+lone_halves_moved_by_requires t c κs = moves_asked c.requires.1
 
-lone_halves_sub_lone_block : (t : ℕ) → lone-halves-lts.Need-overflow-sub-lone-block (
+lone_halves_sub_lone_block : (t : ℕ) → lone-halves-lts.Need-overflow_sub-left (
   moved-by-reads.Asked,
   moved-by-reads.Learnt,
   lone_block_below t,
@@ -226,9 +226,9 @@ lone_halves_sub_lone_block : (t : ℕ) → lone-halves-lts.Need-overflow-sub-lon
   join-reads.Asked,
   join-reads.Learnt,
 ) (lone_halves_at t) lone-halves.Post
-lone_halves_sub_lone_block t c = c.before.before.before.before.requires.1.asked.some
+lone_halves_sub_lone_block t c = c.requires.1.asked.some
 
-lone_halves_add_lone_block : (t : ℕ) → lone-halves-lts.Need-overflow-add-lone-block (
+lone_halves_add_lone_block : (t : ℕ) → lone-halves-lts.Need-overflow_add-at (
   moved-by-reads.Asked,
   moved-by-reads.Learnt,
   lone_block_below t,
@@ -236,9 +236,9 @@ lone_halves_add_lone_block : (t : ℕ) → lone-halves-lts.Need-overflow-add-lon
   join-reads.Asked,
   join-reads.Learnt,
 ) (lone_halves_at t) lone-halves.Post
-lone_halves_add_lone_block t c = omega (arith, c.before.before.before.before.before.before.requires.1.asked.fits)
+lone_halves_add_lone_block t c = omega (arith, c.requires.1.asked.fits)
 
-lone_halves_lone_block_requires : (t : ℕ) → lone-halves-lts.Need-lone-block-requires (
+lone_halves_lone_block_requires : (t : ℕ) → lone-halves-lts.Need-lone_block-below-requires (
   moved-by-reads.Asked,
   moved-by-reads.Learnt,
   lone_block_below t,
@@ -246,16 +246,16 @@ lone_halves_lone_block_requires : (t : ℕ) → lone-halves-lts.Need-lone-block-
   join-reads.Asked,
   join-reads.Learnt,
 ) (lone_halves_at t) lone-halves.Post
-lone_halves_lone_block_requires t c κs = let k = c.before.before.before.before.before.before.before.before in (
+lone_halves_lone_block_requires t c κs = let k = c in (
   omega (
     arith,
     k.requires.0,
     k.requires.1.asked.some,
   ),
-  lower_part_lem k.requires.1 c.before.before.before.before.moved_by.ensures,
+  lower_part_lem k.requires.1 c.moved_by-lower.ensures,
 )
 
-lone_halves_moved_by_requires_2 : (t : ℕ) → lone-halves-lts.Need-moved-by-requires-2 (
+lone_halves_moved_by_requires_2 : (t : ℕ) → lone-halves-lts.Need-moved_by-upper-requires (
   moved-by-reads.Asked,
   moved-by-reads.Learnt,
   lone_block_below t,
@@ -263,9 +263,9 @@ lone_halves_moved_by_requires_2 : (t : ℕ) → lone-halves-lts.Need-moved-by-re
   join-reads.Asked,
   join-reads.Learnt,
 ) (lone_halves_at t) lone-halves.Post
-lone_halves_moved_by_requires_2 t c κs = moves_asked c.before.before.before.before.before.before.before.before.before.before.before.requires.1
+lone_halves_moved_by_requires_2 t c κs = moves_asked c.requires.1
 
-lone_halves_sub_lone_block_2 : (t : ℕ) → lone-halves-lts.Need-overflow-sub-lone-block-2 (
+lone_halves_sub_lone_block_2 : (t : ℕ) → lone-halves-lts.Need-overflow_sub-left-2 (
   moved-by-reads.Asked,
   moved-by-reads.Learnt,
   lone_block_below t,
@@ -273,9 +273,9 @@ lone_halves_sub_lone_block_2 : (t : ℕ) → lone-halves-lts.Need-overflow-sub-l
   join-reads.Asked,
   join-reads.Learnt,
 ) (lone_halves_at t) lone-halves.Post
-lone_halves_sub_lone_block_2 t c = c.before.before.before.before.before.before.before.before.before.before.before.before.requires.1.asked.some
+lone_halves_sub_lone_block_2 t c = c.requires.1.asked.some
 
-lone_halves_lone_block_requires_2 : (t : ℕ) → lone-halves-lts.Need-lone-block-requires-2 (
+lone_halves_lone_block_requires_2 : (t : ℕ) → lone-halves-lts.Need-lone_block-above-requires (
   moved-by-reads.Asked,
   moved-by-reads.Learnt,
   lone_block_below t,
@@ -283,13 +283,13 @@ lone_halves_lone_block_requires_2 : (t : ℕ) → lone-halves-lts.Need-lone-bloc
   join-reads.Asked,
   join-reads.Learnt,
 ) (lone_halves_at t) lone-halves.Post
-lone_halves_lone_block_requires_2 t c κs = let k = c.before.before.before.before.before.before.before.before.before.before.before.before.before.before.before.before in let e = c.before.before.before.before.before.before.before.before.before.before.before.before.moved_by.ensures in (
-  omega (arith, k.pre.0, k.pre.1.asked.some),
-  upper_part_lem k.pre.1 e _ _ (c.before.before.before.before.before.before.before.lone-block.ensures
-      (lower_part_lem k.pre.1 e)) c.before.before.before.before.moved-by2.ensures,
+lone_halves_lone_block_requires_2 t c κs = let k = c in let e = c.moved_by-lower.ensures in (
+  omega (arith, k.requires.0, k.requires.1.asked.some),
+  upper_part_lem k.requires.1 e _ _ (c.lone_block-below.ensures
+      (lower_part_lem k.requires.1 e)) c.moved_by-upper.ensures,
 )
 
-lone_halves_cast_join : (t : ℕ) → lone-halves-lts.Need-overflow-cast-join (
+lone_halves_cast_join : (t : ℕ) → lone-halves-lts.Need-overflow_cast-below (
   moved-by-reads.Asked,
   moved-by-reads.Learnt,
   lone_block_below t,
@@ -299,7 +299,7 @@ lone_halves_cast_join : (t : ℕ) → lone-halves-lts.Need-overflow-cast-join (
 ) (lone_halves_at t) lone-halves.Post
 lone_halves_cast_join t c = omega arith
 
-lone_halves_cast_join_2 : (t : ℕ) → lone-halves-lts.Need-overflow-cast-join-2 (
+lone_halves_cast_join_2 : (t : ℕ) → lone-halves-lts.Need-overflow_cast-above (
   moved-by-reads.Asked,
   moved-by-reads.Learnt,
   lone_block_below t,
@@ -317,10 +317,10 @@ lone_halves_join_requires : (t : ℕ) → lone-halves-lts.Need-join-requires (
   join-reads.Asked,
   join-reads.Learnt,
 ) (lone_halves_at t) lone-halves.Post
-lone_halves_join_requires t c κs = let e = c.before.before.before.before.before.before.before.before.before.before.before.before.before.before.before.before.moved_by.ensures in let f = c.before.before.before.before.before.before.before.before.moved-by2.ensures in let l = c.before.before.before.before.before.before.before.before.before.before.before.lone-block.ensures in let u = c.before.before.before.lone-block2.ensures in
-    let j = c.before.before.before.before.before.before.before.before.before.before.before.before.before.before.before.before.before.before.before.before.requires.1 in join_asked j e _ _ (l (lower_part_lem j e)) f (u (upper_part_lem j e _ _ (l (lower_part_lem j e)) f))
+lone_halves_join_requires t c κs = let e = c.moved_by-lower.ensures in let f = c.moved_by-upper.ensures in let l = c.lone_block-below.ensures in let u = c.lone_block-above.ensures in
+    let j = c.requires.1 in join_asked j e _ _ (l (lower_part_lem j e)) f (u (upper_part_lem j e _ _ (l (lower_part_lem j e)) f))
 
-lone_halves_same_length : (t : ℕ) → lone-halves-lts.Need-same-length (
+lone_halves_same_length : (t : ℕ) → lone-halves-lts.Need-shape_of-out (
   moved-by-reads.Asked,
   moved-by-reads.Learnt,
   lone_block_below t,
@@ -328,7 +328,7 @@ lone_halves_same_length : (t : ℕ) → lone-halves-lts.Need-same-length (
   join-reads.Asked,
   join-reads.Learnt,
 ) (lone_halves_at t) lone-halves.Post
-lone_halves_same_length t c = c.before.before.join.auto.1.0 ∙ c.before.before.before.before.before.before.lone-block2.auto.1.1.1.1.1.1.1.0 ∙ c.before.before.before.before.before.before.before.before.before.before.before.before.before.before.lone-block.auto.1.1.1.1.1.1.1.0
+lone_halves_same_length t c = c.join.auto.out ∙ c.lone_block-above.auto.out ∙ c.lone_block-below.auto.out
 
 lone_halves_returns : (t : ℕ) → lone-halves-lts.Need-returns (
   moved-by-reads.Asked,
@@ -338,11 +338,11 @@ lone_halves_returns : (t : ℕ) → lone-halves-lts.Need-returns (
   join-reads.Asked,
   join-reads.Learnt,
 ) (lone_halves_at t) lone-halves.Post
-lone_halves_returns t c = let e = c.before.before.before.before.before.before.before.before.before.before.before.before.before.before.before.before.before.before.before.moved_by.ensures in let f = c.before.before.before.before.before.before.before.before.before.before.before.moved-by2.ensures in let l = c.before.before.before.before.before.before.before.before.before.before.before.before.before.before.lone-block.ensures in let u = c.before.before.before.before.before.before.lone-block2.ensures in
-    let o = c.before.before.join.ensures in λ j. parts_done j e _ _ (l (lower_part_lem j e)) f (u (upper_part_lem j e _ _ (l (lower_part_lem j e)) f)) o.0 o.1
+lone_halves_returns t c = let e = c.moved_by-lower.ensures in let f = c.moved_by-upper.ensures in let l = c.lone_block-below.ensures in let u = c.lone_block-above.ensures in
+    let o = c.join.ensures in λ j. parts_done j e _ _ (l (lower_part_lem j e)) f (u (upper_part_lem j e _ _ (l (lower_part_lem j e)) f)) o.0 o.1
 
-pub +lone-block-lone-halves-spec : {M : Type 1} → statement M
-+lone-block-lone-halves-spec = close μ_lone_block μ_lone_halves (λ t. lone-block-lts.spec (
+pub +lone_block_lone_halves_spec : {M : Type 1} → statement M
++lone_block_lone_halves_spec = close μ_lone_block μ_lone_halves (λ t. lone-block-lts.spec (
   extremes-code-reads.Asked,
   extremes-code-reads.Learnt,
   lone-leaf-reads.Asked,

@@ -9,54 +9,54 @@ use Rattle.pruned.proofs.lone.lone_halves.Reads as lone-halves-reads
 use Rattle.pruned.proofs.lone.set_steps.Reads as set-steps-reads
 use Rattle.pruned.proofs.prune.code_at.Reads as code-at-reads
 
-code-at-requires : tie.Need-code-at-requires
-code-at-requires c κs = lone_code c.before.requires.halves refl
+code-at-requires : tie.Need-code_at-code-requires
+code-at-requires c κs = lone_code c.requires.halves refl
 
-mul-least : tie.Need-overflow-mul-least
+mul-least : tie.Need-overflow_mul-least
 mul-least c = search rules
 
-add-least : tie.Need-overflow-add-least
+add-least : tie.Need-overflow_add-least
 add-least c = search rules
 
-mul-least-2 : tie.Need-overflow-mul-least-2
+mul-least-2 : tie.Need-offset_bounds-work-from
 mul-least-2 c = search rules
 
-shared-slice-copy-out-least : tie.Need-shared-slice-copy-out-least
+shared-slice-copy-out-least : tie.Need-bounds-work-from
 shared-slice-copy-out-least c = search rules
 
-mul-greatest : tie.Need-overflow-mul-greatest
+mul-greatest : tie.Need-overflow_mul-greatest
 mul-greatest c = search rules
 
-add-greatest : tie.Need-overflow-add-greatest
+add-greatest : tie.Need-overflow_add-greatest
 add-greatest c = search rules
 
-mul-greatest-2 : tie.Need-overflow-mul-greatest-2
+mul-greatest-2 : tie.Need-offset_bounds-work-from-2
 mul-greatest-2 c = search rules
 
-shared-slice-copy-out-greatest : tie.Need-shared-slice-copy-out-greatest
+shared-slice-copy-out-greatest : tie.Need-bounds-work-from-2
 shared-slice-copy-out-greatest c = search rules
 
-sub_row : tie.Need-overflow-sub-row
+sub_row : tie.Need-overflow_sub-row
 sub_row c = search rules
 
-set-steps-requires : tie.Need-set-steps-requires
-set-steps-requires c κs = (steps_asked c.before.before.before.before.before.requires c.before.before.before.code_at.ensures, refl)
+set-steps-requires : tie.Need-set_steps-requires
+set-steps-requires c κs = (steps_asked c.requires c.code_at-code.ensures, refl)
 
-is-turned-requires : tie.Need-is-turned-requires
+is-turned-requires : tie.Need-is_turned-requires
 is-turned-requires c κs = search rules
 
-lone-halves-requires : tie.Need-lone-halves-requires
-lone-halves-requires c κs = halves_asked c.before.before.before.before.before.before.before.before.before.before.requires c.before.before.before.before.before.before.before.before.code_at.ensures c.before.before.is_turned.ensures c.before.before.before.before.set_steps.ensures
+lone-halves-requires : tie.Need-lone_halves-requires
+lone-halves-requires c κs = halves_asked c.requires c.code_at-code.ensures c.is_turned.ensures c.set_steps.ensures
 
-same_length : tie.Need-same-length
+same_length : tie.Need-shape_of-out
 same_length c = search rules
 
 returns : tie.Need-returns
-returns c = let x = c.before.before.before.before.before.before.before.before.before.before.before.code_at.ensures in let y = c.before.before.before.before.before.is_turned.ensures in let z = c.before.before.before.before.before.before.before.set_steps.ensures in
-    λ job. lone_laid job x y z _ _ (c.before.before.lone-halves.ensures (halves_asked job x y z))
+returns c = let x = c.code_at-code.ensures in let y = c.is_turned.ensures in let z = c.set_steps.ensures in
+    λ job. lone_laid job x y z _ _ (c.lone_halves.ensures (halves_asked job x y z))
 
-pub lay-lone-spec : {M : Type 1} → statement M
-lay-lone-spec =
+pub lay_lone_spec : {M : Type 1} → statement M
+lay_lone_spec =
     tie.close
     (tie.spec
     code-at-requires

@@ -8,29 +8,29 @@ use Rattle.pruned.proofs.lone.lone_leaf.Tie as tie
 use Rattle.pruned.proofs.lay.symbol_of.Reads as symbol-of-reads
 use Rattle.pruned.proofs.marks.turned_code.Reads as turned-code-reads
 
-add-result : tie.Need-overflow-add-result
+add-result : tie.Need-overflow_add-result
 add-result c = search rules
 
-mul-result : tie.Need-overflow-mul-result
+mul-result : tie.Need-overflow_mul-result
 mul-result c = search rules
 
-turned-code-requires : tie.Need-turned-code-requires
+turned-code-requires : tie.Need-turned_code-requires
 turned-code-requires c κs = search rules
 
-symbol-of-requires : tie.Need-symbol-of-requires
+symbol-of-requires : tie.Need-symbol_of-requires
 symbol-of-requires c κs = search rules
 
-cast-result : tie.Need-overflow-cast-result
+cast-result : tie.Need-overflow_cast-result
 cast-result c = search rules
 
-add-result-2 : tie.Need-overflow-add-result-2
-add-result-2 c = omega (arith, c.before.before.requires, c.symbol-of.ensures, symbol_few c.before.turned-code.result)
+add-result-2 : tie.Need-overflow_add-result-2
+add-result-2 c = omega (arith, c.requires, c.symbol_of.ensures, symbol_few c.turned_code.result)
 
 returns : tie.Need-returns
-returns c = rw (c.symbol-of.ensures, c.before.turned-code.ensures) refl
+returns c = rw (c.symbol_of.ensures, c.turned_code.ensures) refl
 
-pub lone-leaf-spec : {M : Type 1} → statement M
-lone-leaf-spec =
+pub lone_leaf_spec : {M : Type 1} → statement M
+lone_leaf_spec =
     tie.close
     (tie.spec
     add-result

@@ -7,52 +7,52 @@ use Rattle.pruned.proofs.pair.pair_of_ball.Reads as pair-of-ball-reads
 use Rattle.pruned.proofs.pair.pair_of_row.Reads as pair-of-row-reads
 use Rattle.pruned.proofs.pair.turned_pair.Reads as turned-pair-reads
 
-returns : tie.Need-returns
-returns c = λ j. white_pair j c.if1.true
+returns : tie.Need-returns-then-code-eq0
+returns c = λ j. white_pair j c.if-code-eq0.true
 
-returns-2 : tie.Need-returns-2
-returns-2 c = λ j. black_pair j c.if2.true c.before.if1.false
+returns-2 : tie.Need-returns-then-code-lt-FIRST_SIDE
+returns-2 c = λ j. black_pair j c.if-code-lt-FIRST_SIDE.true c.if-code-eq0.false
 
-mul-coefficient : tie.Need-overflow-mul-coefficient
+mul-coefficient : tie.Need-overflow_mul-coefficient
 mul-coefficient c = search rules
 
-add-coefficient : tie.Need-overflow-add-coefficient
+add-coefficient : tie.Need-overflow_add-coefficient
 add-coefficient c = search rules
 
-add-coefficient-2 : tie.Need-overflow-add-coefficient-2
+add-coefficient-2 : tie.Need-overflow_add-coefficient-then-code-lt-FIRST_BALL_SIDE
 add-coefficient-2 c = search rules
 
-mul-coefficient-2 : tie.Need-overflow-mul-coefficient-2
+mul-coefficient-2 : tie.Need-offset_bounds-rows-row
 mul-coefficient-2 c = search rules
 
-shared-slice-copy-out-coefficient : tie.Need-shared-slice-copy-out-coefficient
-shared-slice-copy-out-coefficient c = pair_row_in c.before.before.before.requires c.before.if2.false c.if3.true
+shared-slice-copy-out-coefficient : tie.Need-bounds-rows-row
+shared-slice-copy-out-coefficient c = pair_row_in c.requires c.if-code-lt-FIRST_SIDE.false c.if-code-lt-FIRST_BALL_SIDE.true
 
-pair-of-row-requires : tie.Need-pair-of-row-requires
-pair-of-row-requires c κs = let d = c.before in pair_row_asks d.before.before.before.requires d.before.if2.false d.if3.true
+pair-of-row-requires : tie.Need-pair_of_row-pair-requires
+pair-of-row-requires c κs = let d = c in pair_row_asks d.requires d.if-code-lt-FIRST_SIDE.false d.if-code-lt-FIRST_BALL_SIDE.true
 
-turned-pair-requires : tie.Need-turned-pair-requires
-turned-pair-requires c κs = let d = c.before.before in
-    row_few d.before.before.before.requires d.before.if2.false d.if3.true c.pair-of-row.ensures
+turned-pair-requires : tie.Need-turned_pair-requires
+turned-pair-requires c κs = let d = c in
+    row_few d.requires d.if-code-lt-FIRST_SIDE.false d.if-code-lt-FIRST_BALL_SIDE.true c.pair_of_row-pair.ensures
 
-returns-3 : tie.Need-returns-3
-returns-3 c = let d = c.before.before.before in
-    λ j. row_leaf_pair j d.before.if2.false d.if3.true c.before.pair-of-row.ensures c.Turned-pair.ensures
+returns-3 : tie.Need-returns-then-code-lt-FIRST_BALL_SIDE
+returns-3 c = let d = c in
+    λ j. row_leaf_pair j d.if-code-lt-FIRST_SIDE.false d.if-code-lt-FIRST_BALL_SIDE.true c.pair_of_row-pair.ensures c.turned_pair.ensures
 
-sub-pair-of-ball : tie.Need-overflow-sub-pair-of-ball
+sub-pair-of-ball : tie.Need-overflow_sub-axes
 sub-pair-of-ball c = search rules
 
-pair-of-ball-requires : tie.Need-pair-of-ball-requires
-pair-of-ball-requires c κs = pair_ball_asks c.before.before.before.requires c.if3.false
+pair-of-ball-requires : tie.Need-pair_of_ball-pair-requires
+pair-of-ball-requires c κs = pair_ball_asks c.requires c.if-code-lt-FIRST_BALL_SIDE.false
 
-turned-pair-requires-2 : tie.Need-turned-pair-requires-2
-turned-pair-requires-2 c κs = let d = c.before in ball_few d.before.before.before.requires d.if3.false c.pair-of-ball.ensures
+turned-pair-requires-2 : tie.Need-turned_pair-requires-2
+turned-pair-requires-2 c κs = let d = c in ball_few d.requires d.if-code-lt-FIRST_BALL_SIDE.false c.pair_of_ball-pair.ensures
 
-returns-4 : tie.Need-returns-4
-returns-4 c = λ j. ball_leaf_pair j c.before.before.if3.false c.before.pair-of-ball.ensures c.turned-pair2.ensures
+returns-4 : tie.Need-returns
+returns-4 c = λ j. ball_leaf_pair j c.if-code-lt-FIRST_BALL_SIDE.false c.pair_of_ball-pair.ensures c.turned_pair-2.ensures
 
-pub pair-of-leaf-spec : {M : Type 1} → statement M
-pair-of-leaf-spec =
+pub pair_of_leaf_spec : {M : Type 1} → statement M
+pair_of_leaf_spec =
     tie.close
     (tie.spec
     returns

@@ -5,26 +5,26 @@ use Rattle.pruned.proofs.pair.whole_pair.Statement.{statement}
 use Rattle.pruned.proofs.pair.whole_pair.Tie as tie
 use Rattle.pruned.proofs.pair.joined_pair.Reads as joined-pair-reads
 
-element-copy-out-joined-pair : tie.Need-element-copy-out-joined-pair
+element-copy-out-joined-pair : tie.Need-bounds-pairs-0
 element-copy-out-joined-pair c = search rules
 
-element-copy-out-joined-pair-2 : tie.Need-element-copy-out-joined-pair-2
+element-copy-out-joined-pair-2 : tie.Need-bounds-pairs-1
 element-copy-out-joined-pair-2 c = search rules
 
-joined-pair-requires : tie.Need-joined-pair-requires
+joined-pair-requires : tie.Need-joined_pair-requires
 joined-pair-requires c κs = search rules
 
-returns : tie.Need-returns
-returns c = rw (eq-eqb _ 2 c.before.before.before.if1.true) c.joined-pair.ensures
+returns : tie.Need-returns-then-pending-eq2
+returns c = rw (eq-eqb _ 2 c.if-pending-eq2.true) c.joined_pair.ensures
 
-element-copy-out-result : tie.Need-element-copy-out-result
+element-copy-out-result : tie.Need-bounds-pairs-0-2
 element-copy-out-result c = search rules
 
-returns-2 : tie.Need-returns-2
-returns-2 c = rw (ne_eqb _ 2 c.before.if1.false)
+returns-2 : tie.Need-returns
+returns-2 c = rw (ne_eqb _ 2 c.if-pending-eq2.false)
 
-pub whole-pair-spec : {M : Type 1} → statement M
-whole-pair-spec =
+pub whole_pair_spec : {M : Type 1} → statement M
+whole_pair_spec =
     tie.close
     (tie.spec
     element-copy-out-joined-pair

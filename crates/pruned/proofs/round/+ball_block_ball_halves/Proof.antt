@@ -44,7 +44,7 @@ abbrev ball_halves_below : ℕ → In 6 ball-halves-kinds.ps
 ball_halves_below t =
     and 6 ball-halves-kinds.ps (falls 6 ball-halves-kinds.ps ◌<◌ μ_ball_halves t) ball_halves.Pre
 
-ball_block_code_at_voxel_requires : (t : ℕ) → ball-block-lts.Need-code-at-voxel-requires (
+ball_block_code_at_voxel_requires : (t : ℕ) → ball-block-lts.Need-code_at_voxel-requires (
   code-at-voxel-reads.Asked,
   code-at-voxel-reads.Learnt,
   lone-leaf-reads.Asked,
@@ -54,9 +54,9 @@ ball_block_code_at_voxel_requires : (t : ℕ) → ball-block-lts.Need-code-at-vo
   ball_halves_below t,
   ball_halves.Post,
 ) (ball_block_at t) ball-block.Post
-ball_block_code_at_voxel_requires t c κs = ball_ready c.before.before.before.requires.1.lone
+ball_block_code_at_voxel_requires t c κs = ball_ready c.requires.1.lone
 
-ball_block_lone_leaf_requires : (t : ℕ) → ball-block-lts.Need-lone-leaf-requires (
+ball_block_lone_leaf_requires : (t : ℕ) → ball-block-lts.Need-lone_leaf-requires (
   code-at-voxel-reads.Asked,
   code-at-voxel-reads.Learnt,
   lone-leaf-reads.Asked,
@@ -66,9 +66,9 @@ ball_block_lone_leaf_requires : (t : ℕ) → ball-block-lts.Need-lone-leaf-requ
   ball_halves_below t,
   ball_halves.Post,
 ) (ball_block_at t) ball-block.Post
-ball_block_lone_leaf_requires t c κs = place_fits c.before.before.before.before.requires.1.asked
+ball_block_lone_leaf_requires t c κs = place_fits c.requires.1.asked
 
-ball_block_returns : (t : ℕ) → ball-block-lts.Need-returns (
+ball_block_returns : (t : ℕ) → ball-block-lts.Need-returns-then-left-eq0 (
   code-at-voxel-reads.Asked,
   code-at-voxel-reads.Learnt,
   lone-leaf-reads.Asked,
@@ -78,9 +78,9 @@ ball_block_returns : (t : ℕ) → ball-block-lts.Need-returns (
   ball_halves_below t,
   ball_halves.Post,
 ) (ball_block_at t) ball-block.Post
-ball_block_returns t c = λ job. voxel_closed job c.before.before.before.if1.true c.before.code-at-voxel.ensures c.lone-leaf.ensures _ _
+ball_block_returns t c = λ job. voxel_closed job c.if-left-eq0.true c.code_at_voxel.ensures c.lone_leaf.ensures _ _
 
-ball_block_code_over_block_requires : (t : ℕ) → ball-block-lts.Need-code-over-block-requires (
+ball_block_code_over_block_requires : (t : ℕ) → ball-block-lts.Need-code_over_block-bits-requires (
   code-at-voxel-reads.Asked,
   code-at-voxel-reads.Learnt,
   lone-leaf-reads.Asked,
@@ -90,9 +90,9 @@ ball_block_code_over_block_requires : (t : ℕ) → ball-block-lts.Need-code-ove
   ball_halves_below t,
   ball_halves.Post,
 ) (ball_block_at t) ball-block.Post
-ball_block_code_over_block_requires t c κs = let l = c.before.before.before.before.requires.1.lone in (ball_ready l, sides_ready l)
+ball_block_code_over_block_requires t c κs = let l = c.requires.1.lone in (ball_ready l, sides_ready l)
 
-ball_block_lone_leaf_requires_2 : (t : ℕ) → ball-block-lts.Need-lone-leaf-requires-2 (
+ball_block_lone_leaf_requires_2 : (t : ℕ) → ball-block-lts.Need-lone_leaf-requires-then-bits-ne0 (
   code-at-voxel-reads.Asked,
   code-at-voxel-reads.Learnt,
   lone-leaf-reads.Asked,
@@ -102,9 +102,9 @@ ball_block_lone_leaf_requires_2 : (t : ℕ) → ball-block-lts.Need-lone-leaf-re
   ball_halves_below t,
   ball_halves.Post,
 ) (ball_block_at t) ball-block.Post
-ball_block_lone_leaf_requires_2 t c κs = place_fits c.before.before.before.before.before.before.requires.1.asked
+ball_block_lone_leaf_requires_2 t c κs = place_fits c.requires.1.asked
 
-ball_block_returns_2 : (t : ℕ) → ball-block-lts.Need-returns-2 (
+ball_block_returns_2 : (t : ℕ) → ball-block-lts.Need-returns-then-bits-ne0 (
   code-at-voxel-reads.Asked,
   code-at-voxel-reads.Learnt,
   lone-leaf-reads.Asked,
@@ -115,10 +115,10 @@ ball_block_returns_2 : (t : ℕ) → ball-block-lts.Need-returns-2 (
   ball_halves.Post,
 ) (ball_block_at t) ball-block.Post
 ball_block_returns_2 t c =
-    λ job. over_closed job c.before.before.before.before.before.if1.false c.before.before.code-over-block.ensures c.before.if2.true c.lone-leaf2.ensures
+    λ job. over_closed job c.if-left-eq0.false c.code_over_block-bits.ensures c.if-bits-ne0.true c.lone_leaf-then-bits-ne0.ensures
     _ _
 
-ball_block_ball_halves_requires : (t : ℕ) → ball-block-lts.Need-ball-halves-requires (
+ball_block_ball_halves_requires : (t : ℕ) → ball-block-lts.Need-ball_halves-requires (
   code-at-voxel-reads.Asked,
   code-at-voxel-reads.Learnt,
   lone-leaf-reads.Asked,
@@ -129,12 +129,12 @@ ball_block_ball_halves_requires : (t : ℕ) → ball-block-lts.Need-ball-halves-
   ball_halves.Post,
 ) (ball_block_at t) ball-block.Post
 ball_block_ball_halves_requires t c κs =
-    let k = c.before.before.before.before.before.before.before.before.before.before in
-    let x = c.before.before.before.before.before.before.before.before.if1.false in
-    let y = c.before.before.before.before.before.code-over-block.ensures in
-    let z = c.before.before.before.before.if2.false in (omega (arith, k.requires.0), open_asked k.requires.1 x y z)
+    let k = c in
+    let x = c.if-left-eq0.false in
+    let y = c.code_over_block-bits.ensures in
+    let z = c.if-bits-ne0.false in (omega (arith, k.requires.0), open_asked k.requires.1 x y z)
 
-ball_block_same_length : (t : ℕ) → ball-block-lts.Need-same-length (
+ball_block_same_length : (t : ℕ) → ball-block-lts.Need-shape_of-out (
   code-at-voxel-reads.Asked,
   code-at-voxel-reads.Learnt,
   lone-leaf-reads.Asked,
@@ -144,9 +144,9 @@ ball_block_same_length : (t : ℕ) → ball-block-lts.Need-same-length (
   ball_halves_below t,
   ball_halves.Post,
 ) (ball_block_at t) ball-block.Post
-ball_block_same_length t c = c.before.before.ball-halves.auto.1.1.1.1.1.1.1.1.1.1.0
+ball_block_same_length t c = c.ball_halves.auto.out
 
-ball_block_returns_3 : (t : ℕ) → ball-block-lts.Need-returns-3 (
+ball_block_returns_3 : (t : ℕ) → ball-block-lts.Need-returns (
   code-at-voxel-reads.Asked,
   code-at-voxel-reads.Learnt,
   lone-leaf-reads.Asked,
@@ -157,68 +157,68 @@ ball_block_returns_3 : (t : ℕ) → ball-block-lts.Need-returns-3 (
   ball_halves.Post,
 ) (ball_block_at t) ball-block.Post
 ball_block_returns_3 t c =
-    let x = c.before.before.before.before.before.before.before.before.before.before.before.if1.false in
-    let y = c.before.before.before.before.before.before.before.before.code-over-block.ensures in
-    let z = c.before.before.before.before.before.before.before.if2.false in
-    λ job. open_done job x y z _ _ (c.before.before.ball-halves.ensures (open_asked job x y z))
+    let x = c.if-left-eq0.false in
+    let y = c.code_over_block-bits.ensures in
+    let z = c.if-bits-ne0.false in
+    λ job. open_done job x y z _ _ (c.ball_halves.ensures (open_asked job x y z))
 
-ball_halves_sub_axis : (t : ℕ) → ball-halves-lts.Need-overflow-sub-axis (
+ball_halves_sub_axis : (t : ℕ) → ball-halves-lts.Need-overflow_sub-axis (
   ball_block_below t,
   ball-block.Post,
   join-reads.Asked,
   join-reads.Learnt,
 ) (ball_halves_at t) ball_halves.Post
-ball_halves_sub_axis t c = c.before.requires.1.asked.some
+ball_halves_sub_axis t c = c.requires.1.asked.some
 
-ball_halves_mul_axis : (t : ℕ) → ball-halves-lts.Need-overflow-mul-axis (
+ball_halves_mul_axis : (t : ℕ) → ball-halves-lts.Need-offset_bounds-table-left (
   ball_block_below t,
   ball-block.Post,
   join-reads.Asked,
   join-reads.Learnt,
 ) (ball_halves_at t) ball_halves.Post
-ball_halves_mul_axis t c = omega (arith, level_fits c.before.requires.1)
+ball_halves_mul_axis t c = omega (arith, level_fits c.requires.1)
 
-ball_halves_element_copy_out_axis : (t : ℕ) → ball-halves-lts.Need-element-copy-out-axis (
+ball_halves_element_copy_out_axis : (t : ℕ) → ball-halves-lts.Need-bounds-table-left (
   ball_block_below t,
   ball-block.Post,
   join-reads.Asked,
   join-reads.Learnt,
 ) (ball_halves_at t) ball_halves.Post
-ball_halves_element_copy_out_axis t c = level_fits c.before.requires.1
+ball_halves_element_copy_out_axis t c = level_fits c.requires.1
 
-ball_halves_mul_near : (t : ℕ) → ball-halves-lts.Need-overflow-mul-near (
+ball_halves_mul_near : (t : ℕ) → ball-halves-lts.Need-offset_bounds-low-axis (
   ball_block_below t,
   ball-block.Post,
   join-reads.Asked,
   join-reads.Learnt,
 ) (ball_halves_at t) ball_halves.Post
-ball_halves_mul_near t c = omega (arith, axis_fits c.before.before.requires.1)
+ball_halves_mul_near t c = omega (arith, axis_fits c.requires.1)
 
-ball_halves_element_copy_out_near : (t : ℕ) → ball-halves-lts.Need-element-copy-out-near (
+ball_halves_element_copy_out_near : (t : ℕ) → ball-halves-lts.Need-bounds-low-axis (
   ball_block_below t,
   ball-block.Post,
   join-reads.Asked,
   join-reads.Learnt,
 ) (ball_halves_at t) ball_halves.Post
-ball_halves_element_copy_out_near t c = omega (arith, axis_fits c.before.before.requires.1)
+ball_halves_element_copy_out_near t c = omega (arith, axis_fits c.requires.1)
 
-ball_halves_mul_whole : (t : ℕ) → ball-halves-lts.Need-overflow-mul-whole (
+ball_halves_mul_whole : (t : ℕ) → ball-halves-lts.Need-offset_bounds-side-axis (
   ball_block_below t,
   ball-block.Post,
   join-reads.Asked,
   join-reads.Learnt,
 ) (ball_halves_at t) ball_halves.Post
-ball_halves_mul_whole t c = omega (arith, axis_fits c.before.before.before.requires.1)
+ball_halves_mul_whole t c = omega (arith, axis_fits c.requires.1)
 
-ball_halves_element_copy_out_whole : (t : ℕ) → ball-halves-lts.Need-element-copy-out-whole (
+ball_halves_element_copy_out_whole : (t : ℕ) → ball-halves-lts.Need-bounds-side-axis (
   ball_block_below t,
   ball-block.Post,
   join-reads.Asked,
   join-reads.Learnt,
 ) (ball_halves_at t) ball_halves.Post
-ball_halves_element_copy_out_whole t c = omega (arith, axis_fits c.before.before.before.requires.1)
+ball_halves_element_copy_out_whole t c = omega (arith, axis_fits c.requires.1)
 
-ball_halves_element_copy_out_looked : (t : ℕ) → ball-halves-lts.Need-element-copy-out-looked (
+ball_halves_element_copy_out_looked : (t : ℕ) → ball-halves-lts.Need-bounds-looked-0 (
   ball_block_below t,
   ball-block.Post,
   join-reads.Asked,
@@ -226,15 +226,15 @@ ball_halves_element_copy_out_looked : (t : ℕ) → ball-halves-lts.Need-element
 ) (ball_halves_at t) ball_halves.Post
 ball_halves_element_copy_out_looked t c = omega arith
 
-ball_halves_add_looked : (t : ℕ) → ball-halves-lts.Need-overflow-add-looked (
+ball_halves_add_looked : (t : ℕ) → ball-halves-lts.Need-overflow_add-looked (
   ball_block_below t,
   ball-block.Post,
   join-reads.Asked,
   join-reads.Learnt,
 ) (ball_halves_at t) ball_halves.Post
-ball_halves_add_looked t c = omega (arith, tally_fits c.before.before.before.before.before.requires.1)
+ball_halves_add_looked t c = omega (arith, tally_fits c.requires.1)
 
-ball_halves_element_write_looked : (t : ℕ) → ball-halves-lts.Need-element-write-looked (
+ball_halves_element_write_looked : (t : ℕ) → ball-halves-lts.Need-bounds-looked-0-2 (
   ball_block_below t,
   ball-block.Post,
   join-reads.Asked,
@@ -242,141 +242,141 @@ ball_halves_element_write_looked : (t : ℕ) → ball-halves-lts.Need-element-wr
 ) (ball_halves_at t) ball_halves.Post
 ball_halves_element_write_looked t c = omega arith
 
-ball_halves_mul_side : (t : ℕ) → ball-halves-lts.Need-overflow-mul-side (
+ball_halves_mul_side : (t : ℕ) → ball-halves-lts.Need-offset_bounds-side-axis-2 (
   ball_block_below t,
   ball-block.Post,
   join-reads.Asked,
   join-reads.Learnt,
 ) (ball_halves_at t) ball_halves.Post
-ball_halves_mul_side t c = omega (arith, axis_fits c.before.before.before.before.before.requires.1)
+ball_halves_mul_side t c = omega (arith, axis_fits c.requires.1)
 
-ball_halves_element_write_side : (t : ℕ) → ball-halves-lts.Need-element-write-side (
+ball_halves_element_write_side : (t : ℕ) → ball-halves-lts.Need-bounds-side-axis-2 (
   ball_block_below t,
   ball-block.Post,
   join-reads.Asked,
   join-reads.Learnt,
 ) (ball_halves_at t) ball_halves.Post
-ball_halves_element_write_side t c = omega (arith, axis_fits c.before.before.before.before.before.requires.1)
+ball_halves_element_write_side t c = omega (arith, axis_fits c.requires.1)
 
-ball_halves_sub_ball_block : (t : ℕ) → ball-halves-lts.Need-overflow-sub-ball-block (
+ball_halves_sub_ball_block : (t : ℕ) → ball-halves-lts.Need-overflow_sub-left (
   ball_block_below t,
   ball-block.Post,
   join-reads.Asked,
   join-reads.Learnt,
 ) (ball_halves_at t) ball_halves.Post
-ball_halves_sub_ball_block t c = c.before.before.before.before.before.before.before.requires.1.asked.some
+ball_halves_sub_ball_block t c = c.requires.1.asked.some
 
-ball_halves_add_ball_block : (t : ℕ) → ball-halves-lts.Need-overflow-add-ball-block (
+ball_halves_add_ball_block : (t : ℕ) → ball-halves-lts.Need-overflow_add-at (
   ball_block_below t,
   ball-block.Post,
   join-reads.Asked,
   join-reads.Learnt,
 ) (ball_halves_at t) ball_halves.Post
-ball_halves_add_ball_block t c = omega (arith, c.before.before.before.before.before.before.before.before.before.requires.1.asked.fits)
+ball_halves_add_ball_block t c = omega (arith, c.requires.1.asked.fits)
 
-ball_halves_ball_block_requires : (t : ℕ) → ball-halves-lts.Need-ball-block-requires (
+ball_halves_ball_block_requires : (t : ℕ) → ball-halves-lts.Need-ball_block-below-requires (
   ball_block_below t,
   ball-block.Post,
   join-reads.Asked,
   join-reads.Learnt,
 ) (ball_halves_at t) ball_halves.Post
 ball_halves_ball_block_requires t c κs =
-    let k = c.before.before.before.before.before.before.before.before.before in
+    let k = c in
     (omega (arith, k.requires.0, k.requires.1.asked.some), lower_part_lem k.requires.1)
 
-ball_halves_add_low : (t : ℕ) → ball-halves-lts.Need-overflow-add-low (
+ball_halves_add_low : (t : ℕ) → ball-halves-lts.Need-overflow_add-low (
   ball_block_below t,
   ball-block.Post,
   join-reads.Asked,
   join-reads.Learnt,
 ) (ball_halves_at t) ball_halves.Post
 ball_halves_add_low t c =
-    let k = c.before.before.before.before.before.before.before.before.before.before.before.before in
+    let k = c in
     omega (arith, middle_fits k.requires.1)
 
-ball_halves_mul_low : (t : ℕ) → ball-halves-lts.Need-overflow-mul-low (
+ball_halves_mul_low : (t : ℕ) → ball-halves-lts.Need-offset_bounds-low-axis-2 (
   ball_block_below t,
   ball-block.Post,
   join-reads.Asked,
   join-reads.Learnt,
 ) (ball_halves_at t) ball_halves.Post
 ball_halves_mul_low t c =
-    let k = c.before.before.before.before.before.before.before.before.before.before.before.before in
+    let k = c in
     omega (arith, axis_fits k.requires.1)
 
-ball_halves_element_write_low : (t : ℕ) → ball-halves-lts.Need-element-write-low (
+ball_halves_element_write_low : (t : ℕ) → ball-halves-lts.Need-bounds-low-axis-2 (
   ball_block_below t,
   ball-block.Post,
   join-reads.Asked,
   join-reads.Learnt,
 ) (ball_halves_at t) ball_halves.Post
 ball_halves_element_write_low t c =
-    let k = c.before.before.before.before.before.before.before.before.before.before.before.before in
+    let k = c in
     omega (arith, axis_fits k.requires.1)
 
-ball_halves_sub_ball_block_2 : (t : ℕ) → ball-halves-lts.Need-overflow-sub-ball-block-2 (
+ball_halves_sub_ball_block_2 : (t : ℕ) → ball-halves-lts.Need-overflow_sub-left-2 (
   ball_block_below t,
   ball-block.Post,
   join-reads.Asked,
   join-reads.Learnt,
 ) (ball_halves_at t) ball_halves.Post
 ball_halves_sub_ball_block_2 t c =
-    let k = c.before.before.before.before.before.before.before.before.before.before.before.before.before.before in
+    let k = c in
     k.requires.1.asked.some
 
-ball_halves_ball_block_requires_2 : (t : ℕ) → ball-halves-lts.Need-ball-block-requires-2 (
+ball_halves_ball_block_requires_2 : (t : ℕ) → ball-halves-lts.Need-ball_block-above-requires (
   ball_block_below t,
   ball-block.Post,
   join-reads.Asked,
   join-reads.Learnt,
 ) (ball_halves_at t) ball_halves.Post
 ball_halves_ball_block_requires_2 t c κs =
-    let k = c.before.before.before.before.before.before.before.before.before.before.before.before.before.before.before.before in
+    let k = c in
     let j = k.requires.1 in
-    let e = c.before.before.before.before.before.before.ball-block.ensures in
+    let e = c.ball_block-below.ensures in
     (omega (arith, k.requires.0, j.asked.some), upper_part_lem j _ _ (e (lower_part_lem j)))
 
-ball_halves_mul_low_2 : (t : ℕ) → ball-halves-lts.Need-overflow-mul-low-2 (
+ball_halves_mul_low_2 : (t : ℕ) → ball-halves-lts.Need-offset_bounds-low-axis-3 (
   ball_block_below t,
   ball-block.Post,
   join-reads.Asked,
   join-reads.Learnt,
 ) (ball_halves_at t) ball_halves.Post
 ball_halves_mul_low_2 t c =
-    let k = c.before.before.before.before.before.before.before.before.before.before.before.before.before.before.before.before.before.before.before in
-    omega (arith, axis_fits k.pre.1)
+    let k = c in
+    omega (arith, axis_fits k.requires.1)
 
-ball_halves_element_write_low_2 : (t : ℕ) → ball-halves-lts.Need-element-write-low-2 (
+ball_halves_element_write_low_2 : (t : ℕ) → ball-halves-lts.Need-bounds-low-axis-3 (
   ball_block_below t,
   ball-block.Post,
   join-reads.Asked,
   join-reads.Learnt,
 ) (ball_halves_at t) ball_halves.Post
 ball_halves_element_write_low_2 t c =
-    let k = c.before.before.before.before.before.before.before.before.before.before.before.before.before.before.before.before.before.before.before in
-    omega (arith, axis_fits k.pre.1)
+    let k = c in
+    omega (arith, axis_fits k.requires.1)
 
-ball_halves_mul_side_2 : (t : ℕ) → ball-halves-lts.Need-overflow-mul-side-2 (
+ball_halves_mul_side_2 : (t : ℕ) → ball-halves-lts.Need-offset_bounds-side-axis-3 (
   ball_block_below t,
   ball-block.Post,
   join-reads.Asked,
   join-reads.Learnt,
 ) (ball_halves_at t) ball_halves.Post
 ball_halves_mul_side_2 t c =
-    let k = c.before.before.before.before.before.before.before.before.before.before.before.before.before.before.before.before.before.before.before in
-    omega (arith, axis_fits k.pre.1)
+    let k = c in
+    omega (arith, axis_fits k.requires.1)
 
-ball_halves_element_write_side_2 : (t : ℕ) → ball-halves-lts.Need-element-write-side-2 (
+ball_halves_element_write_side_2 : (t : ℕ) → ball-halves-lts.Need-bounds-side-axis-3 (
   ball_block_below t,
   ball-block.Post,
   join-reads.Asked,
   join-reads.Learnt,
 ) (ball_halves_at t) ball_halves.Post
 ball_halves_element_write_side_2 t c =
-    let k = c.before.before.before.before.before.before.before.before.before.before.before.before.before.before.before.before.before.before.before in
-    omega (arith, axis_fits k.pre.1)
+    let k = c in
+    omega (arith, axis_fits k.requires.1)
 
-ball_halves_cast_join : (t : ℕ) → ball-halves-lts.Need-overflow-cast-join (
+ball_halves_cast_join : (t : ℕ) → ball-halves-lts.Need-overflow_cast-below (
   ball_block_below t,
   ball-block.Post,
   join-reads.Asked,
@@ -384,7 +384,7 @@ ball_halves_cast_join : (t : ℕ) → ball-halves-lts.Need-overflow-cast-join (
 ) (ball_halves_at t) ball_halves.Post
 ball_halves_cast_join t c = omega arith
 
-ball_halves_cast_join_2 : (t : ℕ) → ball-halves-lts.Need-overflow-cast-join-2 (
+ball_halves_cast_join_2 : (t : ℕ) → ball-halves-lts.Need-overflow_cast-above (
   ball_block_below t,
   ball-block.Post,
   join-reads.Asked,
@@ -399,21 +399,21 @@ ball_halves_join_requires : (t : ℕ) → ball-halves-lts.Need-join-requires (
   join-reads.Learnt,
 ) (ball_halves_at t) ball_halves.Post
 ball_halves_join_requires t c κs =
-    let k = c.before.before.before.before.before.before.before.before.before.before.before.before.before.before.before.before.before.before.before.before in
-    let j = k.pre.1 in
-    let e = c.before.before.before.before.before.before.before.before.before.before.ball-block.ensures in
-    join_asked j _ _ (e (lower_part_lem j)) c.before.before.before.ball-block2.ensures
+    let k = c in
+    let j = k.requires.1 in
+    let e = c.ball_block-below.ensures in
+    join_asked j _ _ (e (lower_part_lem j)) c.ball_block-above.ensures
 
-ball_halves_same_length : (t : ℕ) → ball-halves-lts.Need-same-length (
+ball_halves_same_length : (t : ℕ) → ball-halves-lts.Need-shape_of-out (
   ball_block_below t,
   ball-block.Post,
   join-reads.Asked,
   join-reads.Learnt,
 ) (ball_halves_at t) ball_halves.Post
 ball_halves_same_length t c =
-    let a = c.before.before.before.before.before.before.before.before.before.before.before.before.before.ball-block.auto in
-    let b = c.before.before.before.before.before.before.ball-block2.auto in
-    c.before.before.join.auto.1.0 ∙ b.1.1.1.1.1.1.1.1.1.1.0 ∙ a.1.1.1.1.1.1.1.1.1.1.0
+    let a = c.ball_block-below.auto in
+    let b = c.ball_block-above.auto in
+    c.join.auto.out ∙ b.out ∙ a.out
 
 ball_halves_returns : (t : ℕ) → ball-halves-lts.Need-returns (
   ball_block_below t,
@@ -422,13 +422,13 @@ ball_halves_returns : (t : ℕ) → ball-halves-lts.Need-returns (
   join-reads.Learnt,
 ) (ball_halves_at t) ball_halves.Post
 ball_halves_returns t c =
-    let e = c.before.before.before.before.before.before.before.before.before.before.before.before.before.ball-block.ensures in
-    let f = c.before.before.before.before.before.before.ball-block2.ensures in
-    let o = c.before.before.join.ensures in
+    let e = c.ball_block-below.ensures in
+    let f = c.ball_block-above.ensures in
+    let o = c.join.ensures in
     λ j. parts_done j _ _ (e (lower_part_lem j)) f o.0 o.1
 
-pub +ball-block-ball-halves-spec : {M : Type 1} → statement M
-+ball-block-ball-halves-spec = close μ_ball_block μ_ball_halves (λ t. ball-block-lts.spec (
+pub +ball_block_ball_halves_spec : {M : Type 1} → statement M
++ball_block_ball_halves_spec = close μ_ball_block μ_ball_halves (λ t. ball-block-lts.spec (
   code-at-voxel-reads.Asked,
   code-at-voxel-reads.Learnt,
   lone-leaf-reads.Asked,

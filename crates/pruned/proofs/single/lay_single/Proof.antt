@@ -8,39 +8,39 @@ use Rattle.pruned.proofs.lone.lay_lone.Reads as lay-lone-reads
 use Rattle.pruned.proofs.prune.code_at.Reads as code-at-reads
 use Rattle.pruned.proofs.round.lay_lone_ball.Reads as lay-lone-ball-reads
 
-code-at-requires : tie.Need-code-at-requires
-code-at-requires c κs = lone_code c.before.requires.halves refl
+code-at-requires : tie.Need-code_at-code-requires
+code-at-requires c κs = lone_code c.requires.halves refl
 
-lay-lone-requires : tie.Need-lay-lone-requires
+lay-lone-requires : tie.Need-lay_lone-requires
 lay-lone-requires c κs =
-    let e = c.before.before.before.before.code_at.ensures in
-    lone_job c.before.before.before.before.before.before.requires e c.before.before.before.if1.true
+    let e = c.code_at-code.ensures in
+    lone_job c.requires e c.if-code-lt-FIRST_BALL_SIDE.true
 
-same_length : tie.Need-same-length
+same_length : tie.Need-shape_of-out-then-code-lt-FIRST_BALL_SIDE
 same_length c = search rules
 
-returns : tie.Need-returns
+returns : tie.Need-returns-then-code-lt-FIRST_BALL_SIDE
 returns c =
-    let e = c.before.before.before.before.before.before.before.code_at.ensures in
-    let h = c.before.before.before.before.before.before.if1.true in
-    λ job. lone_back job e h _ _ (c.before.before.lay-lone.ensures (lone_job job e h))
+    let e = c.code_at-code.ensures in
+    let h = c.if-code-lt-FIRST_BALL_SIDE.true in
+    λ job. lone_back job e h _ _ (c.lay_lone.ensures (lone_job job e h))
 
-lay-lone-ball-requires : tie.Need-lay-lone-ball-requires
+lay-lone-ball-requires : tie.Need-lay_lone_ball-requires
 lay-lone-ball-requires c κs =
-    let e = c.before.before.before.before.before.code_at.ensures in
-    ball_job c.before.before.before.before.before.before.before.requires e c.before.before.before.before.if1.false
+    let e = c.code_at-code.ensures in
+    ball_job c.requires e c.if-code-lt-FIRST_BALL_SIDE.false
 
-same-length-2 : tie.Need-same-length-2
+same-length-2 : tie.Need-shape_of-out
 same-length-2 c = search rules
 
-returns-2 : tie.Need-returns-2
+returns-2 : tie.Need-returns
 returns-2 c =
-    let e = c.before.before.before.before.before.before.before.before.code_at.ensures in
-    let h = c.before.before.before.before.before.before.before.if1.false in
-    λ job. ball_back job e h _ _ (c.before.before.lay-lone-ball.ensures (ball_job job e h))
+    let e = c.code_at-code.ensures in
+    let h = c.if-code-lt-FIRST_BALL_SIDE.false in
+    λ job. ball_back job e h _ _ (c.lay_lone_ball.ensures (ball_job job e h))
 
-pub lay-single-spec : {M : Type 1} → statement M
-lay-single-spec =
+pub lay_single_spec : {M : Type 1} → statement M
+lay_single_spec =
     tie.close
     (tie.spec
     code-at-requires
