@@ -1,8 +1,11 @@
 // The worked cases run through the entry points: a line for each answer, with the refusal first and every byte of
 // the lent room, so that what was not to be written shows as the `.` it was.
+#![tactic(auto)]
+
 use bintree::{Verdict, Written};
 use convert::Clearance;
-use libc::STDOUT_FILENO;
+use std::io;
+use std::io::Write;
 use universe::Universe;
 
 const LENT: usize = 20;
@@ -25,77 +28,88 @@ fn square() -> Universe {
     }
 }
 
-fn say(text: &[u8]) {
-    io::write_all(STDOUT_FILENO, text);
+fn say(to: &mut impl Write, text: &[u8]) -> io::Result<()> {
+    to.write_all(text)
 }
 
-fn number(n: u64) {
-    io::print_decimal(STDOUT_FILENO, n);
+fn number(to: &mut impl Write, n: u64) -> io::Result<()> {
+    write!(to, "{n}")
 }
 
 // The front of the room that is lent.
-fn show(label: &[u8], refusal: u64, length: u64, room: &[u8]) {
-    say(label);
-    say(b" ");
-    number(refusal);
-    say(b" ");
-    number(length);
-    say(b" ");
-    say(room);
-    say(b"\n");
+fn show(
+    to: &mut impl Write,
+    label: &[u8],
+    refusal: u64,
+    length: u64,
+    room: &[u8],
+) -> io::Result<()> {
+    say(to, label)?;
+    say(to, b" ")?;
+    number(to, refusal)?;
+    say(to, b" ")?;
+    number(to, length)?;
+    say(to, b" ")?;
+    say(to, room)?;
+    say(to, b"\n")
 }
 
-fn written(label: &[u8], answer: Written, room: &[u8]) {
-    show(label, answer.refusal, answer.length, room);
+fn written(to: &mut impl Write, label: &[u8], answer: Written, room: &[u8]) -> io::Result<()> {
+    show(to, label, answer.refusal, answer.length, room)
 }
 
 // One tree, raw and merged.
-fn one_tree(label: &[u8], rows: &[i64], words: &[u16]) {
-    say(label);
-    say(b"\n");
+fn one_tree(to: &mut impl Write, label: &[u8], rows: &[i64], words: &[u16]) -> io::Result<()> {
+    say(to, label)?;
+    say(to, b"\n")?;
     let mut room = [b'.'; LENT];
     let answer = convert::raw_of_one(square(), rows, &[], words, &mut room);
-    written(b"raw", answer, &room);
+    written(to, b"raw", answer, &room)?;
     let mut room = [b'.'; LENT];
     let answer = convert::merged_of_one(square(), rows, &[], words, &mut room);
-    written(b"merged", answer, &room);
+    written(to, b"merged", answer, &room)
 }
 
 // The program's scene, raw, in the room lent.
-fn two_trees(label: &[u8], room: &mut [u8]) {
+fn two_trees(to: &mut impl Write, label: &[u8], room: &mut [u8]) -> io::Result<()> {
     let answer = convert::raw_of_two(square(), &MOVER_AND_WALL, &[], &MOVER, &WALL, room);
-    written(label, answer, room);
+    written(to, label, answer, room)
 }
 
-fn say_verdict(verdict: Verdict) {
+fn say_verdict(to: &mut impl Write, verdict: Verdict) -> io::Result<()> {
     match verdict {
-        Verdict::Clear => say(b"clear"),
+        Verdict::Clear => say(to, b"clear"),
         Verdict::Hit(contact) => {
-            say(b"hit ");
-            number(contact.first);
-            say(b" ");
-            number(contact.last);
-            say(b" ");
-            number(contact.voxels);
+            say(to, b"hit ")?;
+            number(to, contact.first)?;
+            say(to, b" ")?;
+            number(to, contact.last)?;
+            say(to, b" ")?;
+            number(to, contact.voxels)
         }
     }
 }
 
-fn verdict(answer: Clearance, room: &[u8]) {
+fn verdict(to: &mut impl Write, answer: Clearance, room: &[u8]) -> io::Result<()> {
     let refusal = answer.refusal;
     let length = answer.length;
     let verdict = answer.verdict;
-    say_verdict(verdict);
-    show(b"", refusal, length, room);
+    say_verdict(to, verdict)?;
+    show(to, b"", refusal, length, room)
 }
 
 // The program's scene over a window, in the room lent.
-fn window(first_frame: u64, last_frame: u64, room: &mut [u8]) {
-    say(b"window ");
-    number(first_frame);
-    say(b" ");
-    number(last_frame);
-    say(b" ");
+fn window(
+    to: &mut impl Write,
+    first_frame: u64,
+    last_frame: u64,
+    room: &mut [u8],
+) -> io::Result<()> {
+    say(to, b"window ")?;
+    number(to, first_frame)?;
+    say(to, b" ")?;
+    number(to, last_frame)?;
+    say(to, b" ")?;
     let answer = convert::verdict_of_two(
         square(),
         &MOVER_AND_WALL,
@@ -106,114 +120,130 @@ fn window(first_frame: u64, last_frame: u64, room: &mut [u8]) {
         last_frame,
         room,
     );
-    verdict(answer, room);
+    verdict(to, answer, room)
 }
 
 // A number behind a space.
-fn next_number(n: u64) {
-    say(b" ");
-    number(n);
+fn next_number(to: &mut impl Write, n: u64) -> io::Result<()> {
+    say(to, b" ")?;
+    number(to, n)
 }
 
 // The number that refuses a scene before room is asked for.
-fn scene(label: &[u8], universe: Universe, rows: &[i64], first: &[u16], second: &[u16]) {
-    say(b"scene: ");
-    say(label);
-    next_number(convert::scene_refusal(universe, rows, &[], first, second));
-    say(b"\n");
+fn scene(
+    to: &mut impl Write,
+    label: &[u8],
+    universe: Universe,
+    rows: &[i64],
+    first: &[u16],
+    second: &[u16],
+) -> io::Result<()> {
+    say(to, b"scene: ")?;
+    say(to, label)?;
+    next_number(
+        to,
+        convert::scene_refusal(universe, rows, &[], first, second),
+    )?;
+    say(to, b"\n")
 }
 
 // Each number up to the rows', with all that comes later wrong too.
-fn scenes() {
+fn scenes(to: &mut impl Write) -> io::Result<()> {
     let none: &[u16] = &[];
     let unknown: &[u16] = &[9];
-    scene(b"taken", square(), &[0, 0, 0, 0, 0], &[256], &[1]);
+    scene(to, b"taken", square(), &[0, 0, 0, 0, 0], &[256], &[1])?;
     scene(
+        to,
         b"universe",
         Universe::with_equal_bits(5, 2),
         &[0],
         none,
         unknown,
-    );
-    scene(b"rows", square(), &[0, 0, 0, 1, 0], none, unknown);
+    )?;
+    scene(to, b"rows", square(), &[0, 0, 0, 1, 0], none, unknown)
 }
 
 // Each number of the trees.
-fn scene_trees() {
+fn scene_trees(to: &mut impl Write) -> io::Result<()> {
     let none: &[i64] = &[];
     let pending: &[u16] = &[1; 33];
-    scene(b"tree 1", square(), none, &[9], pending);
-    scene(b"tree 2", square(), none, &[1], pending);
+    scene(to, b"tree 1", square(), none, &[9], pending)?;
+    scene(to, b"tree 2", square(), none, &[1], pending)
 }
 
 // Cases 1, 2 and 6: conversions of one tree.
-fn one_tree_cases() {
-    one_tree(b"case 1", &[-2, 2, -1, 0, 0], &[256]);
+fn one_tree_cases(to: &mut impl Write) -> io::Result<()> {
+    one_tree(to, b"case 1", &[-2, 2, -1, 0, 0], &[256])?;
     one_tree(
+        to,
         b"case 2",
         &[-2, 1, 0, 0, 0, -2, 0, 1, 0, 0, 6, -1, -1, 0, 0],
         &[256, 257, 258, 3, 3],
-    );
-    one_tree(b"case 6", &[0, 0, 0, 0, 0], &[256]);
+    )?;
+    one_tree(to, b"case 6", &[0, 0, 0, 0, 0], &[256])
 }
 
 // Cases 4 and 10: conversions of two trees.
-fn two_tree_cases() {
-    two_trees(b"case 4", &mut [b'.'; LENT]);
-    two_trees(b"case 10, 13 lent", &mut [b'.'; 13]);
-    two_trees(b"case 10, 12 lent", &mut [b'.'; 12]);
-    two_trees(b"none lent", &mut []);
+fn two_tree_cases(to: &mut impl Write) -> io::Result<()> {
+    two_trees(to, b"case 4", &mut [b'.'; LENT])?;
+    two_trees(to, b"case 10, 13 lent", &mut [b'.'; 13])?;
+    two_trees(to, b"case 10, 12 lent", &mut [b'.'; 12])?;
+    two_trees(to, b"none lent", &mut [])
 }
 
 // A window in room enough.
-fn whole_window(first_frame: u64, last_frame: u64) {
-    window(first_frame, last_frame, &mut [b'.'; LENT]);
+fn whole_window(to: &mut impl Write, first_frame: u64, last_frame: u64) -> io::Result<()> {
+    window(to, first_frame, last_frame, &mut [b'.'; LENT])
 }
 
 // Cases 4, 5 and 10: verdicts over a window.
-fn verdicts() {
-    whole_window(0, 3);
-    whole_window(0, 0);
-    whole_window(1, 1);
-    whole_window(2, 2);
-    whole_window(3, 3);
-    whole_window(0, 4);
-    whole_window(2, 1);
-    window(0, 3, &mut [b'.'; 12]);
-    window(0, 4, &mut [b'.'; 12]);
+fn verdicts(to: &mut impl Write) -> io::Result<()> {
+    whole_window(to, 0, 3)?;
+    whole_window(to, 0, 0)?;
+    whole_window(to, 1, 1)?;
+    whole_window(to, 2, 2)?;
+    whole_window(to, 3, 3)?;
+    whole_window(to, 0, 4)?;
+    whole_window(to, 2, 1)?;
+    window(to, 0, 3, &mut [b'.'; 12])?;
+    window(to, 0, 4, &mut [b'.'; 12])
 }
 
 // One row, which is the tree.
-fn one_row(label: &[u8], row: [i64; 5]) {
-    one_tree(label, &row, &[256]);
+fn one_row(to: &mut impl Write, label: &[u8], row: [i64; 5]) -> io::Result<()> {
+    one_tree(to, label, &row, &[256])
 }
 
 // Refusals of rows, in their order, and numbers at their limits.
-fn refused_rows() {
-    one_tree(b"a number short of fives", &[0, 0, 0, 0], &[9]);
-    one_tree(b"nonzero above d", &[0, 0, 0, 1, 0], &[9]);
-    one_row(b"a0 at its limit", [1_099_511_627_776, 0, 0, 0, 0]);
-    one_row(b"a0 one over", [-1_099_511_627_777, 0, 0, 0, 0]);
-    one_row(b"a1 at its limit", [0, -16_777_216, 0, 0, 0]);
-    one_row(b"a1 one over", [0, 16_777_217, 0, 0, 0]);
-    one_row(b"the least i64", [-9_223_372_036_854_775_808, 0, 0, 0, 0]);
+fn refused_rows(to: &mut impl Write) -> io::Result<()> {
+    one_tree(to, b"a number short of fives", &[0, 0, 0, 0], &[9])?;
+    one_tree(to, b"nonzero above d", &[0, 0, 0, 1, 0], &[9])?;
+    one_row(to, b"a0 at its limit", [1_099_511_627_776, 0, 0, 0, 0])?;
+    one_row(to, b"a0 one over", [-1_099_511_627_777, 0, 0, 0, 0])?;
+    one_row(to, b"a1 at its limit", [0, -16_777_216, 0, 0, 0])?;
+    one_row(to, b"a1 one over", [0, 16_777_217, 0, 0, 0])?;
+    one_row(
+        to,
+        b"the least i64",
+        [-9_223_372_036_854_775_808, 0, 0, 0, 0],
+    )
 }
 
 // Refusals of words, in their order.
-fn refused_words() {
+fn refused_words(to: &mut impl Write) -> io::Result<()> {
     let none: &[i64] = &[];
-    one_tree(b"no words", none, &[]);
-    one_tree(b"an unknown word", none, &[5]);
-    one_tree(b"an index past the rows", &[0, 0, 0, 0, 0], &[257]);
-    one_tree(b"an operator with one pending", none, &[1, 2]);
-    one_tree(b"two left", none, &[1, 1]);
+    one_tree(to, b"no words", none, &[])?;
+    one_tree(to, b"an unknown word", none, &[5])?;
+    one_tree(to, b"an index past the rows", &[0, 0, 0, 0, 0], &[257])?;
+    one_tree(to, b"an operator with one pending", none, &[1, 2])?;
+    one_tree(to, b"two left", none, &[1, 1])
 }
 
 // A constant less another.
-fn constants() {
+fn constants(to: &mut impl Write) -> io::Result<()> {
     let none: &[i64] = &[];
-    one_tree(b"WHITE less BLACK", none, &[0, 1, 4]);
-    one_tree(b"BLACK less WHITE", none, &[1, 0, 4]);
+    one_tree(to, b"WHITE less BLACK", none, &[0, 1, 4])?;
+    one_tree(to, b"BLACK less WHITE", none, &[1, 0, 4])
 }
 
 // As many words as a tree may have.
@@ -258,65 +288,85 @@ fn push_deep(words: &mut [u16; MOST_WORDS], count: usize) -> usize {
 }
 
 // A tree of so many words from the front.
-fn front(label: &[u8], rows: &[i64], words: [u16; MOST_WORDS], count: usize) {
+fn front(
+    to: &mut impl Write,
+    label: &[u8],
+    rows: &[i64],
+    words: [u16; MOST_WORDS],
+    count: usize,
+) -> io::Result<()> {
     if count <= MOST_WORDS {
-        one_tree(label, rows, &words[..count]);
+        one_tree(to, label, rows, &words[..count])?;
     }
+    Ok(())
 }
 
 // A MINUS A for A of 127 words; and for A with 32 shapes pending, which is taken by itself.
-fn long_cuts(rows: &[i64]) {
+fn long_cuts(to: &mut impl Write, rows: &[i64]) -> io::Result<()> {
     let mut words = [0u16; MOST_WORDS];
     let once = push_long(&mut words, 0, 63);
     let twice = push_long(&mut words, once, 63);
     let end = push(&mut words, twice, 4);
-    front(b"127 words less themselves", rows, words, end);
+    front(to, b"127 words less themselves", rows, words, end)?;
     let mut words = [0u16; MOST_WORDS];
     let once = push_deep(&mut words, 0);
-    front(b"32 shapes pending", rows, words, once);
+    front(to, b"32 shapes pending", rows, words, once)?;
     let twice = push_deep(&mut words, once);
     let end = push(&mut words, twice, 4);
-    front(b"a 33rd shape", rows, words, end);
+    front(to, b"a 33rd shape", rows, words, end)
 }
 
 // A prop of one word or one operator cut from itself leaves nothing, also where centres lie on its plane.
-fn short_cuts(rows: &[i64]) {
-    one_tree(b"a plane less itself", rows, &[256, 256, 4]);
-    one_tree(b"all-zero reversed", rows, &[1, 258, 4]);
-    one_tree(b"UNION less itself", rows, &[256, 257, 2, 256, 257, 2, 4]);
+fn short_cuts(to: &mut impl Write, rows: &[i64]) -> io::Result<()> {
+    one_tree(to, b"a plane less itself", rows, &[256, 256, 4])?;
+    one_tree(to, b"all-zero reversed", rows, &[1, 258, 4])?;
+    one_tree(
+        to,
+        b"UNION less itself",
+        rows,
+        &[256, 257, 2, 256, 257, 2, 4],
+    )
 }
 
 // The same of the other operators, and of constants.
-fn other_cuts(rows: &[i64]) {
+fn other_cuts(to: &mut impl Write, rows: &[i64]) -> io::Result<()> {
     one_tree(
+        to,
         b"INTERSECTION less itself",
         rows,
         &[256, 257, 3, 256, 257, 3, 4],
-    );
-    one_tree(b"MINUS less itself", rows, &[256, 257, 4, 256, 257, 4, 4]);
+    )?;
     one_tree(
+        to,
+        b"MINUS less itself",
+        rows,
+        &[256, 257, 4, 256, 257, 4, 4],
+    )?;
+    one_tree(
+        to,
         b"constants less themselves",
         rows,
         &[1, 256, 4, 0, 2, 1, 256, 4, 0, 2, 4],
-    );
+    )
 }
 
 // Props cut from themselves.
-fn cuts() {
+fn cuts(to: &mut impl Write) -> io::Result<()> {
     let rows: &[i64] = &[-3, 2, 0, 0, 0, 0, 1, -1, 0, 0, 0, 0, 0, 0, 0];
-    short_cuts(rows);
-    other_cuts(rows);
-    long_cuts(rows);
+    short_cuts(to, rows)?;
+    other_cuts(to, rows)?;
+    long_cuts(to, rows)
 }
 
-fn main() {
-    one_tree_cases();
-    two_tree_cases();
-    verdicts();
-    refused_rows();
-    refused_words();
-    constants();
-    cuts();
-    scenes();
-    scene_trees();
+fn main(rt: HostRuntime) -> io::Result<()> {
+    let to = &mut rt.stdout();
+    one_tree_cases(to)?;
+    two_tree_cases(to)?;
+    verdicts(to)?;
+    refused_rows(to)?;
+    refused_words(to)?;
+    constants(to)?;
+    cuts(to)?;
+    scenes(to)?;
+    scene_trees(to)
 }
