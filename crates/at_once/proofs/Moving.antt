@@ -16,7 +16,7 @@ use Rattle.universe.specs.declared.Universe.{Universe}
 use Rattle.universe.specs.declared.Block.{Block}
 use Rattle.bintree.specs.declared.Colour.{Colour}
 use Rattle.bintree.specs.declared.Colour.TheVariants.{White, Black}
-use Rattle.csg.specs.Halfspace.{Halfspace, Mark, undecided, most_rows, row_at, row_count}
+use Rattle.csg.specs.Halfspace.{Halfspace, Mark, decided, undecided, most_rows, row_at, row_count}
 use Rattle.csg.specs.Surfaces.{Surfaces, Surface, halfspace, ball, Named, named, IsNamed, halfspace_named}
 use Rattle.csg.specs.Tree.{Plain, colour, side, union_of, intersection_of}
 use Rattle.convert.specs.Small.{SmallPlaces, SmallHalfspace}
@@ -102,13 +102,19 @@ module _ {n : Node} (P Q : List Node) where
   joined_in true (settled Black) y f g i = in_back P (in_front_lem (joining true ∷ []) (g i))
   joined_in true (still p) (settled Black) f g i = in_front_lem (Q ++ (joining true ∷ [])) (f i)
   joined_in true (still p) (still q) f g i = both_still true p q f g i
+  joined_in false (settled Black) y f g i = elim i [ ]
+  joined_in false (still p) (settled Black) f g i = elim i [ ]
+  joined_in true (settled White) y f g i = elim i [ ]
+  joined_in true (still p) (settled White) f g i = elim i [ ]
 
 left_in : {n : Node} (marks : Bool → Surface → Mark) (p : Plain) → In n (left_nodes (left_by marks p)) → In n (postfix p)
 unfolding left_by postfix
+left_in {n = n} marks (colour _) i = elim i [ ]
 left_in {n = n} marks (side turned s) i = by (marks turned s) i
   where
     by : (m : Mark) → In n (left_nodes (side_left turned s m)) → In n (of_side turned s ∷ [])
     by undecided i = i
+    by (decided _) i = elim i [ ]
 left_in marks (union_of p q) i = joined_in (postfix p) (postfix q) false (left_by marks p) (left_by marks q) (left_in marks p) (left_in marks q) i
 left_in marks (intersection_of p q) i = joined_in (postfix p) (postfix q) true (left_by marks p) (left_by marks q) (left_in marks p) (left_in marks q) i
 
@@ -120,6 +126,7 @@ kept_in (still p) P ps ns f g i = ⊎_elim (λ j. in_front_lem ns (f j)) (λ j. 
 
 all_left_in : {n : Node} (surfaces : Surfaces) (ps : List Plain) (b : Block) → In n (all_postfix (all_left surfaces ps b)) → In n (all_postfix ps)
 unfolding all_left all_postfix
+all_left_in {n = n} surfaces [] b i = elim i [ ]
 all_left_in surfaces (p ∷ ps) b i =
     kept_in (left surfaces p b) (postfix p) (all_left surfaces ps b) (all_postfix ps) (left_in (λ turned s. side_mark surfaces turned s b) p)
     (all_left_in surfaces ps b) i
@@ -136,6 +143,7 @@ holds_at {room} {at} (code c r) (suc k) l =
 
 place_of : {room : List ℕ} {at : ℕ} {n : Node} {ns : List Node} → HoldsCodes room at ns → In n ns →
     (k : ℕ) × (k < length ns) × (get_or room (at + k) 0 ≡ node_code n)
+place_of {room = room} {n = n} (no_code {at = at}) i = elim i [ ]
 place_of {room} {at} (code c r) here = let e : at + 0 ≡ at = omega arith in (0, omega arith, ap (λ (k : ℕ). get_or room k 0) e ∙ c)
 place_of {room} {at} (code c r) (later i) =
     let w = place_of r i in
@@ -163,6 +171,7 @@ data NodeNamed (names : Named) : Node → Type 0 where
 module _ (names : Named) where
   last_named : {n : Node} {meet : Bool} → In n (joining meet ∷ []) → NodeNamed names n
   last_named here = a_joining
+  last_named {n = n} {meet = meet} (later i) = elim i [ ]
 
   joins_named : {n : Node} (meet : Bool) (P Q : List Node) → (In n P → NodeNamed names n) → (In n Q → NodeNamed names n) →
       In n (P ++ (Q ++ (joining meet ∷ []))) → NodeNamed names n
@@ -172,6 +181,8 @@ module _ (names : Named) where
   unfolding postfix
   tree_named colour_named here = a_colour
   tree_named (side_named s) here = a_side s
+  tree_named {n = n} (colour_named {c = c}) (later i) = elim i [ ]
+  tree_named {n = n} (side_named {turned = turned} s) (later i) = elim i [ ]
   tree_named (union_named {p} {q} a b) i = joins_named false (postfix p) (postfix q) (tree_named a) (tree_named b) i
   tree_named (intersection_named {p} {q} a b) i = joins_named true (postfix p) (postfix q) (tree_named a) (tree_named b) i
 

@@ -1,5 +1,7 @@
 // Answers at once, with no room lent: the verdict of two trees over a window, its ends, and sure and possible contact;
 // and the conversions over codes, merged by colours and raw by marks.
+#![tactic(auto)]
+
 mod answer;
 mod ball;
 mod both;

@@ -5,29 +5,29 @@ use Rattle.pruned.proofs.BallCodes.{difference_near, straight_cast, straight_is,
 use Rattle.at_once.proofs.ball.apart.Statement.{statement}
 use Rattle.at_once.proofs.ball.apart.Tie as tie
 
-cast-difference : tie.Need-overflow-cast-difference
+cast-difference : tie.Need-overflow_cast-difference
 cast-difference c = search rules
 
-sub-difference : tie.Need-overflow-sub-difference
+sub-difference : tie.Need-overflow_sub-difference
 sub-difference c = near_fits (difference_near c.requires.0 c.requires.1) tt
 
-sub-result : tie.Need-overflow-sub-result
-sub-result c = near_fits (turned_near c.before.requires.0 c.before.requires.1) tt
+sub-result : tie.Need-overflow_sub-result
+sub-result c = near_fits (turned_near c.requires.0 c.requires.1) tt
 
-cast-result : tie.Need-overflow-cast-result
-cast-result c = turned_cast c.before.requires.0 c.before.requires.1 c.if1.true
+cast-result : tie.Need-overflow_cast-result
+cast-result c = turned_cast c.requires.0 c.requires.1 c.if-difference-lt0.true
 
-returns : tie.Need-returns
-returns c = turned_is c.before.requires.0 c.before.requires.1
+returns : tie.Need-returns-then-difference-lt0
+returns c = turned_is c.requires.0 c.requires.1
 
-cast-result-2 : tie.Need-overflow-cast-result-2
-cast-result-2 c = straight_cast c.before.requires.0 c.before.requires.1 c.if1.false
+cast-result-2 : tie.Need-overflow_cast-result-2
+cast-result-2 c = straight_cast c.requires.0 c.requires.1 c.if-difference-lt0.false
 
-returns-2 : tie.Need-returns-2
-returns-2 c = straight_is c.before.requires.0 c.before.requires.1
+returns-2 : tie.Need-returns
+returns-2 c = straight_is c.requires.0 c.requires.1
 
-pub apart-spec : {M : Type 1} → statement M
-apart-spec =
+pub apart_spec : {M : Type 1} → statement M
+apart_spec =
     tie.close
     (tie.spec
     cast-difference

@@ -4,14 +4,14 @@ use Rattle.pruned.proofs.BallCodes.{Walked, ball_laws}
 use Rattle.at_once.proofs.ball.code_of_ball.Statement.{statement}
 use Rattle.at_once.proofs.ball.code_of_ball.Tie as tie
 
-abbrev invariant-loop : tie.invariant-loop
+abbrev invariant-loop : tie.invariant-loop-axis
 invariant-loop places balls i low side first near₀ far₀ axis₀ near far axis = Walked places i balls low side near far axis
 
-abbrev decreases-loop : tie.decreases-loop
+abbrev decreases-loop : tie.decreases-loop-axis
 decreases-loop places balls i low side first near₀ far₀ axis₀ near far axis = places - axis
 
-pub code-of-ball-spec : {M : Type 1} → statement M
-code-of-ball-spec =
+pub code_of_ball_spec : {M : Type 1} → statement M
+code_of_ball_spec =
     tie.close
     (tie.spec
     invariant-loop

@@ -8,40 +8,40 @@ use borrow.Author.Rules.{rules}
 use Rattle.at_once.proofs.both.places_along.Statement.{statement}
 use Rattle.at_once.proofs.both.places_along.Tie as tie
 
-element-copy-out-places : tie.Need-element-copy-out-places
+element-copy-out-places : tie.Need-bounds-low-0
 element-copy-out-places c = search rules
 
-element-copy-out-t10 : tie.Need-element-copy-out-t10
+element-copy-out-t10 : tie.Need-bounds-low-1
 element-copy-out-t10 c = search rules
 
-element-copy-out-t13 : tie.Need-element-copy-out-t13
+element-copy-out-t13 : tie.Need-bounds-low-2
 element-copy-out-t13 c = search rules
 
-element-copy-out-places-2 : tie.Need-element-copy-out-places-2
+element-copy-out-places-2 : tie.Need-bounds-low-3
 element-copy-out-places-2 c = search rules
 
-mul-places : tie.Need-overflow-mul-places
+mul-places : tie.Need-offset_bounds-low-axis
 mul-places c = search rules
 
-element-copy-out-places-3 : tie.Need-element-copy-out-places-3
+element-copy-out-places-3 : tie.Need-bounds-low-axis
 element-copy-out-places-3 c = search rules
 
-add-places : tie.Need-overflow-add-places
+add-places : tie.Need-overflow_add-places
 add-places c = search rules
 
-mul-places-2 : tie.Need-overflow-mul-places-2
+mul-places-2 : tie.Need-offset_bounds-places-axis
 mul-places-2 c = search rules
 
-array-write-places : tie.Need-array-write-places
+array-write-places : tie.Need-bounds-places-axis
 array-write-places c = search rules
 
 returns : tie.Need-returns
 returns c =
-    let t = c.before.before.before.before.before in
+    let t = c in
     ap (λ (l : List ℕ). set l t.args.axis (get_or t.args.low.now t.args.axis 0 + t.args.half)) (four t.args.low.now t.requires.0)
 
-pub places-along-spec : {M : Type 1} → statement M
-places-along-spec =
+pub places_along_spec : {M : Type 1} → statement M
+places_along_spec =
     tie.close
     (tie.spec
     element-copy-out-places

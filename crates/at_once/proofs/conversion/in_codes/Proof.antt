@@ -4,24 +4,24 @@ use borrow.Author.Rules.{rules}
 use Rattle.at_once.proofs.conversion.in_codes.Statement.{statement}
 use Rattle.at_once.proofs.conversion.in_codes.Tie as tie
 
-returns-2 : tie.Need-returns-2
+returns-2 : tie.Need-returns-then-room_of-out
 returns-2 c =
-    let w = c.before.before.before.before.before in
-    let k = w.before.before.before.before in
-    let e = w.write-whole.ensures in
-    let f = room_suffices k.before.before.before.before.before.before.requires.ready _ k.room_of.ensures w.before.before.before.if2.true
+    let w = c in
+    let k = w in
+    let e = w.write_whole-length.ensures in
+    let f = room_suffices k.requires.ready _ k.room_of.ensures w.if-room_of-out.true
     e.0 in
     ends_written _ _ e.0 f e.1 c.done.ensures
 
-pub in-codes-spec : {M : Type 1} → statement M
-in-codes-spec =
+pub in_codes_spec : {M : Type 1} → statement M
+in_codes_spec =
     tie.close
     (tie.spec
     (λ c κs. search rules)
     (λ c. search rules)
     (λ c. search rules)
     (λ c. search rules)
-    (λ c κs. room_ready c.before.before.before.before.before.requires.ready)
+    (λ c κs. room_ready c.requires.ready)
     (λ c κs. search rules)
     (λ c κs. search rules)
     (λ c. search rules)

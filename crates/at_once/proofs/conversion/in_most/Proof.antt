@@ -4,11 +4,11 @@ use borrow.Author.Rules.{rules}
 use Rattle.at_once.proofs.conversion.in_most.Statement.{statement}
 use Rattle.at_once.proofs.conversion.in_most.Tie as tie
 
-pub in-most-spec : {M : Type 1} → statement M
-in-most-spec =
+pub in_most_spec : {M : Type 1} → statement M
+in_most_spec =
     tie.close
     (tie.spec
     (λ c. search rules)
-    (λ c κs. most_ready c.before.before.before.before.before.requires)
+    (λ c κs. most_ready c.requires)
     (λ c. search rules)
     (λ c. search rules))

@@ -5,7 +5,7 @@ use Rattle.at_once.proofs.conversion.merged_of_one.Statement.{statement}
 use Rattle.at_once.proofs.conversion.merged_of_one.Tie as tie
 
 returns : tie.Need-returns
-returns c = merged_ends _ _ _ _ c.before.before.of_two.ensures
+returns c = merged_ends _ _ _ _ c.of_two.ensures
 
-pub merged-of-one-spec : {M : Type 1} → statement M
-merged-of-one-spec = tie.close (tie.spec (λ c. search rules) (λ c κs. search rules) (λ c. search rules) returns)
+pub merged_of_one_spec : {M : Type 1} → statement M
+merged_of_one_spec = tie.close (tie.spec (λ c. search rules) (λ c κs. search rules) (λ c. search rules) returns)

@@ -5,7 +5,7 @@ use Rattle.at_once.proofs.conversion.merged_of_two.Statement.{statement}
 use Rattle.at_once.proofs.conversion.merged_of_two.Tie as tie
 
 returns : tie.Need-returns
-returns c = merged_ends _ _ _ _ _ c.before.before.of_two.ensures
+returns c = merged_ends _ _ _ _ _ c.of_two.ensures
 
-pub merged-of-two-spec : {M : Type 1} → statement M
-merged-of-two-spec = tie.close (tie.spec (λ c κs. search rules) (λ c. search rules) returns)
+pub merged_of_two_spec : {M : Type 1} → statement M
+merged_of_two_spec = tie.close (tie.spec (λ c κs. search rules) (λ c. search rules) returns)

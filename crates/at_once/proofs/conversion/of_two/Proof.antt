@@ -5,47 +5,47 @@ use borrow.Author.Rules.{rules}
 use Rattle.at_once.proofs.conversion.of_two.Statement.{statement}
 use Rattle.at_once.proofs.conversion.of_two.Tie as tie
 
-returns : tie.Need-returns
-returns c = ends_refused _ _ c.before.before.scene_refusal.ensures c.before.if1.true c.refused.ensures
+returns : tie.Need-returns-then-refusal-ne0
+returns c = ends_refused _ _ c.scene_refusal-refusal.ensures c.if-refusal-ne0.true c.refused.ensures
 
-add-needed : tie.Need-overflow-add-needed
-add-needed c = record { fits = levels_fit (all_ready c.before.before.scene_refusal.ensures c.before.if1.false) c.levels.ensures }
+add-needed : tie.Need-overflow_add-needed
+add-needed c = record { fits = levels_fit (all_ready c.scene_refusal-refusal.ensures c.if-refusal-ne0.false) c.levels.ensures }
 
-mul-needed : tie.Need-overflow-mul-needed
-mul-needed c = record { fits = codes_fit (all_ready c.before.before.scene_refusal.ensures c.before.if1.false) c.levels.ensures }
+mul-needed : tie.Need-overflow_mul-needed
+mul-needed c = record { fits = codes_fit (all_ready c.scene_refusal-refusal.ensures c.if-refusal-ne0.false) c.levels.ensures }
 
-in-least-requires : tie.Need-in-least-requires
+in-least-requires : tie.Need-in_least-requires
 in-least-requires c κs =
-    let l = c.before.before in
-    few_ready (all_ready l.before.before.scene_refusal.ensures l.before.if1.false) l.levels.ensures c.before.if2.true
+    let l = c in
+    few_ready (all_ready l.scene_refusal-refusal.ensures l.if-refusal-ne0.false) l.levels.ensures c.if-needed.true
 
-returns-2 : tie.Need-returns-2
+returns-2 : tie.Need-returns-then-needed
 returns-2 c =
-    let k = c.before.before.before.before.before.before in
-    ends_accepted _ _ k.before.scene-refusal.ensures k.if1.false c.before.before.in-least.ensures
+    let k = c in
+    ends_accepted _ _ k.scene_refusal-refusal.ensures k.if-refusal-ne0.false c.in_least.ensures
 
-in-few-requires : tie.Need-in-few-requires
+in-few-requires : tie.Need-in_few-requires
 in-few-requires c κs =
-    let l = c.before.before.before in
-    few_ready (all_ready l.before.before.scene_refusal.ensures l.before.if1.false) l.levels.ensures c.before.if3.true
+    let l = c in
+    few_ready (all_ready l.scene_refusal-refusal.ensures l.if-refusal-ne0.false) l.levels.ensures c.if-needed-2.true
 
-returns-3 : tie.Need-returns-3
+returns-3 : tie.Need-returns-then-needed-2
 returns-3 c =
-    let k = c.before.before.before.before.before.before.before in
-    ends_accepted _ _ k.before.scene-refusal.ensures k.if1.false c.before.before.in-few.ensures
+    let k = c in
+    ends_accepted _ _ k.scene_refusal-refusal.ensures k.if-refusal-ne0.false c.in_few.ensures
 
-in-most-requires : tie.Need-in-most-requires
+in-most-requires : tie.Need-in_most-requires
 in-most-requires c κs =
-    let k = c.before.before.before.before in
-    all_ready k.before.scene-refusal.ensures k.if1.false
+    let k = c in
+    all_ready k.scene_refusal-refusal.ensures k.if-refusal-ne0.false
 
-returns-4 : tie.Need-returns-4
+returns-4 : tie.Need-returns
 returns-4 c =
-    let k = c.before.before.before.before.before.before.before in
-    ends_accepted _ _ k.before.scene-refusal.ensures k.if1.false c.before.before.in-most.ensures
+    let k = c in
+    ends_accepted _ _ k.scene_refusal-refusal.ensures k.if-refusal-ne0.false c.in_most.ensures
 
-pub of-two-spec : {M : Type 1} → statement M
-of-two-spec =
+pub of_two_spec : {M : Type 1} → statement M
+of_two_spec =
     tie.close
     (tie.spec
     (λ c κs. search rules)

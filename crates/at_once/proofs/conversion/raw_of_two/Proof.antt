@@ -5,7 +5,7 @@ use Rattle.at_once.proofs.conversion.raw_of_two.Statement.{statement}
 use Rattle.at_once.proofs.conversion.raw_of_two.Tie as tie
 
 returns : tie.Need-returns
-returns c = raw_ends _ _ _ _ _ c.before.before.of_two.ensures
+returns c = raw_ends _ _ _ _ _ c.of_two.ensures
 
-pub raw_of-two-spec : {M : Type 1} → statement M
-raw_of-two-spec = tie.close (tie.spec (λ c κs. search rules) (λ c. search rules) returns)
+pub raw_of_two_spec : {M : Type 1} → statement M
+raw_of_two_spec = tie.close (tie.spec (λ c κs. search rules) (λ c. search rules) returns)

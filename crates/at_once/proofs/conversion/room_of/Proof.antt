@@ -9,44 +9,44 @@ use borrow.Author.Rules.{rules}
 use Rattle.at_once.proofs.conversion.room_of.Statement.{statement}
 use Rattle.at_once.proofs.conversion.room_of.Tie as tie
 
-halfspace-words-requires : tie.Need-halfspace-words-requires
+halfspace-words-requires : tie.Need-halfspace_words-requires
 halfspace-words-requires c κs = search rules
 
-halfspace-words-requires-2 : tie.Need-halfspace-words-requires-2
+halfspace-words-requires-2 : tie.Need-halfspace_words-requires-2
 halfspace-words-requires-2 c κs = search rules
 
-add-leaves : tie.Need-overflow-add-leaves
+add-leaves : tie.Need-overflow_add-leaves
 add-leaves c =
-    let k = c.before.before.before.before in
+    let k = c in
     let f = count_words_most first_halfspace most_rows k.args.first.now in
     let s = count_words_most first_halfspace most_rows k.args.second.now in
-    record { fits = omega (arith, c.before.halfspace-words.ensures, c.halfspace-words2.ensures, k.requires.first_few, k.requires.second_few, f, s) }
+    record { fits = omega (arith, c.halfspace_words.ensures, c.halfspace_words-2.ensures, k.requires.first_few, k.requires.second_few, f, s) }
 
-ball-words-requires : tie.Need-ball-words-requires
+ball-words-requires : tie.Need-ball_words-requires
 ball-words-requires c κs = search rules
 
-ball-words-requires-2 : tie.Need-ball-words-requires-2
+ball-words-requires-2 : tie.Need-ball_words-requires-2
 ball-words-requires-2 c κs = search rules
 
-add-balls : tie.Need-overflow-add-balls
+add-balls : tie.Need-overflow_add-balls
 add-balls c =
-    let k = c.before.before.before.before.before.before in
+    let k = c in
     let f = count_words_most first_ball most_balls k.args.first.now in
     let s = count_words_most first_ball most_balls k.args.second.now in
-    record { fits = omega (arith, c.before.ball-words.ensures, c.ball-words2.ensures, k.requires.first_few, k.requires.second_few, f, s) }
+    record { fits = omega (arith, c.ball_words.ensures, c.ball_words-2.ensures, k.requires.first_few, k.requires.second_few, f, s) }
 
-room-requires : tie.Need-room-requires
+room-requires : tie.Need-room-answer-requires
 room-requires c κs = search rules
 
 returns : tie.Need-returns
 returns c =
-    let b = c.before.before in
-    let k = b.before.before in
-    room_is _ _ _ k.before.before.before.requires.accepted_universe k.halfspace-words.ensures b.before.halfspace-words2.ensures
-    b.ball_words.ensures c.before.ball-words2.ensures c.room.ensures
+    let b = c in
+    let k = b in
+    room_is _ _ _ k.requires.accepted_universe k.halfspace_words.ensures b.halfspace_words-2.ensures
+    b.ball_words.ensures c.ball_words-2.ensures c.room-answer.ensures
 
-pub room-of-spec : {M : Type 1} → statement M
-room-of-spec =
+pub room_of_spec : {M : Type 1} → statement M
+room_of_spec =
     tie.close
     (tie.spec
     halfspace-words-requires

@@ -8,33 +8,33 @@ use borrow.Author.Rules.{rules}
 use Rattle.at_once.proofs.conversion.through.Statement.{statement}
 use Rattle.at_once.proofs.conversion.through.Tie as tie
 
-returns : tie.Need-returns
-returns c = ends_short _ _ c.before.before.before.before.before.before.write-whole.ensures.0 c.before.if1.true c.short.ensures
+returns : tie.Need-returns-then-out-length
+returns c = ends_short _ _ c.write_whole-length.ensures.0 c.if-out-length.true c.short.ensures
 
-slice-aggregate-copy : tie.Need-slice-aggregate-copy
-slice-aggregate-copy c = sym (length-take-le _ _ c.before.if2.true)
+slice-aggregate-copy : tie.Need-slice_bounds-copy-end-then-length-scratch
+slice-aggregate-copy c = sym (length-take-le _ _ c.if-length-scratch.true)
 
-returns-2 : tie.Need-returns-2
+returns-2 : tie.Need-returns-then-length-scratch
 returns-2 c =
-    let f = c.before.before.before in
-    let t = f.before.before.before in
-    let w = t.before.before.before.before.before.before.write-whole.ensures in
-    ends_copied _ _ w.0 _ _ (omega (arith, t.before.if1.false)) t.if2.true w.1 f.copy.ensures c.done.ensures
+    let f = c in
+    let t = f in
+    let w = t.write_whole-length.ensures in
+    ends_copied _ _ w.0 _ _ (omega (arith, t.if-out-length.false)) t.if-length-scratch.true w.1 f.copy.ensures c.done.ensures
 
-write-whole-requires-2 : tie.Need-write-whole-requires-2
+write-whole-requires-2 : tie.Need-write_whole-requires
 write-whole-requires-2 c κs =
-    let w = c.before.before.before.before.before.before.before.before in
-    ready_again w.before.before.before.before.before.before.before.before.requires w.write-whole.auto.1.1.1.1.1.1.0
+    let w = c in
+    ready_again w.requires w.write_whole-length.auto.codes
 
-returns-3 : tie.Need-returns-3
+returns-3 : tie.Need-returns
 returns-3 c =
-    let w = c.before.before.before.before.before in
-    let k = w.before.before.before.before in
-    let e = k.before.before.before.before.before.write-whole.ensures.0 in
-    ends_written _ _ e (omega (arith, k.if1.false)) w.write-whole2.ensures.1 c.done2.ensures
+    let w = c in
+    let k = w in
+    let e = k.write_whole-length.ensures.0 in
+    ends_written _ _ e (omega (arith, k.if-out-length.false)) w.write_whole.ensures.1 c.done-2.ensures
 
-pub through-spec : {M : Type 1} → statement M
-through-spec =
+pub through_spec : {M : Type 1} → statement M
+through_spec =
     tie.close
     (tie.spec
     (λ c κs. search rules)

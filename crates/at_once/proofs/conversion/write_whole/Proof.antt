@@ -5,18 +5,18 @@ use borrow.Author.Rules.{rules}
 use Rattle.at_once.proofs.conversion.write_whole.Statement.{statement}
 use Rattle.at_once.proofs.conversion.write_whole.Tie as tie
 
-load-both-requires : tie.Need-load-both-requires
-load-both-requires c κs = both_job c.before.before.before.before.before.before.before.before.before.before.before.requires shelf_long
+load-both-requires : tie.Need-load_both-requires
+load-both-requires c κs = both_job c.requires shelf_long
 
-write-block-requires : tie.Need-write-block-requires
+write-block-requires : tie.Need-write_block-requires
 write-block-requires c κs =
-    let l = c.before.before.before.before.before.before in
-    let b = l.before.before.before.before.before.before.before in
-    let s = b.before.before.before.before in
-    let k = s.before.before.before.before.before.before.before.before in
-    let loaded = b.load-both.ensures (both_job k.requires shelf_long) in
-    let tabled = s.before.lengths-of.ensures in
-    let sides = s.whole_sides.ensures in (
+    let l = c in
+    let b = l in
+    let s = b in
+    let k = s in
+    let loaded = b.load_both.ensures (both_job k.requires shelf_long) in
+    let tabled = s.lengths_of-lengths.ensures in
+    let sides = s.whole_sides-side.ensures in (
       whole_job k.requires l.levels.ensures shelf_long tabled sides loaded,
       (
         record { starts_long = loaded.starts_long; codes_long = shelf_long },
@@ -26,19 +26,19 @@ write-block-requires c κs =
 
 returns : tie.Need-returns
 returns c =
-    let w = c.before.before.before.before in
-    let l = w.before.before.before.before.before.before.before in
-    let b = l.before.before.before.before.before.before.before in
-    let s = b.before.before.before.before in
-    let k = s.before.before.before.before.before.before.before.before in
-    let loaded = b.load-both.ensures (both_job k.requires shelf_long) in
-    let tabled = s.before.lengths-of.ensures in
-    let sides = s.whole_sides.ensures in
+    let w = c in
+    let l = w in
+    let b = l in
+    let s = b in
+    let k = s in
+    let loaded = b.load_both.ensures (both_job k.requires shelf_long) in
+    let tabled = s.lengths_of-lengths.ensures in
+    let sides = s.whole_sides-side.ensures in
     let job = whole_job k.requires l.levels.ensures shelf_long tabled sides loaded in
-    whole_written k.requires l.levels.ensures shelf_long tabled sides loaded _ (w.write-block.ensures job)
+    whole_written k.requires l.levels.ensures shelf_long tabled sides loaded _ (w.write_block.ensures job)
 
-pub write-whole-spec : {M : Type 1} → statement M
-write-whole-spec =
+pub write_whole_spec : {M : Type 1} → statement M
+write_whole_spec =
     tie.close
     (tie.spec
     (λ c κs. search rules)

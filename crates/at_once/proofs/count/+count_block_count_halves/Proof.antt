@@ -77,126 +77,126 @@ module _ (t : ℕ) where
   )
 
   -- ---- `count_block`
-  count_block_returns : count-block-lts.Need-returns count_block_claims count_block_at count-block.Post
+  count_block_returns : count-block-lts.Need-returns-then-end-begin count_block_claims count_block_at count-block.Post
   count_block_returns c =
-      let l = c.before in let g = l.before in let k = g.before.before.before.before in (
-        λ job. count_missed job.block k.args.first k.args.last g.greater.ensures l.lesser.ensures c.if1.true k.args.contact,
+      let l = c in let g = l in let k = g in (
+        λ job. count_missed job.block k.args.first k.args.last g.greater-begin.ensures l.lesser-end.ensures c.if-end-begin.true k.args.contact,
         (put_same, (k.requires.1.1.0, (k.requires.1.1.1.0, unmoved))),
       )
 
-  count_block_count_word_requires : count-block-lts.Need-count-word-requires count_block_claims count_block_at count-block.Post
+  count_block_count_word_requires : count-block-lts.Need-count_word-requires count_block_claims count_block_at count-block.Post
   count_block_count_word_requires c κs =
-      let i2 = c.before.before.before.before in let k = i2.before.before.before.before.before.before.before in
-      (k.requires.1.0, (i2.if2.true, k.requires.1.1.1.1.right))
+      let i2 = c in let k = i2 in
+      (k.requires.1.0, (i2.if-left.true, k.requires.1.1.1.1.right))
 
-  count_block_returns_2 : count-block-lts.Need-returns-2 count_block_claims count_block_at count-block.Post
+  count_block_returns_2 : count-block-lts.Need-returns-then-left count_block_claims count_block_at count-block.Post
   count_block_returns_2 c =
-      let k = c.before.before.before.before.before.before.before.before.before.before.before.before in
+      let k = c in
       (c.count_word.ensures, (put_same, (k.requires.1.1.0, (k.requires.1.1.1.0, unmoved))))
 
-  count_block_prune_requires : count-block-lts.Need-prune-requires count_block_claims count_block_at count-block.Post
+  count_block_prune_requires : count-block-lts.Need-prune-kept-requires count_block_claims count_block_at count-block.Post
   count_block_prune_requires c κs =
-      let i2 = c.before.before.before.before.before.before in let k = i2.before.before.before.before.before.before.before in
-      let two : 2 ≤ k.args.left + 1 = omega (arith, i2.if2.false) in
+      let i2 = c in let k = i2 in
+      let two : 2 ≤ k.args.left + 1 = omega (arith, i2.if-left.false) in
       (prune_job k.requires.1.0.block two, (k.requires.1.1.0, k.requires.1.1.1.1.right))
 
-  count_block_same_length_2 : count-block-lts.Need-same-length-2 count_block_claims count_block_at count-block.Post
+  count_block_same_length_2 : count-block-lts.Need-shape_of-codes-then-mark-eq-WHITE_BIT count_block_claims count_block_at count-block.Post
   count_block_same_length_2 c =
-      let p = c.before.before.before in let i2 = p.before.before.before.before.before.before.before in
-      let k = i2.before.before.before.before.before.before.before in
+      let p = c in let i2 = p in
+      let k = i2 in
       let j = k.requires.1.0 in
-      let two : 2 ≤ k.args.left + 1 = omega (arith, i2.if2.false) in
-      (below_same j.block two (p.prune.ensures.0 (prune_job j.block two))).long
+      let two : 2 ≤ k.args.left + 1 = omega (arith, i2.if-left.false) in
+      (below_same j.block two (p.prune-kept.ensures.0 (prune_job j.block two))).long
 
-  count_block_returns_3 : count-block-lts.Need-returns-3 count_block_claims count_block_at count-block.Post
+  count_block_returns_3 : count-block-lts.Need-returns-then-mark-eq-WHITE_BIT count_block_claims count_block_at count-block.Post
   count_block_returns_3 c =
-      let p = c.before.before.before in let i2 = p.before.before.before.before.before.before.before in
-      let k = i2.before.before.before.before.before.before.before in
+      let p = c in let i2 = p in
+      let k = i2 in
       let j = k.requires.1.0 in
-      let two : 2 ≤ k.args.left + 1 = omega (arith, i2.if2.false) in
-      let e = p.prune.ensures in (
-        λ job. count_white job.block k.args.first k.args.last two (e.0 (prune_job job.block two)) c.if3.true k.args.contact,
+      let two : 2 ≤ k.args.left + 1 = omega (arith, i2.if-left.false) in
+      let e = p.prune-kept.ensures in (
+        λ job. count_white job.block k.args.first k.args.last two (e.0 (prune_job job.block two)) c.if-mark-eq-WHITE_BIT.true k.args.contact,
         (pruned_back j.block two (e.0 (prune_job j.block two)), (e.1, (k.requires.1.1.1.0, unmoved))),
       )
 
-  count_block_voxels_of_requires : count-block-lts.Need-voxels-of-requires count_block_claims count_block_at count-block.Post
+  count_block_voxels_of_requires : count-block-lts.Need-voxels_of-requires count_block_claims count_block_at count-block.Post
   count_block_voxels_of_requires c κs =
-      let i1 = c.before.before.before.before.before.before.before.before.before.before.before.before in let l = i1.before in let g = l.before in
-      let k = g.before.before.before.before in
-      black_frames k.requires.1.0.block k.args.first k.args.last g.greater.ensures l.lesser.ensures i1.if1.false
+      let i1 = c in let l = i1 in let g = l in
+      let k = g in
+      black_frames k.requires.1.0.block k.args.first k.args.last g.greater-begin.ensures l.lesser-end.ensures i1.if-end-begin.false
 
   count_block_joined_requires : count-block-lts.Need-joined-requires count_block_claims count_block_at count-block.Post
   count_block_joined_requires c κs =
-      let i4 = c.before in let p = i4.before.before.before.before in let i2 = p.before.before.before.before.before.before.before in
-      let i1 = i2.before in let l = i1.before in let g = l.before in let k = g.before.before.before.before in
+      let i4 = c in let p = i4 in let i2 = p in
+      let i1 = i2 in let l = i1 in let g = l in let k = g in
       let j = k.requires.1.0 in
-      let two : 2 ≤ k.args.left + 1 = omega (arith, i2.if2.false) in
-      black_fits j.block k.args.first k.args.last two (p.prune.ensures.0 (prune_job j.block two)) g.greater.ensures l.lesser.ensures
-      i1.if1.false i4.if4.true k.args.contact c.voxels-of.ensures j.counts
+      let two : 2 ≤ k.args.left + 1 = omega (arith, i2.if-left.false) in
+      black_fits j.block k.args.first k.args.last two (p.prune-kept.ensures.0 (prune_job j.block two)) g.greater-begin.ensures l.lesser-end.ensures
+      i1.if-end-begin.false i4.if-mark-eq-BLACK_BIT.true k.args.contact c.voxels_of.ensures j.counts
 
-  count_block_same_length_3 : count-block-lts.Need-same-length-3 count_block_claims count_block_at count-block.Post
+  count_block_same_length_3 : count-block-lts.Need-shape_of-codes-then-mark-eq-BLACK_BIT count_block_claims count_block_at count-block.Post
   count_block_same_length_3 c =
-      let p = c.before.before.before.before.before.before in let i2 = p.before.before.before.before.before.before.before in
-      let k = i2.before.before.before.before.before.before.before in
+      let p = c in let i2 = p in
+      let k = i2 in
       let j = k.requires.1.0 in
-      let two : 2 ≤ k.args.left + 1 = omega (arith, i2.if2.false) in
-      (below_same j.block two (p.prune.ensures.0 (prune_job j.block two))).long
+      let two : 2 ≤ k.args.left + 1 = omega (arith, i2.if-left.false) in
+      (below_same j.block two (p.prune-kept.ensures.0 (prune_job j.block two))).long
 
-  count_block_returns_4 : count-block-lts.Need-returns-4 count_block_claims count_block_at count-block.Post
+  count_block_returns_4 : count-block-lts.Need-returns-then-mark-eq-BLACK_BIT count_block_claims count_block_at count-block.Post
   count_block_returns_4 c =
-      let v = c.before in let i4 = v.before in let p = i4.before.before.before.before in
-      let i2 = p.before.before.before.before.before.before.before in let i1 = i2.before in let l = i1.before in let g = l.before in
-      let k = g.before.before.before.before in
+      let v = c in let i4 = v in let p = i4 in
+      let i2 = p in let i1 = i2 in let l = i1 in let g = l in
+      let k = g in
       let j = k.requires.1.0 in
-      let two : 2 ≤ k.args.left + 1 = omega (arith, i2.if2.false) in
-      let e = p.prune.ensures in (
-        λ job. c.joined.ensures ∙ count_black_lem job.block k.args.first k.args.last two (e.0 (prune_job job.block two)) g.greater.ensures
-            l.lesser.ensures i1.if1.false i4.if4.true k.args.contact v.voxels_of.ensures,
+      let two : 2 ≤ k.args.left + 1 = omega (arith, i2.if-left.false) in
+      let e = p.prune-kept.ensures in (
+        λ job. c.joined.ensures ∙ count_black_lem job.block k.args.first k.args.last two (e.0 (prune_job job.block two)) g.greater-begin.ensures
+            l.lesser-end.ensures i1.if-end-begin.false i4.if-mark-eq-BLACK_BIT.true k.args.contact v.voxels_of.ensures,
         (pruned_back j.block two (e.0 (prune_job j.block two)), (e.1, (k.requires.1.1.1.0, unmoved))),
       )
 
-  count_block_add_count_halves : count-block-lts.Need-overflow-add-count-halves count_block_claims count_block_at count-block.Post
+  count_block_add_count_halves : count-block-lts.Need-overflow_add-from count_block_claims count_block_at count-block.Post
   count_block_add_count_halves c =
-      let k = c.before.before.before.before.before.before.before.before.before.before.before.before.before.before.before.before.before.before.before.before.before in
-      let j = k.pre.1.0 in
+      let k = c in
+      let j = k.requires.1.0 in
       omega (arith, j.block.carrying.inside, j.block.bounded)
 
-  count_block_count_halves_requires : count-block-lts.Need-count-halves-requires count_block_claims count_block_at count-block.Post
+  count_block_count_halves_requires : count-block-lts.Need-count_halves-requires count_block_claims count_block_at count-block.Post
   count_block_count_halves_requires c κs =
-      let i4 = c.before.before.before.before.before.before.before.before.before in let i3 = i4.before in let p = i3.before.before.before in
-      let i2 = p.before.before.before.before.before.before.before in let k = i2.before.before.before.before.before.before.before in
+      let i4 = c in let i3 = i4 in let p = i3 in
+      let i2 = p in let k = i2 in
       let j = k.requires.1.0 in
-      let two : 2 ≤ k.args.left + 1 = omega (arith, i2.if2.false) in
-      let e = p.prune.ensures in
+      let two : 2 ≤ k.args.left + 1 = omega (arith, i2.if-left.false) in
+      let e = p.prune-kept.ensures in
       let pr = e.0 (prune_job j.block two) in (
         omega (arith, k.requires.0),
         (
-          count_left j.block k.args.first k.args.last two pr i3.if3.false i4.if4.false k.args.left refl k.args.contact j.counts,
+          count_left j.block k.args.first k.args.last two pr i3.if-mark-eq-WHITE_BIT.false i4.if-mark-eq-BLACK_BIT.false k.args.left refl k.args.contact j.counts,
           (omega (arith, two), (e.1, (k.requires.1.1.1.0, kept_values (prune_job j.block two) pr k.requires.1.1.1.1))),
         ),
       )
 
-  count_block_same_length_4 : count-block-lts.Need-same-length-4 count_block_claims count_block_at count-block.Post
+  count_block_same_length_4 : count-block-lts.Need-shape_of-codes count_block_claims count_block_at count-block.Post
   count_block_same_length_4 c =
-      let h = c.before.before in let p = h.before.before.before.before.before.before.before.before.before.before.before.before.before.before in
-      let i2 = p.before.before.before.before.before.before.before in let k = i2.before.before.before.before.before.before.before in
+      let h = c in let p = h in
+      let i2 = p in let k = i2 in
       let j = k.requires.1.0 in
-      let two : 2 ≤ k.args.left + 1 = omega (arith, i2.if2.false) in
-      h.count-halves.ensures.1.0.below.long ∙ (below_same j.block two (p.prune.ensures.0 (prune_job j.block two))).long
+      let two : 2 ≤ k.args.left + 1 = omega (arith, i2.if-left.false) in
+      h.count_halves.ensures.1.0.below.long ∙ (below_same j.block two (p.prune-kept.ensures.0 (prune_job j.block two))).long
 
-  count_block_returns_5 : count-block-lts.Need-returns-5 count_block_claims count_block_at count-block.Post
+  count_block_returns_5 : count-block-lts.Need-returns count_block_claims count_block_at count-block.Post
   count_block_returns_5 c =
-      let h = c.before.before in let i4 = h.before.before.before.before.before.before.before.before.before.before in let i3 = i4.before in
-      let p = i3.before.before.before in let i2 = p.before.before.before.before.before.before.before in
-      let k = i2.before.before.before.before.before.before.before in
+      let h = c in let i4 = h in let i3 = i4 in
+      let p = i3 in let i2 = p in
+      let k = i2 in
       let j = k.requires.1.0 in
-      let two : 2 ≤ k.args.left + 1 = omega (arith, i2.if2.false) in
-      let w = i3.if3.false in
-      let b = i4.if4.false in
+      let two : 2 ≤ k.args.left + 1 = omega (arith, i2.if-left.false) in
+      let w = i3.if-mark-eq-WHITE_BIT.false in
+      let b = i4.if-mark-eq-BLACK_BIT.false in
       let first = k.args.first in
       let last = k.args.last in
-      let e = p.prune.ensures.0 in
-      let f = h.count-halves.ensures in (
+      let e = p.prune-kept.ensures.0 in
+      let f = h.count_halves.ensures in (
         λ job. let q = e (prune_job job.block two) in
             count_opened job.block first last two q w b k.args.left refl k.args.contact job.counts
             (f.0 (count_left job.block first last two q w b k.args.left refl k.args.contact job.counts)),
@@ -204,120 +204,120 @@ module _ (t : ℕ) where
       )
 
   -- ---- `count_halves`
-  count_halves_count_words_requires : count-halves-lts.Need-count-words-requires count_halves_claims count_halves_at count-halves.Post
+  count_halves_count_words_requires : count-halves-lts.Need-count_words-requires count_halves_claims count_halves_at count-halves.Post
   count_halves_count_words_requires c κs =
-      let i = c.before.before.before.before.before.before in let k = i.before.before in
-      (counts_job i.if1.true k.requires.1.0, (k.requires.1.1.1.1.0, k.requires.1.1.1.1.1.right))
+      let i = c in let k = i in
+      (counts_job i.if-left.true k.requires.1.0, (k.requires.1.1.1.1.0, k.requires.1.1.1.1.1.right))
 
-  count_halves_returns : count-halves-lts.Need-returns count_halves_claims count_halves_at count-halves.Post
+  count_halves_returns : count-halves-lts.Need-returns-then-left count_halves_claims count_halves_at count-halves.Post
   count_halves_returns c =
-      let i = c.before.before.before.before.before.before.before in let k = i.before.before in
-      let e = c.count-words.ensures in
-      (as_counted i.if1.true e.0, (e.1.0, (k.requires.1.1.1.0, (e.1.1, unmoved))))
+      let i = c in let k = i in
+      let e = c.count_words.ensures in
+      (as_counted i.if-left.true e.0, (e.1.0, (k.requires.1.1.1.0, (e.1.1, unmoved))))
 
-  count_halves_count_block_requires : count-halves-lts.Need-count-block-requires count_halves_claims count_halves_at count-halves.Post
+  count_halves_count_block_requires : count-halves-lts.Need-count_block-below-requires count_halves_claims count_halves_at count-halves.Post
   count_halves_count_block_requires c κs =
-      let k = c.before.before.before.before.before.before.before.before.before.before.before.before.before.before in
+      let k = c in
       let j = k.requires.1.0 in
       let some = k.requires.1.1.0 in
       (omega (arith, k.requires.0, some), (count_lower j some, k.requires.1.1.1))
 
-  count_halves_add_low : count-halves-lts.Need-overflow-add-low count_halves_claims count_halves_at count-halves.Post
+  count_halves_add_low : count-halves-lts.Need-overflow_add-low count_halves_claims count_halves_at count-halves.Post
   count_halves_add_low c =
-      let k = c.before.before.before.before.before.before.before.before.before.before.before.before.before.before.before.before.before in
+      let k = c in
       omega (arith, near_fits k.requires.1.0.block k.requires.1.1.0)
 
-  count_halves_mul_low : count-halves-lts.Need-overflow-mul-low count_halves_claims count_halves_at count-halves.Post
+  count_halves_mul_low : count-halves-lts.Need-offset_bounds-low-axis-2 count_halves_claims count_halves_at count-halves.Post
   count_halves_mul_low c =
-      let k = c.before.before.before.before.before.before.before.before.before.before.before.before.before.before.before.before.before in
+      let k = c in
       omega (arith, axis_within k.requires.1.0.block k.requires.1.1.0)
 
-  count_halves_element_write_low : count-halves-lts.Need-element-write-low count_halves_claims count_halves_at count-halves.Post
+  count_halves_element_write_low : count-halves-lts.Need-bounds-low-axis-2 count_halves_claims count_halves_at count-halves.Post
   count_halves_element_write_low c =
-      let k = c.before.before.before.before.before.before.before.before.before.before.before.before.before.before.before.before.before in
+      let k = c in
       omega (arith, axis_within k.requires.1.0.block k.requires.1.1.0)
 
-  count_halves_move_values_requires : count-halves-lts.Need-move-values-requires count_halves_claims count_halves_at count-halves.Post
+  count_halves_move_values_requires : count-halves-lts.Need-move_values-requires count_halves_claims count_halves_at count-halves.Post
   count_halves_move_values_requires c κs =
-      let l = c.before.before.before.before.before in
-      let k = l.before.before.before.before.before.before.before.before.before.before.before.before.before.before.before in
-      let e = l.count-block.ensures in
+      let l = c in
+      let k = l in
+      let e = l.count_block-below.ensures in
       raise_job k.requires.1.0.block k.requires.1.1.0 k.requires.1.1.1.1.1 e.1.0.below e.1.1.1.1
 
-  count_halves_sub_count_block_2 : count-halves-lts.Need-overflow-sub-count-block-2 count_halves_claims count_halves_at count-halves.Post
+  count_halves_sub_count_block_2 : count-halves-lts.Need-overflow_sub-left-2 count_halves_claims count_halves_at count-halves.Post
   count_halves_sub_count_block_2 c =
-      let k = c.before.before.before.before.before.before.before.before.before.before.before.before.before.before.before.before.before.before.before.before.before.before.before in
-      k.pre.1.1.0
+      let k = c in
+      k.requires.1.1.0
 
-  count_halves_sub_count_block_3 : count-halves-lts.Need-overflow-sub-count-block-3 count_halves_claims count_halves_at count-halves.Post
+  count_halves_sub_count_block_3 : count-halves-lts.Need-overflow_sub-round count_halves_claims count_halves_at count-halves.Post
   count_halves_sub_count_block_3 c =
-      let k = c.before.before.before.before.before.before.before.before.before.before.before.before.before.before.before.before.before.before.before.before.before.before.before.before.before.before.before.before.before.before in
-      k.pre.1.1.1.1.1.is_round
+      let k = c in
+      k.requires.1.1.1.1.1.is_round
 
-  count_halves_count_block_requires_2 : count-halves-lts.Need-count-block-requires-2 count_halves_claims count_halves_at count-halves.Post
+  count_halves_count_block_requires_2 : count-halves-lts.Need-count_block-above-requires count_halves_claims count_halves_at count-halves.Post
   count_halves_count_block_requires_2 c κs =
-      let m = c.before.before.before.before.before.before.before.before.before in let l = m.before.before.before.before.before.before in
-      let k = l.before.before.before.before.before.before.before.before.before.before.before.before.before.before.before in
+      let m = c in let l = m in
+      let k = l in
       let j = k.requires.1.0 in
       let some = k.requires.1.1.0 in
-      let e = l.count-block.ensures in (
+      let e = l.count_block-below.ensures in (
         omega (arith, k.requires.0, some),
         (
           count_upper j some (e.0 (count_lower j some)) e.1.0,
-          (e.1.1.0, (e.1.1.1.0, high_values j.block some k.requires.1.1.1.1.1 e.1.0 e.1.1.1.1 m.move-values.ensures)),
+          (e.1.1.0, (e.1.1.1.0, high_values j.block some k.requires.1.1.1.1.1 e.1.0 e.1.1.1.1 m.move_values.ensures)),
         ),
       )
 
-  count_halves_mul_low_2 : count-halves-lts.Need-overflow-mul-low-2 count_halves_claims count_halves_at count-halves.Post
+  count_halves_mul_low_2 : count-halves-lts.Need-offset_bounds-low-axis-3 count_halves_claims count_halves_at count-halves.Post
   count_halves_mul_low_2 c =
-      let k = c.before.before.before.before.before.before.before.before.before.before.before.before.before.before.before.before.before.before.before.before.before.before.before.before.before.before.before.before.before.before.before.before.before in
-      omega (arith, axis_within k.pre.1.0.block k.pre.1.1.0)
+      let k = c in
+      omega (arith, axis_within k.requires.1.0.block k.requires.1.1.0)
 
-  count_halves_element_write_low_2 : count-halves-lts.Need-element-write-low-2 count_halves_claims count_halves_at count-halves.Post
+  count_halves_element_write_low_2 : count-halves-lts.Need-bounds-low-axis-3 count_halves_claims count_halves_at count-halves.Post
   count_halves_element_write_low_2 c =
-      let k = c.before.before.before.before.before.before.before.before.before.before.before.before.before.before.before.before.before.before.before.before.before.before.before.before.before.before.before.before.before.before.before.before.before in
-      omega (arith, axis_within k.pre.1.0.block k.pre.1.1.0)
+      let k = c in
+      omega (arith, axis_within k.requires.1.0.block k.requires.1.1.0)
 
-  count_halves_mul_side_2 : count-halves-lts.Need-overflow-mul-side-2 count_halves_claims count_halves_at count-halves.Post
+  count_halves_mul_side_2 : count-halves-lts.Need-offset_bounds-side-axis-3 count_halves_claims count_halves_at count-halves.Post
   count_halves_mul_side_2 c =
-      let k = c.before.before.before.before.before.before.before.before.before.before.before.before.before.before.before.before.before.before.before.before.before.before.before.before.before.before.before.before.before.before.before.before.before in
-      omega (arith, axis_within k.pre.1.0.block k.pre.1.1.0)
+      let k = c in
+      omega (arith, axis_within k.requires.1.0.block k.requires.1.1.0)
 
-  count_halves_element_write_side_2 : count-halves-lts.Need-element-write-side-2 count_halves_claims count_halves_at count-halves.Post
+  count_halves_element_write_side_2 : count-halves-lts.Need-bounds-side-axis-3 count_halves_claims count_halves_at count-halves.Post
   count_halves_element_write_side_2 c =
-      let k = c.before.before.before.before.before.before.before.before.before.before.before.before.before.before.before.before.before.before.before.before.before.before.before.before.before.before.before.before.before.before.before.before.before in
-      omega (arith, axis_within k.pre.1.0.block k.pre.1.1.0)
+      let k = c in
+      omega (arith, axis_within k.requires.1.0.block k.requires.1.1.0)
 
-  count_halves_sub_move_values : count-halves-lts.Need-overflow-sub-move-values count_halves_claims count_halves_at count-halves.Post
+  count_halves_sub_move_values : count-halves-lts.Need-overflow_sub-round-2 count_halves_claims count_halves_at count-halves.Post
   count_halves_sub_move_values c =
-      let k = c.before.before.before.before.before.before.before.before.before.before.before.before.before.before.before.before.before.before.before.before.before.before.before.before.before.before.before.before.before.before.before.before.before.before.before.before in
-      k.pre.1.1.1.1.1.is_round
+      let k = c in
+      k.requires.1.1.1.1.1.is_round
 
-  count_halves_move_values_requires_2 : count-halves-lts.Need-move-values-requires-2 count_halves_claims count_halves_at count-halves.Post
+  count_halves_move_values_requires_2 : count-halves-lts.Need-move_values-requires-2 count_halves_claims count_halves_at count-halves.Post
   count_halves_move_values_requires_2 c κs =
-      let h = c.before.before.before.before.before in let m = h.before.before.before.before.before.before.before.before.before.before in
-      let l = m.before.before.before.before.before.before in
-      let k = l.before.before.before.before.before.before.before.before.before.before.before.before.before.before.before in
-      let e = l.count-block.ensures in
-      let f = h.count-block2.ensures in
-      back_job k.requires.1.0.block k.requires.1.1.0 k.requires.1.1.1.1.1 e.1.0.below e.1.1.1.1 m.move-values.ensures f.1.0.below
+      let h = c in let m = h in
+      let l = m in
+      let k = l in
+      let e = l.count_block-below.ensures in
+      let f = h.count_block-above.ensures in
+      back_job k.requires.1.0.block k.requires.1.1.0 k.requires.1.1.1.1.1 e.1.0.below e.1.1.1.1 m.move_values.ensures f.1.0.below
       f.1.1.1.1
 
-  count_halves_same_length_2 : count-halves-lts.Need-same-length-2 count_halves_claims count_halves_at count-halves.Post
+  count_halves_same_length_2 : count-halves-lts.Need-shape_of-codes count_halves_claims count_halves_at count-halves.Post
   count_halves_same_length_2 c =
-      let h = c.before.before.before.before.before.before in
-      let l = h.before.before.before.before.before.before.before.before.before.before.before.before.before.before.before.before in
-      h.count-block2.ensures.1.0.below.long ∙ l.count-block.ensures.1.0.below.long
+      let h = c in
+      let l = h in
+      h.count_block-above.ensures.1.0.below.long ∙ l.count_block-below.ensures.1.0.below.long
 
-  count_halves_returns_2 : count-halves-lts.Need-returns-2 count_halves_claims count_halves_at count-halves.Post
+  count_halves_returns_2 : count-halves-lts.Need-returns count_halves_claims count_halves_at count-halves.Post
   count_halves_returns_2 c =
-      let h = c.before.before.before.before.before.before in let m = h.before.before.before.before.before.before.before.before.before.before in
-      let l = m.before.before.before.before.before.before in
-      let k = l.before.before.before.before.before.before.before.before.before.before.before.before.before.before.before in
+      let h = c in let m = h in
+      let l = m in
+      let k = l in
       let j = k.requires.1.0 in
       let some = k.requires.1.1.0 in
-      let e = l.count-block.ensures in
-      let f = h.count-block2.ensures in (
+      let e = l.count_block-below.ensures in
+      let f = h.count_block-above.ensures in (
         λ job. count_both job some (e.0 (count_lower job some)) e.1.0 f.0 f.1.0,
         (
           both_back j some (e.0 (count_lower j some)) e.1.0 f.0 f.1.0,
@@ -325,15 +325,15 @@ module _ (t : ℕ) where
             f.1.1.0,
             (
               f.1.1.1.0,
-              back j.block some k.requires.1.1.1.1.1 e.1.0.below e.1.1.1.1 m.move-values.ensures f.1.0.below f.1.1.1.1
-                  c.move-values2.ensures,
+              back j.block some k.requires.1.1.1.1.1 e.1.0.below e.1.1.1.1 m.move_values.ensures f.1.0.below f.1.1.1.1
+                  c.move_values-2.ensures,
             ),
           ),
         ),
       )
 
-pub +count-block-count-halves-spec : {M : Type 1} → statement M
-+count-block-count-halves-spec = close μ_count_block μ_count_halves (λ t. count-block-lts.spec (count_block_claims t)
+pub +count_block_count_halves_spec : {M : Type 1} → statement M
++count_block_count_halves_spec = close μ_count_block μ_count_halves (λ t. count-block-lts.spec (count_block_claims t)
     (count_block_at t)
     count-block.Post
     (λ c. let k = c.before in let j = k.requires.1.0 in some_axis j.block)

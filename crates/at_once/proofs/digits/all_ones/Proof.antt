@@ -4,17 +4,17 @@ use borrow.Author.Rules.{rules}
 use Rattle.at_once.proofs.digits.all_ones.Statement.{statement}
 use Rattle.at_once.proofs.digits.all_ones.Tie as tie
 
-shl-result : tie.Need-overflow-shl-result
+shl-result : tie.Need-overflow_shl-result
 shl-result c = search rules
 
-sub-result : tie.Need-overflow-sub-result
+sub-result : tie.Need-overflow_sub-result
 sub-result c = voxels_fit c.args.left c.requires
 
-shr-result : tie.Need-overflow-shr-result
+shr-result : tie.Need-overflow_shr-result
 shr-result c = voxels_some c.args.left c.requires
 
 returns : tie.Need-returns
 returns c = ones_shifted c.args.left c.requires
 
-pub all-ones-spec : {M : Type 1} → statement M
-all-ones-spec = tie.close (tie.spec shl-result sub-result shr-result returns)
+pub all_ones_spec : {M : Type 1} → statement M
+all_ones_spec = tie.close (tie.spec shl-result sub-result shr-result returns)

@@ -4,13 +4,13 @@ use borrow.Author.Rules.{rules}
 use Rattle.at_once.proofs.digits.lower.Statement.{statement}
 use Rattle.at_once.proofs.digits.lower.Tie as tie
 
-shl-result : tie.Need-overflow-shl-result
+shl-result : tie.Need-overflow_shl-result
 shl-result c = search rules
 
-shl-result-2 : tie.Need-overflow-shl-result-2
+shl-result-2 : tie.Need-overflow_shl-result-2
 shl-result-2 c = half_fits c.args.n c.requires
 
-sub-result : tie.Need-overflow-sub-result
+sub-result : tie.Need-overflow_sub-result
 sub-result c = one_some c.args.n c.requires
 
 returns : tie.Need-returns

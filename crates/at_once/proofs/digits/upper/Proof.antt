@@ -4,14 +4,14 @@ use borrow.Author.Rules.{rules}
 use Rattle.at_once.proofs.digits.upper.Statement.{statement}
 use Rattle.at_once.proofs.digits.upper.Tie as tie
 
-shl-result : tie.Need-overflow-shl-result
+shl-result : tie.Need-overflow_shl-result
 shl-result c = search rules
 
-shr-result : tie.Need-overflow-shr-result
+shr-result : tie.Need-overflow_shr-result
 shr-result c = half_fits c.args.n c.requires
 
 returns : tie.Need-returns
 returns c = upper_is c.args.n c.requires c.args.word
 
-pub upper-spec : {M : Type 1} → statement M
-upper-spec = tie.close (tie.spec shl-result shr-result returns)
+pub upper_spec : {M : Type 1} → statement M
+upper_spec = tie.close (tie.spec shl-result shr-result returns)

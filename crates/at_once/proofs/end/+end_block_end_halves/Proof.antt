@@ -89,118 +89,118 @@ module _ (t : ℕ) where
   )
 
   -- ---- `end_block`
-  end_block_returns : end-block-lts.Need-returns end_block_claims end_block_at end-block.Post
+  end_block_returns : end-block-lts.Need-returns-then-end-begin end_block_claims end_block_at end-block.Post
   end_block_returns c =
-      let l = c.before in let g = l.before in let k = g.before.before.before.before in (
-        λ job. end_missed job k.args.first k.args.last k.args.backward k.args.known g.greater.ensures l.lesser.ensures c.if1.true,
+      let l = c in let g = l in let k = g in (
+        λ job. end_missed job k.args.first k.args.last k.args.backward k.args.known g.greater-begin.ensures l.lesser-end.ensures c.if-end-begin.true,
         (put_same, (k.requires.1.1.0, (k.requires.1.1.1.0, unmoved))),
       )
 
-  end_block_returns_2 : end-block-lts.Need-returns-2 end_block_claims end_block_at end-block.Post
+  end_block_returns_2 : end-block-lts.Need-returns-then-best-known end_block_claims end_block_at end-block.Post
   end_block_returns_2 c =
-      let b = c.before in let h = b.before in let l = h.before.before in let g = l.before in let k = g.before.before.before.before in (
-        λ job. end_known job k.args.first k.args.last k.args.backward k.args.known g.greater.ensures l.lesser.ensures
-            h.chosen.ensures b.better.ensures c.if2.true,
+      let b = c in let h = b in let l = h in let g = l in let k = g in (
+        λ job. end_known job k.args.first k.args.last k.args.backward k.args.known g.greater-begin.ensures l.lesser-end.ensures
+            h.chosen-seen.ensures b.better-best.ensures c.if-best-known.true,
         (put_same, (k.requires.1.1.0, (k.requires.1.1.1.0, unmoved))),
       )
 
-  end_block_end_word_requires : end-block-lts.Need-end-word-requires end_block_claims end_block_at end-block.Post
+  end_block_end_word_requires : end-block-lts.Need-end_word-requires end_block_claims end_block_at end-block.Post
   end_block_end_word_requires c κs =
-      let i3 = c.before.before.before.before in let k = i3.before.before.before.before.before.before.before.before.before.before in
-      (k.requires.1.0, (i3.if3.true, k.requires.1.1.1.1.right))
+      let i3 = c in let k = i3 in
+      (k.requires.1.0, (i3.if-left.true, k.requires.1.1.1.1.right))
 
-  end_block_returns_3 : end-block-lts.Need-returns-3 end_block_claims end_block_at end-block.Post
+  end_block_returns_3 : end-block-lts.Need-returns-then-left end_block_claims end_block_at end-block.Post
   end_block_returns_3 c =
-      let k = c.before.before.before.before.before.before.before.before.before.before.before.before.before.before.before in
-      (c.end-word.ensures, (put_same, (k.requires.1.1.0, (k.requires.1.1.1.0, unmoved))))
+      let k = c in
+      (c.end_word.ensures, (put_same, (k.requires.1.1.0, (k.requires.1.1.1.0, unmoved))))
 
-  end_block_prune_requires : end-block-lts.Need-prune-requires end_block_claims end_block_at end-block.Post
+  end_block_prune_requires : end-block-lts.Need-prune-kept-requires end_block_claims end_block_at end-block.Post
   end_block_prune_requires c κs =
-      let i3 = c.before.before.before.before.before.before in
-      let k = i3.before.before.before.before.before.before.before.before.before.before in
-      let two : 2 ≤ k.args.left + 1 = omega (arith, i3.if3.false) in
+      let i3 = c in
+      let k = i3 in
+      let two : 2 ≤ k.args.left + 1 = omega (arith, i3.if-left.false) in
       (prune_job k.requires.1.0 two, (k.requires.1.1.0, k.requires.1.1.1.1.right))
 
-  end_block_same_length_2 : end-block-lts.Need-same-length-2 end_block_claims end_block_at end-block.Post
+  end_block_same_length_2 : end-block-lts.Need-shape_of-codes-then-mark-eq-WHITE_BIT end_block_claims end_block_at end-block.Post
   end_block_same_length_2 c =
-      let p = c.before.before.before in let i3 = p.before.before.before.before.before.before.before in
-      let k = i3.before.before.before.before.before.before.before.before.before.before in
+      let p = c in let i3 = p in
+      let k = i3 in
       let j = k.requires.1.0 in
-      let two : 2 ≤ k.args.left + 1 = omega (arith, i3.if3.false) in
-      (below_same j two (p.prune.ensures.0 (prune_job j two))).long
+      let two : 2 ≤ k.args.left + 1 = omega (arith, i3.if-left.false) in
+      (below_same j two (p.prune-kept.ensures.0 (prune_job j two))).long
 
-  end_block_returns_4 : end-block-lts.Need-returns-4 end_block_claims end_block_at end-block.Post
+  end_block_returns_4 : end-block-lts.Need-returns-then-mark-eq-WHITE_BIT end_block_claims end_block_at end-block.Post
   end_block_returns_4 c =
-      let p = c.before.before.before in let i3 = p.before.before.before.before.before.before.before in
-      let k = i3.before.before.before.before.before.before.before.before.before.before in
+      let p = c in let i3 = p in
+      let k = i3 in
       let j = k.requires.1.0 in
-      let two : 2 ≤ k.args.left + 1 = omega (arith, i3.if3.false) in
-      let e = p.prune.ensures in (
-        λ job. end_white job k.args.first k.args.last k.args.backward k.args.known two (e.0 (prune_job job two)) c.if4.true,
+      let two : 2 ≤ k.args.left + 1 = omega (arith, i3.if-left.false) in
+      let e = p.prune-kept.ensures in (
+        λ job. end_white job k.args.first k.args.last k.args.backward k.args.known two (e.0 (prune_job job two)) c.if-mark-eq-WHITE_BIT.true,
         (pruned_back j two (e.0 (prune_job j two)), (e.1, (k.requires.1.1.1.0, unmoved))),
       )
 
-  end_block_same_length_3 : end-block-lts.Need-same-length-3 end_block_claims end_block_at end-block.Post
+  end_block_same_length_3 : end-block-lts.Need-shape_of-codes-then-mark-eq-BLACK_BIT end_block_claims end_block_at end-block.Post
   end_block_same_length_3 c =
-      let p = c.before.before.before.before in let i3 = p.before.before.before.before.before.before.before in
-      let k = i3.before.before.before.before.before.before.before.before.before.before in
+      let p = c in let i3 = p in
+      let k = i3 in
       let j = k.requires.1.0 in
-      let two : 2 ≤ k.args.left + 1 = omega (arith, i3.if3.false) in
-      (below_same j two (p.prune.ensures.0 (prune_job j two))).long
+      let two : 2 ≤ k.args.left + 1 = omega (arith, i3.if-left.false) in
+      (below_same j two (p.prune-kept.ensures.0 (prune_job j two))).long
 
-  end_block_returns_5 : end-block-lts.Need-returns-5 end_block_claims end_block_at end-block.Post
+  end_block_returns_5 : end-block-lts.Need-returns-then-mark-eq-BLACK_BIT end_block_claims end_block_at end-block.Post
   end_block_returns_5 c =
-      let p = c.before.before.before.before in let i3 = p.before.before.before.before.before.before.before in let b = i3.before.before in
-      let h = b.before in let i1 = h.before in let l = i1.before in let g = l.before in let k = g.before.before.before.before in
+      let p = c in let i3 = p in let b = i3 in
+      let h = b in let i1 = h in let l = i1 in let g = l in let k = g in
       let j = k.requires.1.0 in
-      let two : 2 ≤ k.args.left + 1 = omega (arith, i3.if3.false) in
-      let e = p.prune.ensures in (
-        λ job. end_black job k.args.first k.args.last k.args.backward k.args.known g.greater.ensures l.lesser.ensures
-            h.chosen.ensures b.better.ensures i1.if1.false two (e.0 (prune_job job two)) c.if5.true,
+      let two : 2 ≤ k.args.left + 1 = omega (arith, i3.if-left.false) in
+      let e = p.prune-kept.ensures in (
+        λ job. end_black job k.args.first k.args.last k.args.backward k.args.known g.greater-begin.ensures l.lesser-end.ensures
+            h.chosen-seen.ensures b.better-best.ensures i1.if-end-begin.false two (e.0 (prune_job job two)) c.if-mark-eq-BLACK_BIT.true,
         (pruned_back j two (e.0 (prune_job j two)), (e.1, (k.requires.1.1.1.0, unmoved))),
       )
 
-  end_block_add_end_halves : end-block-lts.Need-overflow-add-end-halves end_block_claims end_block_at end-block.Post
+  end_block_add_end_halves : end-block-lts.Need-overflow_add-from end_block_claims end_block_at end-block.Post
   end_block_add_end_halves c =
-      let k = c.before.before.before.before.before.before.before.before.before.before.before.before.before.before.before.before.before.before.before.before.before.before.before.before in
-      let j = k.pre.1.0 in
+      let k = c in
+      let j = k.requires.1.0 in
       omega (arith, j.carrying.inside, j.bounded)
 
-  end_block_end_halves_requires : end-block-lts.Need-end-halves-requires end_block_claims end_block_at end-block.Post
+  end_block_end_halves_requires : end-block-lts.Need-end_halves-requires end_block_claims end_block_at end-block.Post
   end_block_end_halves_requires c κs =
-      let i5 = c.before.before.before.before.before.before.before.before.before in let i4 = i5.before in let p = i4.before.before.before in
-      let i3 = p.before.before.before.before.before.before.before in
-      let k = i3.before.before.before.before.before.before.before.before.before.before in
+      let i5 = c in let i4 = i5 in let p = i4 in
+      let i3 = p in
+      let k = i3 in
       let j = k.requires.1.0 in
-      let two : 2 ≤ k.args.left + 1 = omega (arith, i3.if3.false) in
-      let e = p.prune.ensures in
+      let two : 2 ≤ k.args.left + 1 = omega (arith, i3.if-left.false) in
+      let e = p.prune-kept.ensures in
       let pr = e.0 (prune_job j two) in (
         omega (arith, k.requires.0),
         (
-          left_job j two pr i4.if4.false i5.if5.false k.args.left refl,
+          left_job j two pr i4.if-mark-eq-WHITE_BIT.false i5.if-mark-eq-BLACK_BIT.false k.args.left refl,
           (omega (arith, two), (e.1, (k.requires.1.1.1.0, kept_values (prune_job j two) pr k.requires.1.1.1.1))),
         ),
       )
 
-  end_block_same_length_4 : end-block-lts.Need-same-length-4 end_block_claims end_block_at end-block.Post
+  end_block_same_length_4 : end-block-lts.Need-shape_of-codes end_block_claims end_block_at end-block.Post
   end_block_same_length_4 c =
-      let h = c.before.before in let p = h.before.before.before.before.before.before.before.before.before.before.before.before.before.before in
-      let i3 = p.before.before.before.before.before.before.before in
-      let k = i3.before.before.before.before.before.before.before.before.before.before in
+      let h = c in let p = h in
+      let i3 = p in
+      let k = i3 in
       let j = k.requires.1.0 in
-      let two : 2 ≤ k.args.left + 1 = omega (arith, i3.if3.false) in
-      h.end_halves.ensures.1.0.below.long ∙ (below_same j two (p.prune.ensures.0 (prune_job j two))).long
+      let two : 2 ≤ k.args.left + 1 = omega (arith, i3.if-left.false) in
+      h.end_halves.ensures.1.0.below.long ∙ (below_same j two (p.prune-kept.ensures.0 (prune_job j two))).long
 
-  end_block_returns_6 : end-block-lts.Need-returns-6 end_block_claims end_block_at end-block.Post
+  end_block_returns_6 : end-block-lts.Need-returns end_block_claims end_block_at end-block.Post
   end_block_returns_6 c =
-      let h = c.before.before in let i5 = h.before.before.before.before.before.before.before.before.before.before in let i4 = i5.before in
-      let p = i4.before.before.before in let i3 = p.before.before.before.before.before.before.before in
-      let k = i3.before.before.before.before.before.before.before.before.before.before in
+      let h = c in let i5 = h in let i4 = i5 in
+      let p = i4 in let i3 = p in
+      let k = i3 in
       let j = k.requires.1.0 in
-      let two : 2 ≤ k.args.left + 1 = omega (arith, i3.if3.false) in
-      let w = i4.if4.false in
-      let b = i5.if5.false in
-      let e = p.prune.ensures.0 in
+      let two : 2 ≤ k.args.left + 1 = omega (arith, i3.if-left.false) in
+      let w = i4.if-mark-eq-WHITE_BIT.false in
+      let b = i5.if-mark-eq-BLACK_BIT.false in
+      let e = p.prune-kept.ensures.0 in
       let f = h.end_halves.ensures in (
         λ job. let q = e (prune_job job two) in
             end_opened job k.args.first k.args.last k.args.backward k.args.known two q w b k.args.left refl
@@ -209,16 +209,16 @@ module _ (t : ℕ) where
       )
 
   -- ---- `end_halves`
-  end_halves_end_words_requires : end-halves-lts.Need-end-words-requires end_halves_claims end_halves_at end_halves.Post
+  end_halves_end_words_requires : end-halves-lts.Need-end_words-requires end_halves_claims end_halves_at end_halves.Post
   end_halves_end_words_requires c κs =
-      let i = c.before.before.before.before.before.before.before in let k = i.before.before in
-      (words_job i.if1.true k.requires.1.0, (k.requires.1.1.1.1.0, k.requires.1.1.1.1.1.right))
+      let i = c in let k = i in
+      (words_job i.if-left.true k.requires.1.0, (k.requires.1.1.1.1.0, k.requires.1.1.1.1.1.right))
 
-  end_halves_returns : end-halves-lts.Need-returns end_halves_claims end_halves_at end_halves.Post
+  end_halves_returns : end-halves-lts.Need-returns-then-balls-eq0 end_halves_claims end_halves_at end_halves.Post
   end_halves_returns c =
-      let i = c.before.before.before.before.before.before.before.before in let k = i.before.before in
-      let e = c.end-words.ensures in (
-        as_bettered k.args.first k.args.last k.args.backward k.args.known i.if1.true e.0,
+      let i = c in let k = i in
+      let e = c.end_words.ensures in (
+        as_bettered k.args.first k.args.last k.args.backward k.args.known i.if-left.true e.0,
         (
           e.1.0,
           (
@@ -231,19 +231,19 @@ module _ (t : ℕ) where
         ),
       )
 
-  end_halves_move_where_requires : end-halves-lts.Need-move-where-requires end_halves_claims end_halves_at end_halves.Post
+  end_halves_move_where_requires : end-halves-lts.Need-move_where-requires end_halves_claims end_halves_at end_halves.Post
   end_halves_move_where_requires c κs =
-      let k = c.before.before.before.before.before.before.before.before.before in
+      let k = c in
       λ e. raise_job k.requires.1.0 k.requires.1.1.0 k.requires.1.1.1.1.1 same_itself unmoved
 
-  end_halves_end_block_requires : end-halves-lts.Need-end-block-requires end_halves_claims end_halves_at end_halves.Post
+  end_halves_end_block_requires : end-halves-lts.Need-end_block-sooner-requires end_halves_claims end_halves_at end_halves.Post
   end_halves_end_block_requires c κs =
-      let t = c.before.before.before.before.before.before.before.before.before in let m = t.before in
-      let h = m.before.before.before.before in let k = h.before.before.before.before.before.before in
+      let t = c in let m = t in
+      let h = m in let k = h in
       let j = k.requires.1.0 in
       let some = k.requires.1.1.0 in
       let at = k.requires.1.1.1.1.1 in
-      let way = sooner j some at k.args.backward m.move-where.ensures.0 m.move-where.ensures.1 t.turned.ensures in (
+      let way = sooner j some at k.args.backward m.move_where.ensures.0 m.move_where.ensures.1 t.turned-turn.ensures in (
         omega (arith, k.requires.0, some),
         (
           sooner_job j some k.args.first k.args.last k.args.backward k.args.known h.chosen.ensures,
@@ -257,101 +257,101 @@ module _ (t : ℕ) where
         ),
       )
 
-  end_halves_move_values_requires : end-halves-lts.Need-move-values-requires end_halves_claims end_halves_at end_halves.Post
+  end_halves_move_values_requires : end-halves-lts.Need-move_values-requires end_halves_claims end_halves_at end_halves.Post
   end_halves_move_values_requires c κs =
-      let b = c.before.before.before.before.before.before in let t = b.before.before.before.before.before.before.before.before.before.before in
-      let m = t.before in let k = m.before.before.before.before.before.before.before.before.before.before in
+      let b = c in let t = b in
+      let m = t in let k = m in
       let j = k.requires.1.0 in
       let some = k.requires.1.1.0 in
       let at = k.requires.1.1.1.1.1 in
-      let e = b.end-block.ensures in
-      let way = sooner j some at k.args.backward m.move-where.ensures.0 m.move-where.ensures.1 t.turned.ensures in
+      let e = b.end_block-sooner.ensures in
+      let way = sooner j some at k.args.backward m.move_where.ensures.0 m.move_where.ensures.1 t.turned-turn.ensures in
       across_job j some at way e.1.0.below e.1.1.1.1
 
-  end_halves_sub_end_block_3 : end-halves-lts.Need-overflow-sub-end-block-3 end_halves_claims end_halves_at end_halves.Post
+  end_halves_sub_end_block_3 : end-halves-lts.Need-overflow_sub-turn end_halves_claims end_halves_at end_halves.Post
   end_halves_sub_end_block_3 c =
-      let t = c.before.before.before.before.before.before.before.before.before.before.before.before.before.before.before.before.before.before.before.before.before.before.before.before.before.before in let k = t.before.before.before.before.before.before.before.before.before.before.before in
-      turn_few k.args.backward t.turned.ensures k.pre.1.1.1.1.1.is_round
+      let t = c in let k = t in
+      turn_few k.args.backward t.turned-turn.ensures k.requires.1.1.1.1.1.is_round
 
-  end_halves_end_block_requires_2 : end-halves-lts.Need-end-block-requires-2 end_halves_claims end_halves_at end_halves.Post
+  end_halves_end_block_requires_2 : end-halves-lts.Need-end_block-later-requires end_halves_claims end_halves_at end_halves.Post
   end_halves_end_block_requires_2 c κs =
-      let v = c.before.before.before.before.before.before.before.before.before in let d = v.before.before.before.before in let b = d.before.before.before in let t = b.before.before.before.before.before.before.before.before.before.before in let m = t.before in
-      let h = m.before.before.before.before in let k = h.before.before.before.before.before.before in
-      let j = k.pre.1.0 in
-      let some = k.pre.1.1.0 in
-      let at = k.pre.1.1.1.1.1 in
-      let e = b.end-block.ensures in
-      let way = sooner j some at k.args.backward m.move-where.ensures.0 m.move-where.ensures.1 t.turned.ensures in
-      let after = later j some at way e.1.0.below e.1.1.1.1 v.move-values.ensures in (
-        omega (arith, k.pre.0, some),
+      let v = c in let d = v in let b = d in let t = b in let m = t in
+      let h = m in let k = h in
+      let j = k.requires.1.0 in
+      let some = k.requires.1.1.0 in
+      let at = k.requires.1.1.1.1.1 in
+      let e = b.end_block-sooner.ensures in
+      let way = sooner j some at k.args.backward m.move_where.ensures.0 m.move_where.ensures.1 t.turned-turn.ensures in
+      let after = later j some at way e.1.0.below e.1.1.1.1 v.move_values.ensures in (
+        omega (arith, k.requires.0, some),
         (
-          later_job j some k.args.first k.args.last k.args.backward k.args.known h.chosen.ensures e.0 e.1.0 d.chosen2.ensures,
-          (e.1.1.0, (e.1.1.1.0, later_values j some at after e.1.0.below h.chosen.ensures e.1.0.lows d.chosen2.ensures)),
+          later_job j some k.args.first k.args.last k.args.backward k.args.known h.chosen.ensures e.0 e.1.0 d.chosen-2.ensures,
+          (e.1.1.0, (e.1.1.1.0, later_values j some at after e.1.0.below h.chosen.ensures e.1.0.lows d.chosen-2.ensures)),
         ),
       )
 
-  end_halves_sub_move_where : end-halves-lts.Need-overflow-sub-move-where end_halves_claims end_halves_at end_halves.Post
+  end_halves_sub_move_where : end-halves-lts.Need-overflow_sub-turn-2 end_halves_claims end_halves_at end_halves.Post
   end_halves_sub_move_where c =
-      let t = c.before.before.before.before.before.before.before.before.before.before.before.before.before.before.before.before.before.before.before.before.before.before.before.before.before.before.before.before.before.before.before.before in let k = t.before.before.before.before.before.before.before.before.before.before.before in
-      turn_few k.args.backward t.turned.ensures k.pre.1.1.1.1.1.is_round
+      let t = c in let k = t in
+      turn_few k.args.backward t.turned-turn.ensures k.requires.1.1.1.1.1.is_round
 
-  end_halves_move_where_requires_2 : end-halves-lts.Need-move-where-requires-2 end_halves_claims end_halves_at end_halves.Post
+  end_halves_move_where_requires_2 : end-halves-lts.Need-move_where-requires-2 end_halves_claims end_halves_at end_halves.Post
   end_halves_move_where_requires_2 c κs =
-      let g = c.before.before.before.before.before in
-      let v = g.before.before.before.before.before.before.before.before.before.before in let d = v.before.before.before.before in let b = d.before.before.before in let t = b.before.before.before.before.before.before.before.before.before.before in let m = t.before in
-      let h = m.before.before.before.before in let k = h.before.before.before.before.before.before in
-      let j = k.pre.1.0 in
-      let some = k.pre.1.1.0 in
-      let at = k.pre.1.1.1.1.1 in
-      let e = b.end-block.ensures in
-      let f = g.end-block2.ensures in
-      let way = sooner j some at k.args.backward m.move-where.ensures.0 m.move-where.ensures.1 t.turned.ensures in
-      let after = later j some at way e.1.0.below e.1.1.1.1 v.move-values.ensures in
+      let g = c in
+      let v = g in let d = v in let b = d in let t = b in let m = t in
+      let h = m in let k = h in
+      let j = k.requires.1.0 in
+      let some = k.requires.1.1.0 in
+      let at = k.requires.1.1.1.1.1 in
+      let e = b.end_block-sooner.ensures in
+      let f = g.end_block-later.ensures in
+      let way = sooner j some at k.args.backward m.move_where.ensures.0 m.move_where.ensures.1 t.turned-turn.ensures in
+      let after = later j some at way e.1.0.below e.1.1.1.1 v.move_values.ensures in
       last_job j some at after e.1.0.below f.1.0.below f.1.1.1.1
 
-  end_halves_same_length_2 : end-halves-lts.Need-same-length-2 end_halves_claims end_halves_at end_halves.Post
+  end_halves_same_length_2 : end-halves-lts.Need-shape_of-codes end_halves_claims end_halves_at end_halves.Post
   end_halves_same_length_2 c =
-      let g = c.before.before.before.before.before.before in let b = g.before.before.before.before.before.before.before.before.before.before.before.before.before.before.before.before.before in
-      g.end-block2.ensures.1.0.below.long ∙ b.end-block.ensures.1.0.below.long
+      let g = c in let b = g in
+      g.end_block-later.ensures.1.0.below.long ∙ b.end_block-sooner.ensures.1.0.below.long
 
-  end_halves_returns_2 : end-halves-lts.Need-returns-2 end_halves_claims end_halves_at end_halves.Post
+  end_halves_returns_2 : end-halves-lts.Need-returns end_halves_claims end_halves_at end_halves.Post
   end_halves_returns_2 c =
-      let g = c.before.before.before.before.before.before in
-      let v = g.before.before.before.before.before.before.before.before.before.before in let d = v.before.before.before.before in let b = d.before.before.before in let t = b.before.before.before.before.before.before.before.before.before.before in let m = t.before in
-      let h = m.before.before.before.before in let k = h.before.before.before.before.before.before in
-      let j = k.pre.1.0 in
-      let some = k.pre.1.1.0 in
-      let at = k.pre.1.1.1.1.1 in
-      let e = b.end-block.ensures in
-      let f = g.end-block2.ensures in
-      let way = sooner j some at k.args.backward m.move-where.ensures.0 m.move-where.ensures.1 t.turned.ensures in
-      let after = later j some at way e.1.0.below e.1.1.1.1 v.move-values.ensures in (
-        λ job. ends_both job some k.args.first k.args.last k.args.backward k.args.known h.chosen.ensures e.0 e.1.0 d.chosen2.ensures f.0 f.1.0,
+      let g = c in
+      let v = g in let d = v in let b = d in let t = b in let m = t in
+      let h = m in let k = h in
+      let j = k.requires.1.0 in
+      let some = k.requires.1.1.0 in
+      let at = k.requires.1.1.1.1.1 in
+      let e = b.end_block-sooner.ensures in
+      let f = g.end_block-later.ensures in
+      let way = sooner j some at k.args.backward m.move_where.ensures.0 m.move_where.ensures.1 t.turned-turn.ensures in
+      let after = later j some at way e.1.0.below e.1.1.1.1 v.move_values.ensures in (
+        λ job. ends_both job some k.args.first k.args.last k.args.backward k.args.known h.chosen.ensures e.0 e.1.0 d.chosen-2.ensures f.0 f.1.0,
         (
-          ends_back j some k.args.first k.args.last k.args.backward k.args.known h.chosen.ensures e.0 e.1.0 d.chosen2.ensures f.0 f.1.0,
+          ends_back j some k.args.first k.args.last k.args.backward k.args.known h.chosen.ensures e.0 e.1.0 d.chosen-2.ensures f.0 f.1.0,
           (
             f.1.1.0,
             (
               f.1.1.1.0,
-              all_back j some at after e.1.0.below f.1.0.below f.1.1.1.1 c.move-where2.ensures.0 c.move-where2.ensures.1,
+              all_back j some at after e.1.0.below f.1.0.below f.1.1.1.1 c.move_where-2.ensures.0 c.move_where-2.ensures.1,
             ),
           ),
         ),
       )
 
-pub +end-block-end-halves-spec : {M : Type 1} → statement M
-+end-block-end-halves-spec =
+pub +end_block_end_halves_spec : {M : Type 1} → statement M
++end_block_end_halves_spec =
     close μ_end_block μ_end_halves (λ t. end-block-lts.spec (end_block_claims t)
     (end_block_at t)
     end-block.Post
-    (λ c. let k = c.before in let j = k.requires.1.0 in let some = k.requires.1.1.0 in some_axis j)
-    (λ c. let k = c.before in let j = k.requires.1.0 in omega (arith, last_axis j))
-    (λ c. let k = c.before in let j = k.requires.1.0 in omega (arith, last_axis j))
-    (λ c. let k = c.before.before in let j = k.requires.1.0 in omega (arith, last_axis j))
-    (λ c. let k = c.before.before in let j = k.requires.1.0 in omega (arith, last_axis j))
+    (λ c. let k = c in let j = k.requires.1.0 in let some = k.requires.1.1.0 in some_axis j)
+    (λ c. let k = c in let j = k.requires.1.0 in omega (arith, last_axis j))
+    (λ c. let k = c in let j = k.requires.1.0 in omega (arith, last_axis j))
+    (λ c. let k = c in let j = k.requires.1.0 in omega (arith, last_axis j))
+    (λ c. let k = c in let j = k.requires.1.0 in omega (arith, last_axis j))
     (λ c κs. tt)
-    (λ c. let k = c.before.before.before.before in let j = k.requires.1.0 in let some = k.requires.1.1.0 in wide_some j)
-    (λ c. let k = c.before.before.before.before in let j = k.requires.1.0 in let some = k.requires.1.1.0 in omega (arith, frames_end j, wide_some j))
+    (λ c. let k = c in let j = k.requires.1.0 in let some = k.requires.1.1.0 in wide_some j)
+    (λ c. let k = c in let j = k.requires.1.0 in let some = k.requires.1.1.0 in omega (arith, frames_end j, wide_some j))
     (λ c κs. tt)
     (end_block_returns t)
     (λ c κs. tt)
@@ -376,34 +376,34 @@ pub +end-block-end-halves-spec : {M : Type 1} → statement M
     (end_halves_end_words_requires t)
     (λ c. refl)
     (end_halves_returns t)
-    (λ c. let k = c.before.before in k.requires.1.1.0)
-    (λ c. let k = c.before.before in let j = k.requires.1.0 in let some = k.requires.1.1.0 in omega (arith, place_in j some))
-    (λ c. let k = c.before.before in let j = k.requires.1.0 in let some = k.requires.1.1.0 in omega (arith, place_in j some))
-    (λ c. let k = c.before.before.before in let j = k.requires.1.0 in let some = k.requires.1.1.0 in omega (arith, axis_within j some))
-    (λ c. let k = c.before.before.before in let j = k.requires.1.0 in let some = k.requires.1.1.0 in omega (arith, axis_within j some))
-    (λ c. let k = c.before.before.before.before in let j = k.requires.1.0 in let some = k.requires.1.1.0 in omega (arith, axis_within j some))
-    (λ c. let k = c.before.before.before.before in let j = k.requires.1.0 in let some = k.requires.1.1.0 in omega (arith, axis_within j some))
-    (λ c. let k = c.before.before.before.before.before in let j = k.requires.1.0 in let some = k.requires.1.1.0 in omega (arith, near_fits j some))
-    (λ c. let k = c.before.before.before.before.before in let j = k.requires.1.0 in let some = k.requires.1.1.0 in omega (arith, axis_within j some))
-    (λ c. let k = c.before.before.before.before.before in let j = k.requires.1.0 in let some = k.requires.1.1.0 in omega (arith, axis_within j some))
+    (λ c. let k = c in k.requires.1.1.0)
+    (λ c. let k = c in let j = k.requires.1.0 in let some = k.requires.1.1.0 in omega (arith, place_in j some))
+    (λ c. let k = c in let j = k.requires.1.0 in let some = k.requires.1.1.0 in omega (arith, place_in j some))
+    (λ c. let k = c in let j = k.requires.1.0 in let some = k.requires.1.1.0 in omega (arith, axis_within j some))
+    (λ c. let k = c in let j = k.requires.1.0 in let some = k.requires.1.1.0 in omega (arith, axis_within j some))
+    (λ c. let k = c in let j = k.requires.1.0 in let some = k.requires.1.1.0 in omega (arith, axis_within j some))
+    (λ c. let k = c in let j = k.requires.1.0 in let some = k.requires.1.1.0 in omega (arith, axis_within j some))
+    (λ c. let k = c in let j = k.requires.1.0 in let some = k.requires.1.1.0 in omega (arith, near_fits j some))
+    (λ c. let k = c in let j = k.requires.1.0 in let some = k.requires.1.1.0 in omega (arith, axis_within j some))
+    (λ c. let k = c in let j = k.requires.1.0 in let some = k.requires.1.1.0 in omega (arith, axis_within j some))
     (λ c κs. tt)
-    (λ c. let k = c.before.before.before.before.before.before in let j = k.requires.1.0 in let some = k.requires.1.1.0 in omega (arith, axis_within j some))
-    (λ c. let k = c.before.before.before.before.before.before in let j = k.requires.1.0 in let some = k.requires.1.1.0 in omega (arith, axis_within j some))
+    (λ c. let k = c in let j = k.requires.1.0 in let some = k.requires.1.1.0 in omega (arith, axis_within j some))
+    (λ c. let k = c in let j = k.requires.1.0 in let some = k.requires.1.1.0 in omega (arith, axis_within j some))
     (end_halves_move_where_requires t)
-    (λ c κs. let k = c.before.before.before.before.before.before.before.before.before.before in k.requires.1.1.1.1.1.is_round)
-    (λ c. let k = c.before.before.before.before.before.before.before.before.before.before.before.before.before in k.requires.1.1.0)
+    (λ c κs. let k = c in k.requires.1.1.1.1.1.is_round)
+    (λ c. let k = c in k.requires.1.1.0)
     (end_halves_end_block_requires t)
     (λ c κs. tt)
-    (λ c. let k = c.before.before.before.before.before.before.before.before.before.before.before.before.before.before.before.before.before.before.before.before.before.before.before.before in let j = k.pre.1.0 in let some = k.pre.1.1.0 in omega (arith, axis_within j some))
-    (λ c. let k = c.before.before.before.before.before.before.before.before.before.before.before.before.before.before.before.before.before.before.before.before.before.before.before.before in let j = k.pre.1.0 in let some = k.pre.1.1.0 in omega (arith, axis_within j some))
+    (λ c. let k = c in let j = k.requires.1.0 in let some = k.requires.1.1.0 in omega (arith, axis_within j some))
+    (λ c. let k = c in let j = k.requires.1.0 in let some = k.requires.1.1.0 in omega (arith, axis_within j some))
     (end_halves_move_values_requires t)
-    (λ c. let k = c.before.before.before.before.before.before.before.before.before.before.before.before.before.before.before.before.before.before.before.before.before.before.before.before.before.before.before.before.before.before in k.pre.1.1.0)
+    (λ c. let k = c in k.requires.1.1.0)
     (end_halves_sub_end_block_3 t)
     (end_halves_end_block_requires_2 t)
-    (λ c. let k = c.before.before.before.before.before.before.before.before.before.before.before.before.before.before.before.before.before.before.before.before.before.before.before.before.before.before.before.before.before.before.before.before.before.before.before.before.before.before.before.before in let j = k.pre.1.0 in let some = k.pre.1.1.0 in omega (arith, axis_within j some))
-    (λ c. let k = c.before.before.before.before.before.before.before.before.before.before.before.before.before.before.before.before.before.before.before.before.before.before.before.before.before.before.before.before.before.before.before.before.before.before.before.before.before.before.before.before in let j = k.pre.1.0 in let some = k.pre.1.1.0 in omega (arith, axis_within j some))
-    (λ c. let k = c.before.before.before.before.before.before.before.before.before.before.before.before.before.before.before.before.before.before.before.before.before.before.before.before.before.before.before.before.before.before.before.before.before.before.before.before.before.before.before.before in let j = k.pre.1.0 in let some = k.pre.1.1.0 in omega (arith, axis_within j some))
-    (λ c. let k = c.before.before.before.before.before.before.before.before.before.before.before.before.before.before.before.before.before.before.before.before.before.before.before.before.before.before.before.before.before.before.before.before.before.before.before.before.before.before.before.before in let j = k.pre.1.0 in let some = k.pre.1.1.0 in omega (arith, axis_within j some))
+    (λ c. let k = c in let j = k.requires.1.0 in let some = k.requires.1.1.0 in omega (arith, axis_within j some))
+    (λ c. let k = c in let j = k.requires.1.0 in let some = k.requires.1.1.0 in omega (arith, axis_within j some))
+    (λ c. let k = c in let j = k.requires.1.0 in let some = k.requires.1.1.0 in omega (arith, axis_within j some))
+    (λ c. let k = c in let j = k.requires.1.0 in let some = k.requires.1.1.0 in omega (arith, axis_within j some))
     (end_halves_sub_move_where t)
     (end_halves_move_where_requires_2 t)
     (end_halves_same_length_2 t)

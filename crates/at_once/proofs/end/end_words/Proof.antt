@@ -10,51 +10,51 @@ use Rattle.at_once.proofs.Betters.{ends_in_order}
 use Rattle.at_once.proofs.end.end_words.Statement.{statement}
 use Rattle.at_once.proofs.end.end_words.Tie as tie
 
-both-words-requires : tie.Need-both-words-requires
+both-words-requires : tie.Need-both_words-words-requires
 both-words-requires c κs =
-    let k = c.before.before.before.before.before.before.before.requires in
+    let k = c.requires in
     (low_trees k.0, (high_trees k.0, (axis_here k.0, (k.1.0, (half_power k.0 some, k.1.1)))))
 
-read-word-requires : tie.Need-read-word-requires
+read-word-requires : tie.Need-read_word-below-requires
 read-word-requires c κs =
-    let b = c.before.before in let low = lower_job b.before.before.before.before.before.before.before.before.requires.0 some in
-    word_over low six (trees_are low six b.both_words.ensures.0)
+    let b = c in let low = lower_job b.requires.0 some in
+    word_over low six (trees_are low six b.both_words-words.ensures.0)
 
-read-word-requires-2 : tie.Need-read-word-requires-2
+read-word-requires-2 : tie.Need-read_word-above-requires
 read-word-requires-2 c κs =
-    let b = c.before.before.before.before.before in let high = upper_job b.before.before.before.before.before.before.before.before.requires.0 some
+    let b = c in let high = upper_job b.requires.0 some
     same_itself in
-    word_over high six (trees_are high six b.both_words.ensures.1.0)
+    word_over high six (trees_are high six b.both_words-words.ensures.1.0)
 
 returns : tie.Need-returns
 returns c =
-    let l = c.before.before.before in let b = l.before.before.before in let k = b.before.before.before.before.before.before.before.before in
-    let e = b.both_words.ensures in (
+    let l = c in let b = l in let k = b in
+    let e = b.both_words-words.ensures in (
       λ job. ends_in_order job some k.args.first k.args.last k.args.backward k.args.known
-          (λ low. l.read_word.ensures (word_over low six (trees_are low six e.0)))
-          (λ high. c.read-word2.ensures (word_over high six (trees_are high six e.1.0))),
+          (λ low. l.read_word-below.ensures (word_over low six (trees_are low six e.0)))
+          (λ high. c.read_word-above.ensures (word_over high six (trees_are high six e.1.0))),
       (words_back _ _ _, e.1.1),
     )
 
-pub end-words-spec : {M : Type 1} → statement M
-end-words-spec =
+pub end_words_spec : {M : Type 1} → statement M
+end_words_spec =
     tie.close
     (tie.spec
     (λ c. search rules)
-    (λ c. omega (arith, axis_here c.before.before.requires.0))
-    (λ c. omega (arith, axis_here c.before.before.requires.0))
-    (λ c. omega (arith, axis_here c.before.before.before.requires.0))
-    (λ c. omega (arith, axis_here c.before.before.before.requires.0))
+    (λ c. omega (arith, axis_here c.requires.0))
+    (λ c. omega (arith, axis_here c.requires.0))
+    (λ c. omega (arith, axis_here c.requires.0))
+    (λ c. omega (arith, axis_here c.requires.0))
     both-words-requires
-    (λ c. omega (arith, axis_here c.before.before.before.before.before.before.before.before.requires.0))
-    (λ c. omega (arith, axis_here c.before.before.before.before.before.before.before.before.requires.0))
+    (λ c. omega (arith, axis_here c.requires.0))
+    (λ c. omega (arith, axis_here c.requires.0))
     read-word-requires
-    (λ c. omega (arith, near_fits c.before.before.before.before.before.before.before.before.before.before.before.requires.0 some))
-    (λ c. omega (arith, axis_here c.before.before.before.before.before.before.before.before.before.before.before.requires.0))
-    (λ c. omega (arith, axis_here c.before.before.before.before.before.before.before.before.before.before.before.requires.0))
+    (λ c. omega (arith, near_fits c.requires.0 some))
+    (λ c. omega (arith, axis_here c.requires.0))
+    (λ c. omega (arith, axis_here c.requires.0))
     read-word-requires-2
-    (λ c. omega (arith, axis_here c.before.before.before.before.before.before.before.before.before.before.before.before.before.before.requires.0))
-    (λ c. omega (arith, axis_here c.before.before.before.before.before.before.before.before.before.before.before.before.before.before.requires.0))
-    (λ c. omega (arith, axis_here c.before.before.before.before.before.before.before.before.before.before.before.before.before.before.requires.0))
-    (λ c. omega (arith, axis_here c.before.before.before.before.before.before.before.before.before.before.before.before.before.before.requires.0))
+    (λ c. omega (arith, axis_here c.requires.0))
+    (λ c. omega (arith, axis_here c.requires.0))
+    (λ c. omega (arith, axis_here c.requires.0))
+    (λ c. omega (arith, axis_here c.requires.0))
     returns)

@@ -7,50 +7,50 @@ use Rattle.at_once.proofs.Betters.{end_word_none, end_word}
 use Rattle.at_once.proofs.end.read_word.Statement.{statement}
 use Rattle.at_once.proofs.end.read_word.Tie as tie
 
-returns : tie.Need-returns
+returns : tie.Need-returns-then-trees-eq0
 returns c =
-    let k = c.before in
+    let k = c in
     λ over. let e = over.word_is in
-    end_word_none over.block k.args.first k.args.last k.args.backward k.args.known e refl (trees_none over.block k.args.first k.args.last e refl c.if1.true)
+    end_word_none over.block k.args.first k.args.last k.args.backward k.args.known e refl (trees_none over.block k.args.first k.args.last e refl c.if-trees-eq0.true)
 
-frames-word-requires : tie.Need-frames-word-requires
-frames-word-requires c κs = let o = c.before.before.before.requires in framed o.block o.few
+frames-word-requires : tie.Need-frames_word-window-requires
+frames-word-requires c κs = let o = c.requires in framed o.block o.few
 
-returns-2 : tie.Need-returns-2
+returns-2 : tie.Need-returns-then-word-eq0
 returns-2 c =
-    let w = c.before in let k = w.before.before.before.before in
+    let w = c in let k = w in
     λ over. end_word_none over.block k.args.first k.args.last k.args.backward k.args.known over.word_is
-    (frames_are over.block over.few k.args.first k.args.last w.frames-word.ensures) c.if2.true
+    (frames_are over.block over.few k.args.first k.args.last w.frames_word-window.ensures) c.if-word-eq0.true
 
-word-end-requires : tie.Need-word-end-requires
-word-end-requires c κs = let o = c.before.before.before.before.before.requires in halvings o.block o.few
+word-end-requires : tie.Need-word_end-end-requires
+word-end-requires c κs = let o = c.requires in halvings o.block o.few
 
-add-better : tie.Need-overflow-add-better
+add-better : tie.Need-overflow_add-frame
 add-better c =
-    let i = c.before in let w = i.before in let k = w.before.before.before.before in
+    let i = c in let w = i in let k = w in
     let o = k.requires in
     record {
-      fits = word_end_fits o.block k.args.first k.args.last o.word_is (frames_are o.block o.few k.args.first k.args.last w.frames-word.ensures)
-          i.if2.false k.args.backward (end_are o.block o.few k.args.backward _ c.word-end.ensures);
+      fits = word_end_fits o.block k.args.first k.args.last o.word_is (frames_are o.block o.few k.args.first k.args.last w.frames_word-window.ensures)
+          i.if-word-eq0.false k.args.backward (end_are o.block o.few k.args.backward _ c.word_end-end.ensures);
     }
 
-returns-3 : tie.Need-returns-3
+returns-3 : tie.Need-returns
 returns-3 c =
-    let e = c.before in let i = e.before in let w = i.before in let k = w.before.before.before.before in
+    let e = c in let i = e in let w = i in let k = w in
     λ over. end_word over.block k.args.first k.args.last k.args.backward k.args.known over.word_is
-    (frames_are over.block over.few k.args.first k.args.last w.frames-word.ensures) i.if2.false
-    (end_are over.block over.few k.args.backward _ e.word-end.ensures) c.better.ensures
+    (frames_are over.block over.few k.args.first k.args.last w.frames_word-window.ensures) i.if-word-eq0.false
+    (end_are over.block over.few k.args.backward _ e.word_end-end.ensures) c.better.ensures
 
-pub read-word-spec : {M : Type 1} → statement M
-read-word-spec =
+pub read_word_spec : {M : Type 1} → statement M
+read_word_spec =
     tie.close
     (tie.spec
     returns
-    (λ c. some_axis c.before.requires.block)
-    (λ c. omega (arith, last_axis c.before.requires.block))
-    (λ c. last_axis c.before.requires.block)
-    (λ c. omega (arith, last_axis c.before.before.requires.block))
-    (λ c. last_axis c.before.before.requires.block)
+    (λ c. some_axis c.requires.block)
+    (λ c. omega (arith, last_axis c.requires.block))
+    (λ c. last_axis c.requires.block)
+    (λ c. omega (arith, last_axis c.requires.block))
+    (λ c. last_axis c.requires.block)
     frames-word-requires
     returns-2
     word-end-requires

@@ -16,12 +16,12 @@ greater-requires : tie.Need-greater-requires
 greater-requires c κs = search rules
 
 -- src/frames.rt:29:17
-add-t7 : tie.Need-overflow-add-t7
+add-t7 : tie.Need-overflow_add-result
 add-t7 c = search rules
 
 -- src/frames.rt:22:1
 returns : tie.Need-returns
 returns c = cc
 
-pub joined-spec : {M : Type 1} → statement M
-joined-spec = tie.close (tie.spec lesser-requires greater-requires add-t7 returns)
+pub joined_spec : {M : Type 1} → statement M
+joined_spec = tie.close (tie.spec lesser-requires greater-requires add-t7 returns)

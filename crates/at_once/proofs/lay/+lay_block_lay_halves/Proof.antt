@@ -76,326 +76,326 @@ module _ (t : ℕ) where
   )
 
   -- ---- `lay_block`
-  lay_block_trees_word_requires : lay-block-lts.Need-trees-word-requires lay_block_claims lay_block_at lay-block.Post
+  lay_block_trees_word_requires : lay-block-lts.Need-trees_word-word-requires lay_block_claims lay_block_at lay-block.Post
   lay_block_trees_word_requires c κs =
-      let k = c.before.before.before.before.before.before in
-      (trees_job k.requires.1.0 c.before.before.before.if1.true, k.requires.1.1.1.1.1.right)
+      let k = c in
+      (trees_job k.requires.1.0 c.if-left.true, k.requires.1.1.1.1.1.right)
 
-  lay_block_lay_word_requires : lay-block-lts.Need-lay-word-requires lay_block_claims lay_block_at lay-block.Post
+  lay_block_lay_word_requires : lay-block-lts.Need-lay_word-requires lay_block_claims lay_block_at lay-block.Post
   lay_block_lay_word_requires c κs =
-      let k = c.before.before.before.before.before.before.before.before in
-      let few = c.before.before.before.before.before.if1.true in
-      word_text k.requires.1.0 k.requires.1.1.1.0 few (trees_are k.requires.1.0 few c.before.trees-word.ensures)
+      let k = c in
+      let few = c.if-left.true in
+      word_text k.requires.1.0 k.requires.1.1.1.0 few (trees_are k.requires.1.0 few c.trees_word-word.ensures)
 
-  lay_block_same_length : lay-block-lts.Need-same-length lay_block_claims lay_block_at lay-block.Post
+  lay_block_same_length : lay-block-lts.Need-shape_of-codes-then-left lay_block_claims lay_block_at lay-block.Post
   lay_block_same_length c = refl
 
-  lay_block_same_length_2 : lay-block-lts.Need-same-length-2 lay_block_claims lay_block_at lay-block.Post
-  lay_block_same_length_2 c = c.before.before.lay-word.auto.1.1.0
+  lay_block_same_length_2 : lay-block-lts.Need-shape_of-out-then-left lay_block_claims lay_block_at lay-block.Post
+  lay_block_same_length_2 c = c.lay_word.auto.out
 
-  lay_block_returns : lay-block-lts.Need-returns lay_block_claims lay_block_at lay-block.Post
+  lay_block_returns : lay-block-lts.Need-returns-then-left lay_block_claims lay_block_at lay-block.Post
   lay_block_returns c =
-      let k = c.before.before.before.before.before.before.before.before.before.before.before in
-      let few = c.before.before.before.before.before.before.before.before.if1.true in (
-        λ job. word_laid job k.requires.1.1.1.0 few (trees_are job few c.before.before.before.before.trees-word.ensures)
-            c.before.before.lay-word.ensures,
+      let k = c in
+      let few = c.if-left.true in (
+        λ job. word_laid job k.requires.1.1.1.0 few (trees_are job few c.trees_word-word.ensures)
+            c.lay_word.ensures,
         (put_same, (k.requires.1.1.0, (k.requires.1.1.1.1.0, unmoved))),
       )
 
-  lay_block_prune_requires : lay-block-lts.Need-prune-requires lay_block_claims lay_block_at lay-block.Post
+  lay_block_prune_requires : lay-block-lts.Need-prune-kept-requires lay_block_claims lay_block_at lay-block.Post
   lay_block_prune_requires c κs =
-      let k = c.before.before.before.before.before.before.before.before.before in
-      let two : 2 ≤ k.args.left + 1 = omega (arith, c.before.before.before.before.before.before.if1.false) in
+      let k = c in
+      let two : 2 ≤ k.args.left + 1 = omega (arith, c.if-left.false) in
       (prune_job k.requires.1.0 two, (k.requires.1.1.0, k.requires.1.1.1.1.1.right))
 
-  lay_block_add_result : lay-block-lts.Need-overflow-add-result lay_block_claims lay_block_at lay-block.Post
+  lay_block_add_result : lay-block-lts.Need-overflow_add-result lay_block_claims lay_block_at lay-block.Post
   lay_block_add_result c =
       omega (
         arith,
-        block_fits c.before.before.before.before.before.before.before.before.before.before.before.before.before.requires.1.0
-            c.before.before.before.before.before.before.before.before.before.before.before.before.before.requires.1.1.1.0,
+        block_fits c.requires.1.0
+            c.requires.1.1.1.0,
       )
 
-  lay_block_mul_result : lay-block-lts.Need-overflow-mul-result lay_block_claims lay_block_at lay-block.Post
+  lay_block_mul_result : lay-block-lts.Need-overflow_mul-result lay_block_claims lay_block_at lay-block.Post
   lay_block_mul_result c =
       record {
         fits = omega (
           arith,
-          block_fits c.before.before.before.before.before.before.before.before.before.before.before.before.before.requires.1.0
-              c.before.before.before.before.before.before.before.before.before.before.before.before.before.requires.1.1.1.0,
+          block_fits c.requires.1.0
+              c.requires.1.1.1.0,
         );
       }
 
-  lay_block_symbol_of_requires : lay-block-lts.Need-symbol-of-requires lay_block_claims lay_block_at lay-block.Post
+  lay_block_symbol_of_requires : lay-block-lts.Need-symbol_of-requires lay_block_claims lay_block_at lay-block.Post
   lay_block_symbol_of_requires c κs = tt
 
-  lay_block_cast_result : lay-block-lts.Need-overflow-cast-result lay_block_claims lay_block_at lay-block.Post
+  lay_block_cast_result : lay-block-lts.Need-overflow_cast-result lay_block_claims lay_block_at lay-block.Post
   lay_block_cast_result c = search rules
 
-  lay_block_add_result_2 : lay-block-lts.Need-overflow-add-result-2 lay_block_claims lay_block_at lay-block.Post
+  lay_block_add_result_2 : lay-block-lts.Need-overflow_add-result-then-mark-ne0 lay_block_claims lay_block_at lay-block.Post
   lay_block_add_result_2 c =
       omega (
         arith,
-        block_fits c.before.before.before.before.before.before.before.before.before.before.before.before.before.before.requires.1.0
-            c.before.before.before.before.before.before.before.before.before.before.before.before.before.before.requires.1.1.1.0,
-        c.symbol-of.ensures,
-        symbol_few c.before.before.before.before.prune.result.mark,
+        block_fits c.requires.1.0
+            c.requires.1.1.1.0,
+        c.symbol_of.ensures,
+        symbol_few c.prune-kept.result.mark,
       )
 
-  lay_block_same_length_3 : lay-block-lts.Need-same-length-3 lay_block_claims lay_block_at lay-block.Post
-  lay_block_same_length_3 c = c.before.before.before.before.prune.auto.1.1.1.1.1.0
+  lay_block_same_length_3 : lay-block-lts.Need-shape_of-codes-then-mark-ne0 lay_block_claims lay_block_at lay-block.Post
+  lay_block_same_length_3 c = c.prune-kept.auto.codes
 
-  lay_block_returns_2 : lay-block-lts.Need-returns-2 lay_block_claims lay_block_at lay-block.Post
+  lay_block_returns_2 : lay-block-lts.Need-returns-then-mark-ne0 lay_block_claims lay_block_at lay-block.Post
   lay_block_returns_2 c =
-      let k = c.before.before.before.before.before.before.before.before.before.before.before.before.before.before in
-      let two : 2 ≤ k.args.left + 1 = omega (arith, c.before.before.before.before.before.before.before.before.before.before.before.if1.false) in
-      let p = c.before.before.before.before.prune.ensures in (
-        λ job. decided_laid job k.requires.1.1.1.0 two (p.0 (prune_job job two)) c.before.if2.true _ c.symbol-of.ensures,
+      let k = c in
+      let two : 2 ≤ k.args.left + 1 = omega (arith, c.if-left.false) in
+      let p = c.prune-kept.ensures in (
+        λ job. decided_laid job k.requires.1.1.1.0 two (p.0 (prune_job job two)) c.if-mark-ne0.true _ c.symbol_of.ensures,
         (pruned_back k.requires.1.0 two (p.0 (prune_job k.requires.1.0 two)), (p.1, (k.requires.1.1.1.1.0, unmoved))),
       )
 
-  lay_block_add_lay_halves : lay-block-lts.Need-overflow-add-lay-halves lay_block_claims lay_block_at lay-block.Post
+  lay_block_add_lay_halves : lay-block-lts.Need-overflow_add-from lay_block_claims lay_block_at lay-block.Post
   lay_block_add_lay_halves c =
-      let j = c.before.before.before.before.before.before.before.before.before.before.before.before.before.before.before.before.requires.1.0 in
+      let j = c.requires.1.0 in
       omega (arith, j.carrying.inside, j.bounded)
 
-  lay_block_lay_halves_requires : lay-block-lts.Need-lay-halves-requires lay_block_claims lay_block_at lay-block.Post
+  lay_block_lay_halves_requires : lay-block-lts.Need-lay_halves-requires lay_block_claims lay_block_at lay-block.Post
   lay_block_lay_halves_requires c κs =
-      let k = c.before.before.before.before.before.before.before.before.before.before.before.before.before.before.before.before.before.before.before.before.before.before.before in
-      let j = k.pre.1.0 in
+      let k = c in
+      let j = k.requires.1.0 in
       let two : 2 ≤ k.args.left + 1 = omega (
         arith,
-        c.before.before.before.before.before.before.before.before.before.before.before.before.before.before.before.before.before.before.before.before.if1.false,
+        c.if-left.false,
       ) in
-      let z = c.before.before.before.before.before.before.before.before.before.before.if2.false in
-      let p = c.before.before.before.before.before.before.before.before.before.before.before.before.before.prune.ensures in
-      let v = kept_values (prune_job j two) (p.0 (prune_job j two)) k.pre.1.1.1.1.1 in (
-        omega (arith, k.pre.0),
+      let z = c.if-mark-ne0.false in
+      let p = c.prune-kept.ensures in
+      let v = kept_values (prune_job j two) (p.0 (prune_job j two)) k.requires.1.1.1.1.1 in (
+        omega (arith, k.requires.0),
         (
-          open_job j k.pre.1.1.1.0 two (p.0 (prune_job j two)) z k.args.left refl,
-          (omega (arith, two), (p.1, (k.pre.1.1.1.0, (k.pre.1.1.1.1.0, v)))),
+          open_job j k.requires.1.1.1.0 two (p.0 (prune_job j two)) z k.args.left refl,
+          (omega (arith, two), (p.1, (k.requires.1.1.1.0, (k.requires.1.1.1.1.0, v)))),
         ),
       )
 
-  lay_block_same_length_4 : lay-block-lts.Need-same-length-4 lay_block_claims lay_block_at lay-block.Post
+  lay_block_same_length_4 : lay-block-lts.Need-shape_of-codes lay_block_claims lay_block_at lay-block.Post
   lay_block_same_length_4 c =
-      c.before.before.before.before.lay-halves.auto.1.1.1.1.1.1.1.1.0 ∙ c.before.before.before.before.before.before.before.before.before.before.before.before.before.before.before.before.before.before.prune.auto.1.1.1.1.1.0
+      c.lay_halves.auto.codes ∙ c.prune-kept.auto.codes
 
-  lay_block_same_length_5 : lay-block-lts.Need-same-length-5 lay_block_claims lay_block_at lay-block.Post
-  lay_block_same_length_5 c = c.before.before.before.before.lay-halves.auto.1.1.1.1.1.1.1.1.1.1.1.1.1.1.1.0
+  lay_block_same_length_5 : lay-block-lts.Need-shape_of-out lay_block_claims lay_block_at lay-block.Post
+  lay_block_same_length_5 c = c.lay_halves.auto.out
 
-  lay_block_returns_3 : lay-block-lts.Need-returns-3 lay_block_claims lay_block_at lay-block.Post
+  lay_block_returns_3 : lay-block-lts.Need-returns lay_block_claims lay_block_at lay-block.Post
   lay_block_returns_3 c =
-      let k = c.before.before.before.before.before.before.before.before.before.before.before.before.before.before.before.before.before.before.before.before.before.before.before.before.before.before.before.before in
-      let j = k.pre.1.0 in
-      let place = k.pre.1.1.1.0 in
+      let k = c in
+      let j = k.requires.1.0 in
+      let place = k.requires.1.1.1.0 in
       let two : 2 ≤ k.args.left + 1 = omega (
         arith,
-        c.before.before.before.before.before.before.before.before.before.before.before.before.before.before.before.before.before.before.before.before.before.before.before.before.before.if1.false,
+        c.if-left.false,
       ) in
-      let p = c.before.before.before.before.before.before.before.before.before.before.before.before.before.before.before.before.before.before.prune.ensures in
-      let z = c.before.before.before.before.before.before.before.before.before.before.before.before.before.before.before.if2.false in
-      let h = c.before.before.before.before.lay-halves.ensures in (
+      let p = c.prune-kept.ensures in
+      let z = c.if-mark-ne0.false in
+      let h = c.lay_halves.ensures in (
         λ job. open_laid job place two (p.0 (prune_job job two)) z k.args.left refl
             (h.0 (open_job job place two (p.0 (prune_job job two)) z k.args.left refl)),
         (open_back j place two (p.0 (prune_job j two)) z k.args.left refl h.1.0, h.1.1),
       )
 
   -- ---- `lay_halves`
-  lay_halves_add_if1 : lay-halves-lts.Need-overflow-add-if1 lay_halves_claims lay_halves_at lay-halves.Post
+  lay_halves_add_if1 : lay-halves-lts.Need-overflow_add-t-29 lay_halves_claims lay_halves_at lay-halves.Post
   lay_halves_add_if1 c = omega arith
 
-  lay_halves_lay_words_requires : lay-halves-lts.Need-lay-words-requires lay_halves_claims lay_halves_at lay-halves.Post
+  lay_halves_lay_words_requires : lay-halves-lts.Need-lay_words-requires lay_halves_claims lay_halves_at lay-halves.Post
   lay_halves_lay_words_requires c κs =
-      let k = c.before.before.before.before.before.before.before.before.before.before in
-      let seven = c.before.before.before.before.before.before.before.if1.true in
+      let k = c in
+      let seven = c.if-left.true in
       (words_job seven k.requires.1.0, (words_place_lem seven k.requires.1.1.1.1.0, (k.requires.1.1.1.1.1.0, k.requires.1.1.1.1.1.1.right)))
 
-  lay_halves_same_length : lay-halves-lts.Need-same-length lay_halves_claims lay_halves_at lay-halves.Post
+  lay_halves_same_length : lay-halves-lts.Need-shape_of-codes-then-left lay_halves_claims lay_halves_at lay-halves.Post
   lay_halves_same_length c = refl
 
-  lay_halves_same_length_2 : lay-halves-lts.Need-same-length-2 lay_halves_claims lay_halves_at lay-halves.Post
-  lay_halves_same_length_2 c = c.before.before.lay-words.auto.1.1.1.1.1.1.1.1.1.1.1.1.0
+  lay_halves_same_length_2 : lay-halves-lts.Need-shape_of-out-then-left lay_halves_claims lay_halves_at lay-halves.Post
+  lay_halves_same_length_2 c = c.lay_words.auto.out
 
-  lay_halves_returns : lay-halves-lts.Need-returns lay_halves_claims lay_halves_at lay-halves.Post
+  lay_halves_returns : lay-halves-lts.Need-returns-then-left lay_halves_claims lay_halves_at lay-halves.Post
   lay_halves_returns c =
-      let k = c.before.before.before.before.before.before.before.before.before.before.before.before.before in
-      let seven = c.before.before.before.before.before.before.before.before.before.before.if1.true in
-      let e = c.before.before.lay-words.ensures in
+      let k = c in
+      let seven = c.if-left.true in
+      let e = c.lay_words.ensures in
       (as_laid seven e.0, (put_same, (k.requires.1.1.1.0, (e.1, unmoved))))
 
-  lay_halves_sub_axis : lay-halves-lts.Need-overflow-sub-axis lay_halves_claims lay_halves_at lay-halves.Post
-  lay_halves_sub_axis c = c.before.before.before.requires.1.1.0
+  lay_halves_sub_axis : lay-halves-lts.Need-overflow_sub-axis lay_halves_claims lay_halves_at lay-halves.Post
+  lay_halves_sub_axis c = c.requires.1.1.0
 
-  lay_halves_mul_axis : lay-halves-lts.Need-overflow-mul-axis lay_halves_claims lay_halves_at lay-halves.Post
+  lay_halves_mul_axis : lay-halves-lts.Need-offset_bounds-table-left lay_halves_claims lay_halves_at lay-halves.Post
   lay_halves_mul_axis c =
-      let k = c.before.before.before in
+      let k = c in
       omega (arith, place_in k.requires.1.0 k.requires.1.1.0)
 
-  lay_halves_element_copy_out_axis : lay-halves-lts.Need-element-copy-out-axis lay_halves_claims lay_halves_at lay-halves.Post
+  lay_halves_element_copy_out_axis : lay-halves-lts.Need-bounds-table-left lay_halves_claims lay_halves_at lay-halves.Post
   lay_halves_element_copy_out_axis c =
-      let k = c.before.before.before in
+      let k = c in
       omega (arith, place_in k.requires.1.0 k.requires.1.1.0)
 
-  lay_halves_mul_near : lay-halves-lts.Need-overflow-mul-near lay_halves_claims lay_halves_at lay-halves.Post
+  lay_halves_mul_near : lay-halves-lts.Need-offset_bounds-low-axis lay_halves_claims lay_halves_at lay-halves.Post
   lay_halves_mul_near c =
-      let k = c.before.before.before.before in
+      let k = c in
       omega (arith, axis_within k.requires.1.0 k.requires.1.1.0)
 
-  lay_halves_element_copy_out_near : lay-halves-lts.Need-element-copy-out-near lay_halves_claims lay_halves_at lay-halves.Post
+  lay_halves_element_copy_out_near : lay-halves-lts.Need-bounds-low-axis lay_halves_claims lay_halves_at lay-halves.Post
   lay_halves_element_copy_out_near c =
-      let k = c.before.before.before.before in
+      let k = c in
       omega (arith, axis_within k.requires.1.0 k.requires.1.1.0)
 
-  lay_halves_mul_whole : lay-halves-lts.Need-overflow-mul-whole lay_halves_claims lay_halves_at lay-halves.Post
+  lay_halves_mul_whole : lay-halves-lts.Need-offset_bounds-side-axis lay_halves_claims lay_halves_at lay-halves.Post
   lay_halves_mul_whole c =
-      let k = c.before.before.before.before.before in
+      let k = c in
       omega (arith, axis_within k.requires.1.0 k.requires.1.1.0)
 
-  lay_halves_element_copy_out_whole : lay-halves-lts.Need-element-copy-out-whole lay_halves_claims lay_halves_at lay-halves.Post
+  lay_halves_element_copy_out_whole : lay-halves-lts.Need-bounds-side-axis lay_halves_claims lay_halves_at lay-halves.Post
   lay_halves_element_copy_out_whole c =
-      let k = c.before.before.before.before.before in
+      let k = c in
       omega (arith, axis_within k.requires.1.0 k.requires.1.1.0)
 
-  lay_halves_mul_side : lay-halves-lts.Need-overflow-mul-side lay_halves_claims lay_halves_at lay-halves.Post
+  lay_halves_mul_side : lay-halves-lts.Need-offset_bounds-side-axis-2 lay_halves_claims lay_halves_at lay-halves.Post
   lay_halves_mul_side c =
-      let k = c.before.before.before.before.before.before in
+      let k = c in
       omega (arith, axis_within k.requires.1.0 k.requires.1.1.0)
 
-  lay_halves_element_write_side : lay-halves-lts.Need-element-write-side lay_halves_claims lay_halves_at lay-halves.Post
+  lay_halves_element_write_side : lay-halves-lts.Need-bounds-side-axis-2 lay_halves_claims lay_halves_at lay-halves.Post
   lay_halves_element_write_side c =
-      let k = c.before.before.before.before.before.before in
+      let k = c in
       omega (arith, axis_within k.requires.1.0 k.requires.1.1.0)
 
-  lay_halves_sub_lay_block : lay-halves-lts.Need-overflow-sub-lay-block lay_halves_claims lay_halves_at lay-halves.Post
-  lay_halves_sub_lay_block c = c.before.before.before.before.before.before.before.before.requires.1.1.0
+  lay_halves_sub_lay_block : lay-halves-lts.Need-overflow_sub-left lay_halves_claims lay_halves_at lay-halves.Post
+  lay_halves_sub_lay_block c = c.requires.1.1.0
 
-  lay_halves_add_lay_block : lay-halves-lts.Need-overflow-add-lay-block lay_halves_claims lay_halves_at lay-halves.Post
+  lay_halves_add_lay_block : lay-halves-lts.Need-overflow_add-at lay_halves_claims lay_halves_at lay-halves.Post
   lay_halves_add_lay_block c =
-      let k = c.before.before.before.before.before.before.before.before.before.before.before.before.before.before in
+      let k = c in
       omega (arith, block_fits k.requires.1.0 k.requires.1.1.1.1.0)
 
-  lay_halves_lay_block_requires : lay-halves-lts.Need-lay-block-requires lay_halves_claims lay_halves_at lay-halves.Post
+  lay_halves_lay_block_requires : lay-halves-lts.Need-lay_block-below-requires lay_halves_claims lay_halves_at lay-halves.Post
   lay_halves_lay_block_requires c κs =
-      let k = c.before.before.before.before.before.before.before.before.before.before.before.before.before.before.before.before in
+      let k = c in
       let j = k.requires.1.0 in
       let some = k.requires.1.1.0 in
       (omega (arith, k.requires.0, some), (lower_job j some, (k.requires.1.1.1.0, (lower_place j some k.requires.1.1.1.1.0, k.requires.1.1.1.1.1))))
 
-  lay_halves_add_low : lay-halves-lts.Need-overflow-add-low lay_halves_claims lay_halves_at lay-halves.Post
+  lay_halves_add_low : lay-halves-lts.Need-overflow_add-low lay_halves_claims lay_halves_at lay-halves.Post
   lay_halves_add_low c =
-      let k = c.before.before.before.before.before.before.before.before.before.before.before.before.before.before.before.before.before.before.before.before.before in
-      omega (arith, near_fits k.pre.1.0 k.pre.1.1.0)
+      let k = c in
+      omega (arith, near_fits k.requires.1.0 k.requires.1.1.0)
 
-  lay_halves_mul_low : lay-halves-lts.Need-overflow-mul-low lay_halves_claims lay_halves_at lay-halves.Post
+  lay_halves_mul_low : lay-halves-lts.Need-offset_bounds-low-axis-2 lay_halves_claims lay_halves_at lay-halves.Post
   lay_halves_mul_low c =
-      let k = c.before.before.before.before.before.before.before.before.before.before.before.before.before.before.before.before.before.before.before.before.before in
-      omega (arith, axis_within k.pre.1.0 k.pre.1.1.0)
+      let k = c in
+      omega (arith, axis_within k.requires.1.0 k.requires.1.1.0)
 
-  lay_halves_element_write_low : lay-halves-lts.Need-element-write-low lay_halves_claims lay_halves_at lay-halves.Post
+  lay_halves_element_write_low : lay-halves-lts.Need-bounds-low-axis-2 lay_halves_claims lay_halves_at lay-halves.Post
   lay_halves_element_write_low c =
-      let k = c.before.before.before.before.before.before.before.before.before.before.before.before.before.before.before.before.before.before.before.before.before in
-      omega (arith, axis_within k.pre.1.0 k.pre.1.1.0)
+      let k = c in
+      omega (arith, axis_within k.requires.1.0 k.requires.1.1.0)
 
-  lay_halves_move_values_requires : lay-halves-lts.Need-move-values-requires lay_halves_claims lay_halves_at lay-halves.Post
+  lay_halves_move_values_requires : lay-halves-lts.Need-move_values-requires lay_halves_claims lay_halves_at lay-halves.Post
   lay_halves_move_values_requires c κs =
-      let k = c.before.before.before.before.before.before.before.before.before.before.before.before.before.before.before.before.before.before.before.before.before.before.before.before in
-      let e = c.before.before.before.before.before.before.before.lay-block.ensures in
-      raise_job k.pre.1.0 k.pre.1.1.0 k.pre.1.1.1.1.1.1 e.1.0.below e.1.1.1.1
+      let k = c in
+      let e = c.lay_block-below.ensures in
+      raise_job k.requires.1.0 k.requires.1.1.0 k.requires.1.1.1.1.1.1 e.1.0.below e.1.1.1.1
 
-  lay_halves_sub_lay_block_2 : lay-halves-lts.Need-overflow-sub-lay-block-2 lay_halves_claims lay_halves_at lay-halves.Post
+  lay_halves_sub_lay_block_2 : lay-halves-lts.Need-overflow_sub-left-2 lay_halves_claims lay_halves_at lay-halves.Post
   lay_halves_sub_lay_block_2 c =
-      c.before.before.before.before.before.before.before.before.before.before.before.before.before.before.before.before.before.before.before.before.before.before.before.before.before.before.before.requires.1.1.0
+      c.requires.1.1.0
 
-  lay_halves_sub_lay_block_3 : lay-halves-lts.Need-overflow-sub-lay-block-3 lay_halves_claims lay_halves_at lay-halves.Post
-  lay_halves_sub_lay_block_3 c = c.before.before.before.before.before.before.before.before.before.before.before.before.before.before.before.before.before.before.before.before.before.before.before.before.before.before.before.before.before.before.before.before.before.before.before.requires.1.1.1.1.1.1.is_round
+  lay_halves_sub_lay_block_3 : lay-halves-lts.Need-overflow_sub-round lay_halves_claims lay_halves_at lay-halves.Post
+  lay_halves_sub_lay_block_3 c = c.requires.1.1.1.1.1.1.is_round
 
-  lay_halves_lay_block_requires_2 : lay-halves-lts.Need-lay-block-requires-2 lay_halves_claims lay_halves_at lay-halves.Post
+  lay_halves_lay_block_requires_2 : lay-halves-lts.Need-lay_block-above-requires lay_halves_claims lay_halves_at lay-halves.Post
   lay_halves_lay_block_requires_2 c κs =
-      let k = c.before.before.before.before.before.before.before.before.before.before.before.before.before.before.before.before.before.before.before.before.before.before.before.before.before.before.before.before.before.before.before.before.before.before.before in
-      let j = k.pre.1.0 in
-      let some = k.pre.1.1.0 in
-      let place = k.pre.1.1.1.1.0 in
-      let e = c.before.before.before.before.before.before.before.before.before.before.before.before.before.before.before.before.before.before.lay-block.ensures in
+      let k = c in
+      let j = k.requires.1.0 in
+      let some = k.requires.1.1.0 in
+      let place = k.requires.1.1.1.1.0 in
+      let e = c.lay_block-below.ensures in
       let l = e.0 (lower_job j some) in
-      let v = high_values j some k.pre.1.1.1.1.1.1 e.1.0 e.1.1.1.1 c.before.before.before.before.before.before.before.before.before.before.move-values.ensures in
-      (omega (arith, k.pre.0, some), (higher_job j some place l e.1.0, (e.1.1.0, (upper_place j some place l e.1.0, (e.1.1.1.0, v)))))
+      let v = high_values j some k.requires.1.1.1.1.1.1 e.1.0 e.1.1.1.1 c.move_values.ensures in
+      (omega (arith, k.requires.0, some), (higher_job j some place l e.1.0, (e.1.1.0, (upper_place j some place l e.1.0, (e.1.1.1.0, v)))))
 
-  lay_halves_mul_low_2 : lay-halves-lts.Need-overflow-mul-low-2 lay_halves_claims lay_halves_at lay-halves.Post
+  lay_halves_mul_low_2 : lay-halves-lts.Need-offset_bounds-low-axis-3 lay_halves_claims lay_halves_at lay-halves.Post
   lay_halves_mul_low_2 c =
-      let k = c.before.before.before.before.before.before.before.before.before.before.before.before.before.before.before.before.before.before.before.before.before.before.before.before.before.before.before.before.before.before.before.before.before.before.before.before.before.before.before.before in
-      omega (arith, axis_within k.pre.1.0 k.pre.1.1.0)
+      let k = c in
+      omega (arith, axis_within k.requires.1.0 k.requires.1.1.0)
 
-  lay_halves_element_write_low_2 : lay-halves-lts.Need-element-write-low-2 lay_halves_claims lay_halves_at lay-halves.Post
+  lay_halves_element_write_low_2 : lay-halves-lts.Need-bounds-low-axis-3 lay_halves_claims lay_halves_at lay-halves.Post
   lay_halves_element_write_low_2 c =
-      let k = c.before.before.before.before.before.before.before.before.before.before.before.before.before.before.before.before.before.before.before.before.before.before.before.before.before.before.before.before.before.before.before.before.before.before.before.before.before.before.before.before in
-      omega (arith, axis_within k.pre.1.0 k.pre.1.1.0)
+      let k = c in
+      omega (arith, axis_within k.requires.1.0 k.requires.1.1.0)
 
-  lay_halves_mul_side_2 : lay-halves-lts.Need-overflow-mul-side-2 lay_halves_claims lay_halves_at lay-halves.Post
+  lay_halves_mul_side_2 : lay-halves-lts.Need-offset_bounds-side-axis-3 lay_halves_claims lay_halves_at lay-halves.Post
   lay_halves_mul_side_2 c =
-      let k = c.before.before.before.before.before.before.before.before.before.before.before.before.before.before.before.before.before.before.before.before.before.before.before.before.before.before.before.before.before.before.before.before.before.before.before.before.before.before.before.before in
-      omega (arith, axis_within k.pre.1.0 k.pre.1.1.0)
+      let k = c in
+      omega (arith, axis_within k.requires.1.0 k.requires.1.1.0)
 
-  lay_halves_element_write_side_2 : lay-halves-lts.Need-element-write-side-2 lay_halves_claims lay_halves_at lay-halves.Post
+  lay_halves_element_write_side_2 : lay-halves-lts.Need-bounds-side-axis-3 lay_halves_claims lay_halves_at lay-halves.Post
   lay_halves_element_write_side_2 c =
-      let k = c.before.before.before.before.before.before.before.before.before.before.before.before.before.before.before.before.before.before.before.before.before.before.before.before.before.before.before.before.before.before.before.before.before.before.before.before.before.before.before.before in
-      omega (arith, axis_within k.pre.1.0 k.pre.1.1.0)
+      let k = c in
+      omega (arith, axis_within k.requires.1.0 k.requires.1.1.0)
 
-  lay_halves_sub_move_values : lay-halves-lts.Need-overflow-sub-move-values lay_halves_claims lay_halves_at lay-halves.Post
-  lay_halves_sub_move_values c = c.before.before.before.before.before.before.before.before.before.before.before.before.before.before.before.before.before.before.before.before.before.before.before.before.before.before.before.before.before.before.before.before.before.before.before.before.before.before.before.before.before.before.before.requires.1.1.1.1.1.1.is_round
+  lay_halves_sub_move_values : lay-halves-lts.Need-overflow_sub-round-2 lay_halves_claims lay_halves_at lay-halves.Post
+  lay_halves_sub_move_values c = c.requires.1.1.1.1.1.1.is_round
 
-  lay_halves_move_values_requires_2 : lay-halves-lts.Need-move-values-requires-2 lay_halves_claims lay_halves_at lay-halves.Post
+  lay_halves_move_values_requires_2 : lay-halves-lts.Need-move_values-requires-2 lay_halves_claims lay_halves_at lay-halves.Post
   lay_halves_move_values_requires_2 c κs =
-      let k = c.before.before.before.before.before.before.before.before.before.before.before.before.before.before.before.before.before.before.before.before.before.before.before.before.before.before.before.before.before.before.before.before.before.before.before.before.before.before.before.before.before.before.before in
-      let e = c.before.before.before.before.before.before.before.before.before.before.before.before.before.before.before.before.before.before.before.before.before.before.before.before.before.before.lay-block.ensures in
-      let up = c.before.before.before.before.before.before.before.before.before.before.before.before.before.before.before.before.before.before.move-values.ensures in
-      let f = c.before.before.before.before.before.before.before.lay-block2.ensures in
-      back_job k.pre.1.0 k.pre.1.1.0 k.pre.1.1.1.1.1.1 e.1.0.below e.1.1.1.1 up f.1.0.below f.1.1.1.1
+      let k = c in
+      let e = c.lay_block-below.ensures in
+      let up = c.move_values.ensures in
+      let f = c.lay_block-above.ensures in
+      back_job k.requires.1.0 k.requires.1.1.0 k.requires.1.1.1.1.1.1 e.1.0.below e.1.1.1.1 up f.1.0.below f.1.1.1.1
 
-  lay_halves_cast_join : lay-halves-lts.Need-overflow-cast-join lay_halves_claims lay_halves_at lay-halves.Post
+  lay_halves_cast_join : lay-halves-lts.Need-overflow_cast-below lay_halves_claims lay_halves_at lay-halves.Post
   lay_halves_cast_join c = search rules
 
-  lay_halves_cast_join_2 : lay-halves-lts.Need-overflow-cast-join-2 lay_halves_claims lay_halves_at lay-halves.Post
+  lay_halves_cast_join_2 : lay-halves-lts.Need-overflow_cast-above lay_halves_claims lay_halves_at lay-halves.Post
   lay_halves_cast_join_2 c = search rules
 
   lay_halves_join_requires : lay-halves-lts.Need-join-requires lay_halves_claims lay_halves_at lay-halves.Post
   lay_halves_join_requires c κs =
-      let k = c.before.before.before.before.before.before.before.before.before.before.before.before.before.before.before.before.before.before.before.before.before.before.before.before.before.before.before.before.before.before.before.before.before.before.before.before.before.before.before.before.before.before.before.before.before in
-      let j = k.pre.1.0 in
-      let some = k.pre.1.1.0 in
-      let place = k.pre.1.1.1.1.0 in
-      let e = c.before.before.before.before.before.before.before.before.before.before.before.before.before.before.before.before.before.before.before.before.before.before.before.before.before.before.before.before.lay-block.ensures in
-      let f = c.before.before.before.before.before.before.before.before.before.lay-block2.ensures in
+      let k = c in
+      let j = k.requires.1.0 in
+      let some = k.requires.1.1.0 in
+      let place = k.requires.1.1.1.1.0 in
+      let e = c.lay_block-below.ensures in
+      let f = c.lay_block-above.ensures in
       (block_fits j place, end_few j some place (e.0 (lower_job j some)) e.1.0 f.0 f.1.0)
 
-  lay_halves_same_length_3 : lay-halves-lts.Need-same-length-3 lay_halves_claims lay_halves_at lay-halves.Post
+  lay_halves_same_length_3 : lay-halves-lts.Need-shape_of-codes lay_halves_claims lay_halves_at lay-halves.Post
   lay_halves_same_length_3 c =
-      c.before.before.before.before.before.before.before.before.before.before.before.before.lay-block2.auto.1.1.1.1.1.1.1.1.0
-      ∙ c.before.before.before.before.before.before.before.before.before.before.before.before.before.before.before.before.before.before.before.before.before.before.before.before.before.before.before.before.before.before.before.lay-block.auto.1.1.1.1.1.1.1.1.0
+      c.lay_block-above.auto.codes
+      ∙ c.lay_block-below.auto.codes
 
-  lay_halves_same_length_4 : lay-halves-lts.Need-same-length-4 lay_halves_claims lay_halves_at lay-halves.Post
+  lay_halves_same_length_4 : lay-halves-lts.Need-shape_of-out lay_halves_claims lay_halves_at lay-halves.Post
   lay_halves_same_length_4 c =
-      c.before.before.join.auto.0 ∙ c.before.before.before.before.before.before.before.before.before.before.before.before.lay-block2.auto.1.1.1.1.1.1.1.1.1.1.1.1.1.1.1.0
-      ∙ c.before.before.before.before.before.before.before.before.before.before.before.before.before.before.before.before.before.before.before.before.before.before.before.before.before.before.before.before.before.before.before.lay-block.auto.1.1.1.1.1.1.1.1.1.1.1.1.1.1.1.0
+      c.join.auto.out ∙ c.lay_block-above.auto.out
+      ∙ c.lay_block-below.auto.out
 
-  lay_halves_returns_2 : lay-halves-lts.Need-returns-2 lay_halves_claims lay_halves_at lay-halves.Post
+  lay_halves_returns_2 : lay-halves-lts.Need-returns lay_halves_claims lay_halves_at lay-halves.Post
   lay_halves_returns_2 c =
-      let k = c.before.before.before.before.before.before.before.before.before.before.before.before.before.before.before.before.before.before.before.before.before.before.before.before.before.before.before.before.before.before.before.before.before.before.before.before.before.before.before.before.before.before.before.before.before.before.before.before in
-      let j = k.pre.1.0 in
-      let some = k.pre.1.1.0 in
-      let place = k.pre.1.1.1.1.0 in
-      let e = c.before.before.before.before.before.before.before.before.before.before.before.before.before.before.before.before.before.before.before.before.before.before.before.before.before.before.before.before.before.before.before.lay-block.ensures in
-      let f = c.before.before.before.before.before.before.before.before.before.before.before.before.lay-block2.ensures in
-      let g = c.before.before.join.ensures in
-      let up = c.before.before.before.before.before.before.before.before.before.before.before.before.before.before.before.before.before.before.before.before.before.before.before.move-values.ensures in
-      let down = c.before.before.before.before.move-values2.ensures in
-      let m = back j some k.pre.1.1.1.1.1.1 e.1.0.below e.1.1.1.1 up f.1.0.below f.1.1.1.1 down in (
+      let k = c in
+      let j = k.requires.1.0 in
+      let some = k.requires.1.1.0 in
+      let place = k.requires.1.1.1.1.0 in
+      let e = c.lay_block-below.ensures in
+      let f = c.lay_block-above.ensures in
+      let g = c.join.ensures in
+      let up = c.move_values.ensures in
+      let down = c.move_values-2.ensures in
+      let m = back j some k.requires.1.1.1.1.1.1 e.1.0.below e.1.1.1.1 up f.1.0.below f.1.1.1.1 down in (
         λ job. both_laid job some place (e.0 (lower_job job some)) e.1.0 f.0 f.1.0 g.0 g.1,
         (both_back j some place (e.0 (lower_job j some)) e.1.0 f.0 f.1.0, (f.1.1.0, (f.1.1.1.0, m))),
       )
 
-pub +lay-block-lay-halves-spec : {M : Type 1} → statement M
-+lay-block-lay-halves-spec = close μ_lay_block μ_lay_halves (λ t. lay-block-lts.spec (lay_block_claims t)
+pub +lay_block_lay_halves_spec : {M : Type 1} → statement M
++lay_block_lay_halves_spec = close μ_lay_block μ_lay_halves (λ t. lay-block-lts.spec (lay_block_claims t)
     (lay_block_at t)
     lay-block.Post
     (lay_block_trees_word_requires t)

@@ -6,39 +6,39 @@ use Rattle.at_once.proofs.lay.join.Statement.{statement}
 use Rattle.at_once.proofs.lay.join.Tie as tie
 use Rattle.bintree.proofs.join_halves.Reads as join-halves-reads
 
-is-alike-requires : tie.Need-is-alike-requires
+is-alike-requires : tie.Need-is_alike-requires
 is-alike-requires c κs = search rules
 
-add-result : tie.Need-overflow-add-result
+add-result : tie.Need-overflow_add-result
 add-result c = search rules
 
-mul-result : tie.Need-overflow-mul-result
+mul-result : tie.Need-overflow_mul-result
 mul-result c = search rules
 
-add-result-2 : tie.Need-overflow-add-result-2
+add-result-2 : tie.Need-overflow_add-result-then-is_alike
 add-result-2 c = search rules
 
-returns : tie.Need-returns
+returns : tie.Need-returns-then-is_alike
 unfolding is_one
-returns c = rw (sym c.before.is-alike.ensures ∙ c.if1.true) (refl, refl)
+returns c = rw (sym c.is_alike.ensures ∙ c.if-is_alike.true) (refl, refl)
 
-join-halves-requires : tie.Need-join-halves-requires
+join-halves-requires : tie.Need-join_halves-requires
 join-halves-requires c κs = search rules
 
-mul-result-2 : tie.Need-overflow-mul-result-2
+mul-result-2 : tie.Need-overflow_mul-result-2
 mul-result-2 c = search rules
 
-same_length : tie.Need-same-length
+same_length : tie.Need-shape_of-out
 same_length c = search rules
 
-returns-2 : tie.Need-returns-2
+returns-2 : tie.Need-returns
 unfolding is_one
 returns-2 c =
-    let k = c.before.before.before.before in
-    rw (sym k.before.is-alike.ensures ∙ k.if1.false) (refl, c.before.before.join-halves.ensures)
+    let k = c in
+    rw (sym k.is_alike.ensures ∙ k.if-is_alike.false) (refl, c.join_halves.ensures)
 
-pub join-spec : {M : Type 1} → statement M
-join-spec =
+pub join_spec : {M : Type 1} → statement M
+join_spec =
     tie.close
     (tie.spec
     is-alike-requires

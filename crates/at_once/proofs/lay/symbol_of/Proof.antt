@@ -3,11 +3,11 @@ use borrow.Author.Tests.{eq-eqb, ne_eqb}
 use Rattle.at_once.proofs.lay.symbol_of.Statement.{statement}
 use Rattle.at_once.proofs.lay.symbol_of.Tie as tie
 
-returns : tie.Need-returns
-returns c = simp (eq-eqb _ _ c.if1.true)
+returns : tie.Need-returns-then-mark-eq-BLACK_BIT
+returns c = simp (eq-eqb _ _ c.if-mark-eq-BLACK_BIT.true)
 
-returns-2 : tie.Need-returns-2
-returns-2 c = simp (ne_eqb _ _ c.if1.false)
+returns-2 : tie.Need-returns-else-mark-eq-BLACK_BIT
+returns-2 c = simp (ne_eqb _ _ c.if-mark-eq-BLACK_BIT.false)
 
-pub symbol-of-spec : {M : Type 1} → statement M
-symbol-of-spec = tie.close (tie.spec returns returns-2)
+pub symbol_of_spec : {M : Type 1} → statement M
+symbol_of_spec = tie.close (tie.spec returns returns-2)

@@ -7,38 +7,38 @@ use Rattle.at_once.proofs.leaf.extremes_of_row.Tie as tie
 use Rattle.at_once.proofs.leaf.fall_along.Reads as fall-along-reads
 use Rattle.at_once.proofs.leaf.sum_along.Reads as sum-along-reads
 
-mul-value : tie.Need-overflow-mul-value
+mul-value : tie.Need-offset_bounds-values-i
 mul-value c = search rules
 
-element-copy-out-value : tie.Need-element-copy-out-value
+element-copy-out-value : tie.Need-bounds-values-i
 element-copy-out-value c = c.requires.value.few
 
-sum-along-requires : tie.Need-sum-along-requires
-sum-along-requires c κs = along_needs c.before.requires
+sum-along-requires : tie.Need-sum_along-all-requires
+sum-along-requires c κs = along_needs c.requires
 
-fall-along-requires : tie.Need-fall-along-requires
-fall-along-requires c κs = along_needs c.before.before.requires
+fall-along-requires : tie.Need-fall_along-fall-requires
+fall-along-requires c κs = along_needs c.requires
 
-add-t11 : tie.Need-overflow-add-t11
+add-t11 : tie.Need-overflow_add-result
 add-t11 c =
-    let j = c.before.before.before.requires in
-    least_fits j.over j.value.value_is (c.before.sum-along.ensures ∙ along_sides j) (c.fall-along.ensures ∙ fall_sides j)
+    let j = c.requires in
+    least_fits j.over j.value.value_is (c.sum_along-all.ensures ∙ along_sides j) (c.fall_along-fall.ensures ∙ fall_sides j)
 
-sub-t12 : tie.Need-overflow-sub-t12
+sub-t12 : tie.Need-overflow_sub-result
 sub-t12 c =
-    let j = c.before.before.before.requires in
-    rise_fits j.over j.value.value_is (c.before.sum-along.ensures ∙ along_sides j) (c.fall-along.ensures ∙ fall_sides j)
+    let j = c.requires in
+    rise_fits j.over j.value.value_is (c.sum_along-all.ensures ∙ along_sides j) (c.fall_along-fall.ensures ∙ fall_sides j)
 
-add-t13 : tie.Need-overflow-add-t13
+add-t13 : tie.Need-overflow_add-result-2
 add-t13 c =
-    let j = c.before.before.before.requires in
-    greatest_fits j.over j.value.value_is (c.before.sum-along.ensures ∙ along_sides j) (c.fall-along.ensures ∙ fall_sides j)
+    let j = c.requires in
+    greatest_fits j.over j.value.value_is (c.sum_along-all.ensures ∙ along_sides j) (c.fall_along-fall.ensures ∙ fall_sides j)
 
 returns : tie.Need-returns
-returns c = λ j. found j.over j.value.value_is (c.before.sum-along.ensures ∙ along_sides j) (c.fall-along.ensures ∙ fall_sides j)
+returns c = λ j. found j.over j.value.value_is (c.sum_along-all.ensures ∙ along_sides j) (c.fall_along-fall.ensures ∙ fall_sides j)
 
-pub extremes-of-row-spec : {M : Type 1} → statement M
-extremes-of-row-spec =
+pub extremes_of_row_spec : {M : Type 1} → statement M
+extremes_of_row_spec =
     tie.close
     (tie.spec
     mul-value

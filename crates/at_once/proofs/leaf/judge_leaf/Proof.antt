@@ -13,64 +13,64 @@ use Rattle.at_once.proofs.leaf.row_of.Reads as row-of-reads
 use Rattle.at_once.proofs.marks.side_code.Reads as side-code-reads
 use Rattle.at_once.proofs.marks.turned_code.Reads as turned-code-reads
 
-is-row-side-requires : tie.Need-is-row-side-requires
+is-row-side-requires : tie.Need-is_row_side-requires
 is-row-side-requires c κs = search rules
 
-row-of-requires : tie.Need-row-of-requires
-row-of-requires c κs = sym c.before.is-row-side.ensures ∙ c.if1.true
+row-of-requires : tie.Need-row_of-requires
+row-of-requires c κs = sym c.is_row_side.ensures ∙ c.if-is_row_side.true
 
-extremes-of-row-requires : tie.Need-extremes-of-row-requires
+extremes-of-row-requires : tie.Need-extremes_of_row-ends-requires
 extremes-of-row-requires c κs =
-    let k = c.before.before.before.requires in let e = sym c.before.before.is_row_side.ensures ∙ c.before.if1.true in
+    let k = c.requires in let e = sym c.is_row_side.ensures ∙ c.if-is_row_side.true in
     row_stands k.0 e c.row_of.ensures k.1.0 k.1.1
 
-side-code-requires : tie.Need-side-code-requires
+side-code-requires : tie.Need-side_code-requires
 side-code-requires c κs = search rules
 
-returns : tie.Need-returns
+returns : tie.Need-returns-then-is_row_side
 returns c =
-    let c5 = c.before.before.before.before.before in let r = c5.before in
-    let k = r.before.before.before.requires in let e = sym r.before.before.is_row_side.ensures ∙ r.before.if1.true in
-    λ j. row_judged j e r.row_of.ensures k.1.0 k.1.1 c5.extremes-of-row.ensures c.side-code.ensures
+    let c5 = c in let r = c5 in
+    let k = r.requires in let e = sym r.is_row_side.ensures ∙ r.if-is_row_side.true in
+    λ j. row_judged j e r.row_of.ensures k.1.0 k.1.1 c5.extremes_of_row-ends.ensures c.side_code.ensures
 
-returns-2 : tie.Need-returns-2
-returns-2 c = λ j. white_judged j c.if3.true
+returns-2 : tie.Need-returns-then-code-eq0
+returns-2 c = λ j. white_judged j c.if-code-eq0.true
 
-returns-3 : tie.Need-returns-3
-returns-3 c = λ j. black_judged j c.before.if2.true c.if3.false
+returns-3 : tie.Need-returns-then-code-lt-FIRST_SIDE
+returns-3 c = λ j. black_judged j c.if-code-lt-FIRST_SIDE.true c.if-code-eq0.false
 
-is-turned-requires : tie.Need-is-turned-requires
+is-turned-requires : tie.Need-is_turned-turned-requires
 is-turned-requires c κs = search rules
 
-sub-ball : tie.Need-overflow-sub-ball
+sub-ball : tie.Need-overflow_sub-ball
 sub-ball c =
-    let c2 = c.before.before in let e = sym c2.before.is-row-side.ensures ∙ c2.if1.false in
-    from_ball c2.before.before.args.code e c.before.if2.false
+    let c2 = c in let e = sym c2.is_row_side.ensures ∙ c2.if-is_row_side.false in
+    from_ball c2.args.code e c.if-code-lt-FIRST_SIDE.false
 
-cast-ball : tie.Need-overflow-cast-ball
+cast-ball : tie.Need-overflow_cast-ball
 cast-ball c = search rules
 
-sub-code-of-ball : tie.Need-overflow-sub-code-of-ball
-sub-code-of-ball c = places_there c.before.before.before.before.requires.0
+sub-code-of-ball : tie.Need-overflow_sub-axes
+sub-code-of-ball c = places_there c.requires.0
 
-code-of-ball-requires : tie.Need-code-of-ball-requires
+code-of-ball-requires : tie.Need-code_of_ball-bits-requires
 code-of-ball-requires c κs =
-    let c2 = c.before.before in let e = sym c2.before.is-row-side.ensures ∙ c2.if1.false in
-    let s = c2.before.before in
-    ball_ready s.requires.0 (from_ball s.args.code e c.before.if2.false)
+    let c2 = c in let e = sym c2.is_row_side.ensures ∙ c2.if-is_row_side.false in
+    let s = c2 in
+    ball_ready s.requires.0 (from_ball s.args.code e c.if-code-lt-FIRST_SIDE.false)
 
-turned-code-requires : tie.Need-turned-code-requires
+turned-code-requires : tie.Need-turned_code-requires
 turned-code-requires c κs = search rules
 
-returns-4 : tie.Need-returns-4
+returns-4 : tie.Need-returns
 returns-4 c =
-    let c2 = c.before.before in let c4 = c2.before.before in
-    let e = sym c4.before.is-row-side.ensures ∙ c4.if1.false in
-    λ j. ball_judged j (from_ball c4.before.before.args.code e c2.before.if2.false)
-    c.before.code-of-ball.ensures c2.is_turned.ensures c.turned-code.ensures
+    let c2 = c in let c4 = c2 in
+    let e = sym c4.is_row_side.ensures ∙ c4.if-is_row_side.false in
+    λ j. ball_judged j (from_ball c4.args.code e c2.if-code-lt-FIRST_SIDE.false)
+    c.code_of_ball-bits.ensures c2.is_turned-turned.ensures c.turned_code.ensures
 
-pub judge-leaf-spec : {M : Type 1} → statement M
-judge-leaf-spec =
+pub judge_leaf_spec : {M : Type 1} → statement M
+judge_leaf_spec =
     tie.close
     (tie.spec
     is-row-side-requires

@@ -28,35 +28,35 @@ no_side : (t : Bool) → 0 ≡ turned_code t 0
 no_side true = refl
 no_side false = refl
 
-cast-result : tie.Need-overflow-cast-result
+cast-result : tie.Need-overflow_cast-result
 cast-result c = search rules
 
-add-result : tie.Need-overflow-add-result
+add-result : tie.Need-overflow_add-result
 add-result c = search rules
 
-cast-result-2 : tie.Need-overflow-cast-result-2
+cast-result-2 : tie.Need-overflow_cast-result-then-least
 cast-result-2 c = search rules
 
-returns : tie.Need-returns
-returns c = rw c.if1.true (black_side _)
+returns : tie.Need-returns-then-least
+returns c = rw c.if-least.true (black_side _)
 
-cast-result-3 : tie.Need-overflow-cast-result-3
+cast-result-3 : tie.Need-overflow_cast-result-then-greatest
 cast-result-3 c = search rules
 
-sub-result : tie.Need-overflow-sub-result
+sub-result : tie.Need-overflow_sub-result
 sub-result c = search rules
 
-cast-result-4 : tie.Need-overflow-cast-result-4
+cast-result-4 : tie.Need-overflow_cast-result-then-greatest-2
 cast-result-4 c = search rules
 
-returns-2 : tie.Need-returns-2
-returns-2 c = rw (c.before.if1.false, c.if2.true) (white_side _)
+returns-2 : tie.Need-returns-then-greatest
+returns-2 c = rw (c.if-least.false, c.if-greatest.true) (white_side _)
 
-returns-3 : tie.Need-returns-3
-returns-3 c = rw (c.before.if1.false, c.if2.false) (no_side (eqb (c.before.before.args.code % 2) 1))
+returns-3 : tie.Need-returns
+returns-3 c = rw (c.if-least.false, c.if-greatest.false) (no_side (eqb (c.args.code % 2) 1))
 
-pub side-code-spec : {M : Type 1} → statement M
-side-code-spec =
+pub side_code_spec : {M : Type 1} → statement M
+side_code_spec =
     tie.close
     (tie.spec
     cast-result

@@ -26,32 +26,32 @@ code true false = refl
 code false true = refl
 code false false = refl
 
-cast-black : tie.Need-overflow-cast-black
+cast-black : tie.Need-overflow_cast-black
 cast-black c = search rules
 
-cast-white : tie.Need-overflow-cast-white
+cast-white : tie.Need-overflow_cast-white
 cast-white c = search rules
 
-mul-result : tie.Need-overflow-mul-result
+mul-result : tie.Need-overflow_mul-result
 mul-result c = omega (arith, byte c.args.least)
 
-mul-result-2 : tie.Need-overflow-mul-result-2
+mul-result-2 : tie.Need-overflow_mul-result-2
 mul-result-2 c = omega (arith, byte c.args.greatest)
 
-sub-result : tie.Need-overflow-sub-result
+sub-result : tie.Need-overflow_sub-result
 sub-result c = omega (arith, byte c.args.least)
 
-mul-result-3 : tie.Need-overflow-mul-result-3
+mul-result-3 : tie.Need-overflow_mul-result-3
 mul-result-3 c = omega (arith, byte c.args.greatest, white c.args.least c.args.greatest)
 
-add-result : tie.Need-overflow-add-result
+add-result : tie.Need-overflow_add-result
 add-result c = omega (arith, byte c.args.least, byte c.args.greatest, white c.args.least c.args.greatest)
 
 returns : tie.Need-returns
 returns c = code c.args.least c.args.greatest
 
-pub tested-code-spec : {M : Type 1} → statement M
-tested-code-spec =
+pub tested_code_spec : {M : Type 1} → statement M
+tested_code_spec =
     tie.close
     (tie.spec
     cast-black

@@ -4,14 +4,14 @@ use Rattle.pruned.proofs.Doublings.{shifted_is}
 use Rattle.at_once.proofs.moves.amount.Statement.{statement}
 use Rattle.at_once.proofs.moves.amount.Tie as tie
 
-cast-result : tie.Need-overflow-cast-result
+cast-result : tie.Need-overflow_cast-result
 cast-result c = search rules
 
-shl-result : tie.Need-overflow-shl-result
+shl-result : tie.Need-overflow_shl-result
 shl-result c = search rules
 
 returns : tie.Need-returns
 returns c = let k = c.requires in shifted_is c.args.times k.0 k.1.1
 
-pub amount-spec : {M : Type 1} → statement M
-amount-spec = tie.close (tie.spec cast-result shl-result returns)
+pub amount_spec : {M : Type 1} → statement M
+amount_spec = tie.close (tie.spec cast-result shl-result returns)

@@ -5,5 +5,5 @@ use lib.Count.{trailing_le}
 use Rattle.at_once.proofs.moves.doublings.Statement.{statement}
 use Rattle.at_once.proofs.moves.doublings.Tie as tie
 
-pub doublings-spec : {M : Type 1} → statement M
-doublings-spec = tie.close (tie.spec (λ c. omega (arith, trailing_le 64 c.args.length)) (λ c. search rules))
+pub doublings_spec : {M : Type 1} → statement M
+doublings_spec = tie.close (tie.spec (λ c. omega (arith, trailing_le 64 c.args.length)) (λ c. search rules))

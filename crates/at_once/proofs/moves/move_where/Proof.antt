@@ -5,14 +5,14 @@ use Rattle.at_once.proofs.Moving.{unmoved}
 use Rattle.at_once.proofs.moves.move_where.Statement.{statement}
 use Rattle.at_once.proofs.moves.move_where.Tie as tie
 
-move-values-requires : tie.Need-move-values-requires
-move-values-requires c κs = let i = c.before.before in i.before.before.requires i.if1.true
+move-values-requires : tie.Need-move_values-requires
+move-values-requires c κs = let i = c in i.requires i.if-test.true
 
-returns : tie.Need-returns
-returns c = (λ e. c.move-values.ensures, λ e. absurd (false≢true (sym e ∙ c.before.before.before.if1.true)))
+returns : tie.Need-returns-then-test
+returns c = (λ e. c.move_values.ensures, λ e. absurd (false≢true (sym e ∙ c.if-test.true)))
 
-returns-2 : tie.Need-returns-2
-returns-2 c = (λ e. absurd (false≢true (sym c.if1.false ∙ e)), λ e. unmoved)
+returns-2 : tie.Need-returns-else-test
+returns-2 c = (λ e. absurd (false≢true (sym c.if-test.false ∙ e)), λ e. unmoved)
 
-pub move-where-spec : {M : Type 1} → statement M
-move-where-spec = tie.close (tie.spec move-values-requires returns returns-2)
+pub move_where_spec : {M : Type 1} → statement M
+move_where_spec = tie.close (tie.spec move-values-requires returns returns-2)

@@ -26,127 +26,127 @@ module _ (t : ℕ) where
   abbrev cs : own-ball-word-lts.Claims
   cs = (spread-sum-reads.Asked, spread-sum-reads.Learnt, own_ball_word_below t, own-ball-word.Post, side-by-side-reads.Asked, side-by-side-reads.Learnt)
 
-  own_ball_word_spread_sum_requires : own-ball-word-lts.Need-spread-sum-requires cs (own_ball_word_at t) own-ball-word.Post
-  own_ball_word_spread_sum_requires c κs = offs_ready c.before.requires.1
+  own_ball_word_spread_sum_requires : own-ball-word-lts.Need-spread_sum-requires cs (own_ball_word_at t) own-ball-word.Post
+  own_ball_word_spread_sum_requires c κs = offs_ready c.requires.1
 
-  own_ball_word_cast_result : own-ball-word-lts.Need-overflow-cast-result cs (own_ball_word_at t) own-ball-word.Post
-  own_ball_word_cast_result c = squares_cast c.before.before.requires.1 c.before.before.args.possible c.spread-sum.ensures
+  own_ball_word_cast_result : own-ball-word-lts.Need-overflow_cast-result cs (own_ball_word_at t) own-ball-word.Post
+  own_ball_word_cast_result c = squares_cast c.requires.1 c.args.possible c.spread_sum.ensures
 
-  own_ball_word_cast_result_2 : own-ball-word-lts.Need-overflow-cast-result-2 cs (own_ball_word_at t) own-ball-word.Post
+  own_ball_word_cast_result_2 : own-ball-word-lts.Need-overflow_cast-result-then-left-eq0 cs (own_ball_word_at t) own-ball-word.Post
   own_ball_word_cast_result_2 c = tt
 
-  own_ball_word_returns : own-ball-word-lts.Need-returns cs (own_ball_word_at t) own-ball-word.Post
-  own_ball_word_returns c = λ own. own_voxel own c.before.before.args.possible c.before.before.ranges.most c.before.if1.true
-      c.spread-sum.ensures
+  own_ball_word_returns : own-ball-word-lts.Need-returns-then-left-eq0 cs (own_ball_word_at t) own-ball-word.Post
+  own_ball_word_returns c = λ own. own_voxel own c.args.possible c.ranges.most c.if-left-eq0.true
+      c.spread_sum.ensures
 
-  own_ball_word_sub_n : own-ball-word-lts.Need-overflow-sub-n cs (own_ball_word_at t) own-ball-word.Post
+  own_ball_word_sub_n : own-ball-word-lts.Need-overflow_sub-n cs (own_ball_word_at t) own-ball-word.Post
   own_ball_word_sub_n c = omega arith
 
-  own_ball_word_own_ball_word_requires : own-ball-word-lts.Need-own-ball-word-requires cs (own_ball_word_at t) own-ball-word.Post
+  own_ball_word_own_ball_word_requires : own-ball-word-lts.Need-own_ball_word-low-requires cs (own_ball_word_at t) own-ball-word.Post
   own_ball_word_own_ball_word_requires c κs =
-      let t = c.before in let own = t.requires.1 in let f = t.ranges.most in let p = t.args.possible in let k = c.if1.false in
+      let t = c in let own = t.requires.1 in let f = t.ranges.most in let p = t.args.possible in let k = c.if-left-eq0.false in
       (omega (arith, t.requires.0, k), own_low own p f k)
 
-  own_ball_word_mul_axis : own-ball-word-lts.Need-overflow-mul-axis cs (own_ball_word_at t) own-ball-word.Post
+  own_ball_word_mul_axis : own-ball-word-lts.Need-offset_bounds-table-j cs (own_ball_word_at t) own-ball-word.Post
   own_ball_word_mul_axis c =
-      let t = c.before.before in let own = t.requires.1 in let f = t.ranges.most in let p = t.args.possible in let k = c.before.if1.false in
+      let t = c in let own = t.requires.1 in let f = t.ranges.most in let p = t.args.possible in let k = c.if-left-eq0.false in
       omega (arith, half_place own.over f k)
 
-  own_ball_word_element_copy_out_axis : own-ball-word-lts.Need-element-copy-out-axis cs (own_ball_word_at t) own-ball-word.Post
+  own_ball_word_element_copy_out_axis : own-ball-word-lts.Need-bounds-table-j cs (own_ball_word_at t) own-ball-word.Post
   own_ball_word_element_copy_out_axis c =
-      let t = c.before.before in let own = t.requires.1 in let f = t.ranges.most in let p = t.args.possible in let k = c.before.if1.false in
+      let t = c in let own = t.requires.1 in let f = t.ranges.most in let p = t.args.possible in let k = c.if-left-eq0.false in
       omega (arith, half_place own.over f k)
 
-  own_ball_word_side_by_side_requires : own-ball-word-lts.Need-side-by-side-requires cs (own_ball_word_at t) own-ball-word.Post
+  own_ball_word_side_by_side_requires : own-ball-word-lts.Need-side_by_side-requires cs (own_ball_word_at t) own-ball-word.Post
   own_ball_word_side_by_side_requires c κs =
-      let t = c.before.before.before.before in let own = t.requires.1 in let f = t.ranges.most in let p = t.args.possible in
-      let k = c.before.before.before.if1.false in
-      let e = c.before.before.own-ball-word.ensures (own_low own p f k) in
+      let t = c in let own = t.requires.1 in let f = t.ranges.most in let p = t.args.possible in
+      let k = c.if-left-eq0.false in
+      let e = c.own_ball_word-low.ensures (own_low own p f k) in
       (half_place own.over f k, (own_low_fits own p f k e, own_low_fits own p f k e))
 
-  own_ball_word_returns_2 : own-ball-word-lts.Need-returns-2 cs (own_ball_word_at t) own-ball-word.Post
+  own_ball_word_returns_2 : own-ball-word-lts.Need-returns-then-places-axis cs (own_ball_word_at t) own-ball-word.Post
   own_ball_word_returns_2 c =
-      let t = c.before.before.before.before.before in let f = t.ranges.most in let p = t.args.possible in
-      let k = c.before.before.before.before.if1.false in
-      λ own. own_alike own p f k (c.before.before.before.own-ball-word.ensures (own_low own p f k)) c.before.if2.true c.side_by_side.ensures
+      let t = c in let f = t.ranges.most in let p = t.args.possible in
+      let k = c.if-left-eq0.false in
+      λ own. own_alike own p f k (c.own_ball_word-low.ensures (own_low own p f k)) c.if-places-axis.true c.side_by_side.ensures
 
-  own_ball_word_mul_length : own-ball-word-lts.Need-overflow-mul-length cs (own_ball_word_at t) own-ball-word.Post
+  own_ball_word_mul_length : own-ball-word-lts.Need-offset_bounds-lengths-j cs (own_ball_word_at t) own-ball-word.Post
   own_ball_word_mul_length c =
-      let t = c.before.before.before.before in let own = t.requires.1 in let f = t.ranges.most in let p = t.args.possible in
-      let k = c.before.before.before.if1.false in
+      let t = c in let own = t.requires.1 in let f = t.ranges.most in let p = t.args.possible in
+      let k = c.if-left-eq0.false in
       omega (arith, half_place own.over f k)
 
-  own_ball_word_element_copy_out_length : own-ball-word-lts.Need-element-copy-out-length cs (own_ball_word_at t) own-ball-word.Post
+  own_ball_word_element_copy_out_length : own-ball-word-lts.Need-bounds-lengths-j cs (own_ball_word_at t) own-ball-word.Post
   own_ball_word_element_copy_out_length c =
-      let t = c.before.before.before.before in let own = t.requires.1 in let f = t.ranges.most in let p = t.args.possible in
-      let k = c.before.before.before.if1.false in
+      let t = c in let own = t.requires.1 in let f = t.ranges.most in let p = t.args.possible in
+      let k = c.if-left-eq0.false in
       half_place own.over f k
 
-  own_ball_word_cast_length : own-ball-word-lts.Need-overflow-cast-length cs (own_ball_word_at t) own-ball-word.Post
+  own_ball_word_cast_length : own-ball-word-lts.Need-overflow_cast-length cs (own_ball_word_at t) own-ball-word.Post
   own_ball_word_cast_length c =
-      let t = c.before.before.before.before.before in let own = t.requires.1 in let f = t.ranges.most in let p = t.args.possible in
-      let k = c.before.before.before.before.if1.false in let l = c.before.if2.false in
+      let t = c in let own = t.requires.1 in let f = t.ranges.most in let p = t.args.possible in
+      let k = c.if-left-eq0.false in let l = c.if-places-axis.false in
       length_cast own.over f k l
 
-  own_ball_word_mul_off : own-ball-word-lts.Need-overflow-mul-off cs (own_ball_word_at t) own-ball-word.Post
+  own_ball_word_mul_off : own-ball-word-lts.Need-offset_bounds-offs-axis cs (own_ball_word_at t) own-ball-word.Post
   own_ball_word_mul_off c =
-      let t = c.before.before.before.before.before in let own = t.requires.1 in let f = t.ranges.most in let p = t.args.possible in
-      let k = c.before.before.before.before.if1.false in let l = c.before.if2.false in
+      let t = c in let own = t.requires.1 in let f = t.ranges.most in let p = t.args.possible in
+      let k = c.if-left-eq0.false in let l = c.if-places-axis.false in
       omega (arith, axis_place own.over f k l)
 
-  own_ball_word_array_copy_out_off : own-ball-word-lts.Need-array-copy-out-off cs (own_ball_word_at t) own-ball-word.Post
+  own_ball_word_array_copy_out_off : own-ball-word-lts.Need-bounds-offs-axis cs (own_ball_word_at t) own-ball-word.Post
   own_ball_word_array_copy_out_off c =
-      let t = c.before.before.before.before.before in let own = t.requires.1 in let f = t.ranges.most in let p = t.args.possible in
-      let k = c.before.before.before.before.if1.false in let l = c.before.if2.false in
+      let t = c in let own = t.requires.1 in let f = t.ranges.most in let p = t.args.possible in
+      let k = c.if-left-eq0.false in let l = c.if-places-axis.false in
       axis_place own.over f k l
 
-  own_ball_word_mul_further : own-ball-word-lts.Need-overflow-mul-further cs (own_ball_word_at t) own-ball-word.Post
+  own_ball_word_mul_further : own-ball-word-lts.Need-overflow_mul-further cs (own_ball_word_at t) own-ball-word.Post
   own_ball_word_mul_further c =
-      let t = c.before.before.before.before.before.before in let own = t.requires.1 in let f = t.ranges.most in let p = t.args.possible in
-      let k = c.before.before.before.before.before.if1.false in let l = c.before.before.if2.false in
+      let t = c in let own = t.requires.1 in let f = t.ranges.most in let p = t.args.possible in
+      let k = c.if-left-eq0.false in let l = c.if-places-axis.false in
       two_fits own.over f k l
 
-  own_ball_word_add_further : own-ball-word-lts.Need-overflow-add-further cs (own_ball_word_at t) own-ball-word.Post
+  own_ball_word_add_further : own-ball-word-lts.Need-overflow_add-further cs (own_ball_word_at t) own-ball-word.Post
   own_ball_word_add_further c =
-      let t = c.before.before.before.before.before.before in let own = t.requires.1 in let f = t.ranges.most in let p = t.args.possible in
-      let k = c.before.before.before.before.before.if1.false in let l = c.before.before.if2.false in
+      let t = c in let own = t.requires.1 in let f = t.ranges.most in let p = t.args.possible in
+      let k = c.if-left-eq0.false in let l = c.if-places-axis.false in
       further_fits own.over f k l
 
-  own_ball_word_mul_further_2 : own-ball-word-lts.Need-overflow-mul-further-2 cs (own_ball_word_at t) own-ball-word.Post
+  own_ball_word_mul_further_2 : own-ball-word-lts.Need-offset_bounds-further-axis cs (own_ball_word_at t) own-ball-word.Post
   own_ball_word_mul_further_2 c =
-      let t = c.before.before.before.before.before.before in let own = t.requires.1 in let f = t.ranges.most in let p = t.args.possible in
-      let k = c.before.before.before.before.before.if1.false in let l = c.before.before.if2.false in
+      let t = c in let own = t.requires.1 in let f = t.ranges.most in let p = t.args.possible in
+      let k = c.if-left-eq0.false in let l = c.if-places-axis.false in
       omega (arith, axis_place own.over f k l)
 
-  own_ball_word_array_set_from_further : own-ball-word-lts.Need-array-set-from-further cs (own_ball_word_at t) own-ball-word.Post
+  own_ball_word_array_set_from_further : own-ball-word-lts.Need-bounds-further-axis cs (own_ball_word_at t) own-ball-word.Post
   own_ball_word_array_set_from_further c =
-      let t = c.before.before.before.before.before.before in let own = t.requires.1 in let f = t.ranges.most in let p = t.args.possible in
-      let k = c.before.before.before.before.before.if1.false in let l = c.before.before.if2.false in
+      let t = c in let own = t.requires.1 in let f = t.ranges.most in let p = t.args.possible in
+      let k = c.if-left-eq0.false in let l = c.if-places-axis.false in
       axis_place own.over f k l
 
-  own_ball_word_own_ball_word_requires_2 : own-ball-word-lts.Need-own-ball-word-requires-2 cs (own_ball_word_at t) own-ball-word.Post
+  own_ball_word_own_ball_word_requires_2 : own-ball-word-lts.Need-own_ball_word-high-requires cs (own_ball_word_at t) own-ball-word.Post
   own_ball_word_own_ball_word_requires_2 c κs =
-      let t = c.before.before.before.before.before.before in let own = t.requires.1 in let f = t.ranges.most in let p = t.args.possible in
-      let k = c.before.before.before.before.before.if1.false in let l = c.before.before.if2.false in
+      let t = c in let own = t.requires.1 in let f = t.ranges.most in let p = t.args.possible in
+      let k = c.if-left-eq0.false in let l = c.if-places-axis.false in
       (omega (arith, t.requires.0, k), own_high own p f k l)
 
-  own_ball_word_side_by_side_requires_2 : own-ball-word-lts.Need-side-by-side-requires-2 cs (own_ball_word_at t) own-ball-word.Post
+  own_ball_word_side_by_side_requires_2 : own-ball-word-lts.Need-side_by_side-requires-2 cs (own_ball_word_at t) own-ball-word.Post
   own_ball_word_side_by_side_requires_2 c κs =
-      let t = c.before.before.before.before.before.before.before in let own = t.requires.1 in let f = t.ranges.most in let p = t.args.possible in
-      let k = c.before.before.before.before.before.before.if1.false in let l = c.before.before.before.if2.false in
-      let e = c.before.before.before.before.before.own-ball-word.ensures (own_low own p f k) in
-      (half_place own.over f k, (own_low_fits own p f k e, own_high_fits own p f k l (c.own-ball-word2.ensures (own_high own p f k l))))
+      let t = c in let own = t.requires.1 in let f = t.ranges.most in let p = t.args.possible in
+      let k = c.if-left-eq0.false in let l = c.if-places-axis.false in
+      let e = c.own_ball_word-low.ensures (own_low own p f k) in
+      (half_place own.over f k, (own_low_fits own p f k e, own_high_fits own p f k l (c.own_ball_word-high.ensures (own_high own p f k l))))
 
-  own_ball_word_returns_3 : own-ball-word-lts.Need-returns-3 cs (own_ball_word_at t) own-ball-word.Post
+  own_ball_word_returns_3 : own-ball-word-lts.Need-returns cs (own_ball_word_at t) own-ball-word.Post
   own_ball_word_returns_3 c =
-      let t = c.before.before.before.before.before.before.before.before in let f = t.ranges.most in let p = t.args.possible in
-      let k = c.before.before.before.before.before.before.before.if1.false in let l = c.before.before.before.before.if2.false in
-      λ own. own_across own p f k l (c.before.own-ball-word2.ensures (own_high own p f k l))
-      (c.before.before.before.before.before.before.own-ball-word.ensures (own_low own p f k))
-      c.side-by-side2.ensures
+      let t = c in let f = t.ranges.most in let p = t.args.possible in
+      let k = c.if-left-eq0.false in let l = c.if-places-axis.false in
+      λ own. own_across own p f k l (c.own_ball_word-high.ensures (own_high own p f k l))
+      (c.own_ball_word-low.ensures (own_low own p f k))
+      c.side_by_side-2.ensures
 
-pub +own-ball-word-spec : {M : Type 1} → statement M
-+own-ball-word-spec = close μ_own_ball_word λ t. own-ball-word-lts.spec (cs t)
+pub +own_ball_word_spec : {M : Type 1} → statement M
++own_ball_word_spec = close μ_own_ball_word λ t. own-ball-word-lts.spec (cs t)
     (own_ball_word_at t)
     own-ball-word.Post
     (own_ball_word_spread_sum_requires t)

@@ -4,17 +4,17 @@ use Rattle.at_once.proofs.OwnValues.{none_reached, above_reached, below_fits, be
 use Rattle.at_once.proofs.own.reached.Statement.{statement}
 use Rattle.at_once.proofs.own.reached.Tie as tie
 
-returns : tie.Need-returns
-returns c = none_reached c.before.before.requires c.before.if1.true c.if2.true
+returns : tie.Need-returns-then-reach-eq0
+returns c = none_reached c.requires c.if-possible.true c.if-reach-eq0.true
 
-returns-2 : tie.Need-returns-2
-returns-2 c = above_reached c.before.before.requires c.before.if1.true
+returns-2 : tie.Need-returns-then-possible
+returns-2 c = above_reached c.requires c.if-possible.true
 
-sub-result-2 : tie.Need-overflow-sub-result-2
-sub-result-2 c = below_fits c.before.requires
+sub-result-2 : tie.Need-overflow_sub-result-2
+sub-result-2 c = below_fits c.requires
 
-returns-3 : tie.Need-returns-3
-returns-3 c = below_reached c.before.requires c.if1.false
+returns-3 : tie.Need-returns
+returns-3 c = below_reached c.requires c.if-possible.false
 
-pub reached-spec : {M : Type 1} → statement M
-reached-spec = tie.close (tie.spec returns (λ c. search rules) (λ c. search rules) returns-2 (λ c. search rules) sub-result-2 returns-3)
+pub reached_spec : {M : Type 1} → statement M
+reached_spec = tie.close (tie.spec returns (λ c. search rules) (λ c. search rules) returns-2 (λ c. search rules) sub-result-2 returns-3)

@@ -5,20 +5,20 @@ use Rattle.at_once.proofs.OwnValues.{off_number, size_few, spread_none, spread_n
 use Rattle.at_once.proofs.own.spread.Statement.{statement}
 use Rattle.at_once.proofs.own.spread.Tie as tie
 
-size-of-requires : tie.Need-size-of-requires
+size-of-requires : tie.Need-size_of-size-requires
 size-of-requires c κs = off_number c.requires
 
-returns : tie.Need-returns
-returns c = spread_none c.before.before.before.requires c.before.before.type_size.ensures c.before.if1.true c.if2.true
+returns : tie.Need-returns-then-size-eq0
+returns c = spread_none c.requires c.size_of-size.ensures c.if-possible.true c.if-size-eq0.true
 
-returns-2 : tie.Need-returns-2
-returns-2 c = spread_near c.before.before.before.requires c.before.before.type_size.ensures c.before.if1.true
+returns-2 : tie.Need-returns-then-possible
+returns-2 c = spread_near c.requires c.size_of-size.ensures c.if-possible.true
 
-add-result : tie.Need-overflow-add-result
-add-result c = omega (arith, size_few c.before.before.requires c.before.type_size.ensures)
+add-result : tie.Need-overflow_add-result
+add-result c = omega (arith, size_few c.requires c.size_of-size.ensures)
 
-returns-3 : tie.Need-returns-3
-returns-3 c = spread_far c.before.before.requires c.before.type_size.ensures c.if1.false
+returns-3 : tie.Need-returns
+returns-3 c = spread_far c.requires c.size_of-size.ensures c.if-possible.false
 
-pub spread-spec : {M : Type 1} → statement M
-spread-spec = tie.close (tie.spec size-of-requires returns (λ c. search rules) returns-2 add-result returns-3)
+pub spread_spec : {M : Type 1} → statement M
+spread_spec = tie.close (tie.spec size-of-requires returns (λ c. search rules) returns-2 add-result returns-3)

@@ -5,19 +5,19 @@ use Rattle.at_once.proofs.WholeTallies.{contacts_refused, contacts_done}
 use Rattle.at_once.proofs.shared.contacts_of_two.Statement.{statement}
 use Rattle.at_once.proofs.shared.contacts_of_two.Tie as tie
 
-returns : tie.Need-returns
-returns c = contacts_refused _ _ _ _ _ _ c.before.before.refusal_of.ensures c.before.if1.true c.refused.ensures
+returns : tie.Need-returns-then-refusal-ne0
+returns c = contacts_refused _ _ _ _ _ _ c.refusal_of-refusal.ensures c.if-refusal-ne0.true c.refused.ensures
 
-whole-tally-requires : tie.Need-whole-tally-requires
-whole-tally-requires c κs = all_ready _ _ _ _ _ _ c.before.refusal-of.ensures c.if1.false
+whole-tally-requires : tie.Need-whole_tally-tally-requires
+whole-tally-requires c κs = all_ready _ _ _ _ _ _ c.refusal_of-refusal.ensures c.if-refusal-ne0.false
 
-returns-2 : tie.Need-returns-2
+returns-2 : tie.Need-returns
 returns-2 c =
-    contacts_done _ _ _ _ _ _ c.before.before.before.refusal-of.ensures c.before.before.if1.false c.before.whole-tally.ensures
+    contacts_done _ _ _ _ _ _ c.refusal_of-refusal.ensures c.if-refusal-ne0.false c.whole_tally-tally.ensures
     c.done.ensures
 
-pub contacts-of-two-spec : {M : Type 1} → statement M
-contacts-of-two-spec =
+pub contacts_of_two_spec : {M : Type 1} → statement M
+contacts_of_two_spec =
     tie.close
     (tie.spec
     (λ c κs. search rules)

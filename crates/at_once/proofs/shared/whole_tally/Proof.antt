@@ -6,40 +6,40 @@ use Rattle.at_once.proofs.WholeTallies.{whole_tally}
 use Rattle.at_once.proofs.shared.whole_tally.Statement.{statement}
 use Rattle.at_once.proofs.shared.whole_tally.Tie as tie
 
-axes-left-requires : tie.Need-axes-left-requires
+axes-left-requires : tie.Need-axes_left-table-requires
 axes-left-requires c κs = tt
 
-lengths-of-requires : tie.Need-lengths-of-requires
+lengths-of-requires : tie.Need-lengths_of-lengths-requires
 lengths-of-requires c κs =
-    let c1 = c.before in let c4 = c1.before.before.before in
-    (c4.requires.scene.accepted_universe, c1.axes_left.ensures)
+    let c1 = c in let c4 = c1 in
+    (c4.requires.scene.accepted_universe, c1.axes_left-table.ensures)
 
-whole-sides-requires : tie.Need-whole-sides-requires
+whole-sides-requires : tie.Need-whole_sides-side-requires
 whole-sides-requires c κs = tt
 
-load-both-requires : tie.Need-load-both-requires
-load-both-requires c κs = let k = c.before.before.before.before.before.before.before.before.before in both_job k.requires codes_long shelf_long
+load-both-requires : tie.Need-load_both-requires
+load-both-requires c κs = let k = c in both_job k.requires codes_long shelf_long
 
 levels-requires : tie.Need-levels-requires
 levels-requires c κs = tt
 
-add-tally-block : tie.Need-overflow-add-tally-block
+add-tally-block : tie.Need-overflow_add-first
 add-tally-block c =
-    let c14 = c.before.before.before.before.before.before.before.before.before.before.before.before.before.before in
-    let c17 = c14.before.before.before in
+    let c14 = c in
+    let c17 = c14 in
     omega (arith, few_words c17.requires)
 
-tally-block-requires : tie.Need-tally-block-requires
+tally-block-requires : tie.Need-tally_block-requires
 tally-block-requires c κs =
-    let c8 = c.before.before.before.before.before.before.before.before in
-    let c14 = c8.before.before.before.before.before.before in
-    let c18 = c14.before.before.before.before in
-    let c19 = c18.before in
-    let c24 = c19.before.before.before.before.before in
+    let c8 = c in
+    let c14 = c8 in
+    let c18 = c14 in
+    let c19 = c18 in
+    let c24 = c19 in
     let k = c24 in
-    let b = c14.load-both.ensures (both_job k.requires codes_long shelf_long) in
-    let tabled = c19.lengths-of.ensures in
-    let sides = c18.whole_sides.ensures in
+    let b = c14.load_both.ensures (both_job k.requires codes_long shelf_long) in
+    let tabled = c19.lengths_of-lengths.ensures in
+    let sides = c18.whole_sides-side.ensures in
     let l = c8.levels.ensures in (
       whole_job k.requires l codes_long shelf_long tabled sides b,
       (
@@ -53,21 +53,21 @@ tally-block-requires c κs =
 
 returns : tie.Need-returns
 returns c =
-    let c1 = c.before in
-    let c10 = c1.before.before.before.before.before.before.before.before.before in
-    let c16 = c10.before.before.before.before.before.before in
-    let c20 = c16.before.before.before.before in
-    let c21 = c20.before in
-    let c26 = c21.before.before.before.before.before in
+    let c1 = c in
+    let c10 = c1 in
+    let c16 = c10 in
+    let c20 = c16 in
+    let c21 = c20 in
+    let c26 = c21 in
     let k = c26 in
-    let b = c16.load-both.ensures (both_job k.requires codes_long shelf_long) in
-    let tabled = c21.lengths-of.ensures in
-    let sides = c20.whole_sides.ensures in
+    let b = c16.load_both.ensures (both_job k.requires codes_long shelf_long) in
+    let tabled = c21.lengths_of-lengths.ensures in
+    let sides = c20.whole_sides-side.ensures in
     let l = c10.levels.ensures in
-    whole_tally k.requires l codes_long shelf_long tabled sides b (c1.tally-block.ensures.0 (whole_job k.requires l codes_long shelf_long tabled sides b))
+    whole_tally k.requires l codes_long shelf_long tabled sides b (c1.tally_block.ensures.0 (whole_job k.requires l codes_long shelf_long tabled sides b))
 
-pub whole-tally-spec : {M : Type 1} → statement M
-whole-tally-spec =
+pub whole_tally_spec : {M : Type 1} → statement M
+whole_tally_spec =
     tie.close
     (tie.spec
     axes-left-requires

@@ -44,94 +44,94 @@ module _ (t : ℕ) where
   write_word_note_requires : write-word-lts.Need-note-requires cs (write_word_at t) write-word.Post
   write_word_note_requires c κs = search rules
 
-  write_word_add_result : write-word-lts.Need-overflow-add-result cs (write_word_at t) write-word.Post
-  write_word_add_result c = record { fits = omega (arith, one_fits c.before.before.before.before.before.before.requires.1) }
+  write_word_add_result : write-word-lts.Need-overflow_add-result cs (write_word_at t) write-word.Post
+  write_word_add_result c = record { fits = omega (arith, one_fits c.requires.1) }
 
-  write_word_same_length : write-word-lts.Need-same-length cs (write_word_at t) write-word.Post
+  write_word_same_length : write-word-lts.Need-shape_of-out-then-word-eq0 cs (write_word_at t) write-word.Post
   write_word_same_length c = search rules
 
-  write_word_returns : write-word-lts.Need-returns cs (write_word_at t) write-word.Post
+  write_word_returns : write-word-lts.Need-returns-then-word-eq0 cs (write_word_at t) write-word.Post
   write_word_returns c =
-      white_text c.before.before.before.before.before.before.requires.1 c.before.before.before.before.if1.true _
-      c.before.before.note.ensures
+      white_text c.requires.1 c.if-word-eq0.true _
+      c.note.ensures
 
-  write_word_all_ones_requires : write-word-lts.Need-all-ones-requires cs (write_word_at t) write-word.Post
-  write_word_all_ones_requires c κs = c.before.before.requires.1.few
+  write_word_all_ones_requires : write-word-lts.Need-all_ones-requires cs (write_word_at t) write-word.Post
+  write_word_all_ones_requires c κs = c.requires.1.few
 
-  write_word_note_requires_2 : write-word-lts.Need-note-requires-2 cs (write_word_at t) write-word.Post
+  write_word_note_requires_2 : write-word-lts.Need-note-requires-then-word-all_ones cs (write_word_at t) write-word.Post
   write_word_note_requires_2 c κs = search rules
 
-  write_word_add_result_2 : write-word-lts.Need-overflow-add-result-2 cs (write_word_at t) write-word.Post
-  write_word_add_result_2 c = record { fits = omega (arith, one_fits c.before.before.before.before.before.before.before.before.requires.1) }
+  write_word_add_result_2 : write-word-lts.Need-overflow_add-result-then-word-all_ones cs (write_word_at t) write-word.Post
+  write_word_add_result_2 c = record { fits = omega (arith, one_fits c.requires.1) }
 
-  write_word_same_length_2 : write-word-lts.Need-same-length-2 cs (write_word_at t) write-word.Post
+  write_word_same_length_2 : write-word-lts.Need-shape_of-out-then-word-all_ones cs (write_word_at t) write-word.Post
   write_word_same_length_2 c = search rules
 
-  write_word_returns_2 : write-word-lts.Need-returns-2 cs (write_word_at t) write-word.Post
+  write_word_returns_2 : write-word-lts.Need-returns-then-word-all_ones cs (write_word_at t) write-word.Post
   write_word_returns_2 c =
-      black_text c.before.before.before.before.before.before.before.before.requires.1 c.before.before.before.before.before.before.if1.false
-      c.before.before.before.before.before.all_ones.ensures c.before.before.before.before.if2.true _ c.before.before.note2.ensures
+      black_text c.requires.1 c.if-word-eq0.false
+      c.all_ones.ensures c.if-word-all_ones.true _ c.note-then-word-all_ones.ensures
 
-  write_word_sub_n : write-word-lts.Need-overflow-sub-n cs (write_word_at t) write-word.Post
-  write_word_sub_n c = left_some c.before.before.before.before.requires.1 c.before.before.if1.false c.before.all_ones.ensures c.if2.false
+  write_word_sub_n : write-word-lts.Need-overflow_sub-n cs (write_word_at t) write-word.Post
+  write_word_sub_n c = left_some c.requires.1 c.if-word-eq0.false c.all_ones.ensures c.if-word-all_ones.false
 
-  write_word_lower_requires : write-word-lts.Need-lower-requires cs (write_word_at t) write-word.Post
+  write_word_lower_requires : write-word-lts.Need-lower-low-requires cs (write_word_at t) write-word.Post
   write_word_lower_requires c κs =
-      place_few c.before.before.before.before.requires.1 c.before.before.if1.false c.before.all_ones.ensures c.if2.false
+      place_few c.requires.1 c.if-word-eq0.false c.all_ones.ensures c.if-word-all_ones.false
 
-  write_word_upper_requires : write-word-lts.Need-upper-requires cs (write_word_at t) write-word.Post
+  write_word_upper_requires : write-word-lts.Need-upper-high-requires cs (write_word_at t) write-word.Post
   write_word_upper_requires c κs =
-      place_few c.before.before.before.before.before.requires.1 c.before.before.before.if1.false c.before.before.all_ones.ensures
-      c.before.if2.false
+      place_few c.requires.1 c.if-word-eq0.false c.all_ones.ensures
+      c.if-word-all_ones.false
 
-  write_word_note_requires_3 : write-word-lts.Need-note-requires-3 cs (write_word_at t) write-word.Post
+  write_word_note_requires_3 : write-word-lts.Need-note-requires-2 cs (write_word_at t) write-word.Post
   write_word_note_requires_3 c κs = search rules
 
-  write_word_add_write_word : write-word-lts.Need-overflow-add-write-word cs (write_word_at t) write-word.Post
+  write_word_add_write_word : write-word-lts.Need-overflow_add-at cs (write_word_at t) write-word.Post
   write_word_add_write_word c =
-      record { fits = omega (arith, one_fits c.before.before.before.before.before.before.before.before.before.before.before.requires.1) }
+      record { fits = omega (arith, one_fits c.requires.1) }
 
-  write_word_write_word_requires : write-word-lts.Need-write-word-requires cs (write_word_at t) write-word.Post
+  write_word_write_word_requires : write-word-lts.Need-write_word-middle-requires cs (write_word_at t) write-word.Post
   write_word_write_word_requires c κs =
-      let j = c.before.before.before.before.before.before.before.before.before.before.before.requires.1 in
-      let some = c.before.before.before.before.before.before.before.before.before.if1.false in
-      let o = c.before.before.before.before.before.before.before.before.all_ones.ensures in
-      let fewer = c.before.before.before.before.before.before.before.if2.false in (
-        omega (arith, c.before.before.before.before.before.before.before.before.before.before.before.requires.0, left_some j some o fewer),
+      let j = c.requires.1 in
+      let some = c.if-word-eq0.false in
+      let o = c.all_ones.ensures in
+      let fewer = c.if-word-all_ones.false in (
+        omega (arith, c.requires.0, left_some j some o fewer),
         low_text j
-            some o fewer c.before.before.before.before.before.before.lower.ensures,
+            some o fewer c.lower-low.ensures,
       )
 
-  write_word_write_word_requires_2 : write-word-lts.Need-write-word-requires-2 cs (write_word_at t) write-word.Post
+  write_word_write_word_requires_2 : write-word-lts.Need-write_word-requires cs (write_word_at t) write-word.Post
   write_word_write_word_requires_2 c κs =
-      let j = c.before.before.before.before.before.before.before.before.before.before.before.before.before.before.before.requires.1 in
-      let some = c.before.before.before.before.before.before.before.before.before.before.before.before.before.if1.false in
-      let o = c.before.before.before.before.before.before.before.before.before.before.before.before.all_ones.ensures in
-      let fewer = c.before.before.before.before.before.before.before.before.before.before.before.if2.false in (
+      let j = c.requires.1 in
+      let some = c.if-word-eq0.false in
+      let o = c.all_ones.ensures in
+      let fewer = c.if-word-all_ones.false in (
         omega (
           arith,
-          c.before.before.before.before.before.before.before.before.before.before.before.before.before.before.before.requires.0,
+          c.requires.0,
           left_some j some o fewer,
         ),
-        high_text j some o fewer c.before.before.before.before.before.before.before.before.before.before.lower.ensures
-            c.before.before.before.before.before.before.before.before.before.upper.ensures c.before.before.before.write-word.ensures,
+        high_text j some o fewer c.lower-low.ensures
+            c.upper-high.ensures c.write_word-middle.ensures,
       )
 
-  write_word_same_length_3 : write-word-lts.Need-same-length-3 cs (write_word_at t) write-word.Post
+  write_word_same_length_3 : write-word-lts.Need-shape_of-out cs (write_word_at t) write-word.Post
   write_word_same_length_3 c = search rules
 
-  write_word_returns_3 : write-word-lts.Need-returns-3 cs (write_word_at t) write-word.Post
+  write_word_returns_3 : write-word-lts.Need-returns cs (write_word_at t) write-word.Post
   write_word_returns_3 c =
-      let j = c.before.before.before.before.before.before.before.before.before.before.before.before.before.before.before.before.before.before.requires.1 in
-      let o = c.before.before.before.before.before.before.before.before.before.before.before.before.before.before.before.all_ones.ensures in
-      both_texts j c.before.before.before.before.before.before.before.before.before.before.before.before.before.before.before.before.if1.false o c.before.before.before.before.before.before.before.before.before.before.before.before.before.before.if2.false
-      c.before.before.before.before.before.before.before.before.before.before.before.before.before.lower.ensures
-      c.before.before.before.before.before.before.before.before.before.before.before.before.upper.ensures
-      c.before.before.before.before.before.before.write-word.ensures _ c.before.before.before.before.before.before.before.before.before.before.note3.ensures
-      c.before.before.write-word2.ensures
+      let j = c.requires.1 in
+      let o = c.all_ones.ensures in
+      both_texts j c.if-word-eq0.false o c.if-word-all_ones.false
+      c.lower-low.ensures
+      c.upper-high.ensures
+      c.write_word-middle.ensures _ c.note-2.ensures
+      c.write_word.ensures
 
-pub +write-word-spec : {M : Type 1} → statement M
-+write-word-spec = close μ_write_word λ t. write-word-lts.spec (cs t)
+pub +write_word_spec : {M : Type 1} → statement M
++write_word_spec = close μ_write_word λ t. write-word-lts.spec (cs t)
     (write_word_at t)
     write-word.Post
     (write_word_note_requires t)

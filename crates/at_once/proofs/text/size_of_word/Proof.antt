@@ -8,54 +8,54 @@ use Rattle.at_once.proofs.text.size_of_word.Reads as reads
 use Rattle.at_once.proofs.text.size_of_word.Lts as lts
 use Rattle.at_once.proofs.text.mixed_blocks.Reads as mixed-blocks-reads
 
-mixed-blocks-requires : tie.Need-mixed-blocks-requires
+mixed-blocks-requires : tie.Need-mixed_blocks-blocks-requires
 mixed-blocks-requires c κs = search rules
 
-mixed-blocks-requires-2 : tie.Need-mixed-blocks-requires-2
+mixed-blocks-requires-2 : tie.Need-mixed_blocks-blocks-requires-2
 mixed-blocks-requires-2 c κs = search rules
 
-add-blocks : tie.Need-overflow-add-blocks
+add-blocks : tie.Need-overflow_add-blocks
 add-blocks c = search rules
 
-mixed-blocks-requires-3 : tie.Need-mixed-blocks-requires-3
+mixed-blocks-requires-3 : tie.Need-mixed_blocks-blocks-requires-3
 mixed-blocks-requires-3 c κs = search rules
 
-add-blocks-2 : tie.Need-overflow-add-blocks-2
+add-blocks-2 : tie.Need-overflow_add-blocks-2
 add-blocks-2 c = search rules
 
-mixed-blocks-requires-4 : tie.Need-mixed-blocks-requires-4
+mixed-blocks-requires-4 : tie.Need-mixed_blocks-blocks-requires-4
 mixed-blocks-requires-4 c κs = search rules
 
-add-blocks-3 : tie.Need-overflow-add-blocks-3
+add-blocks-3 : tie.Need-overflow_add-blocks-3
 add-blocks-3 c = search rules
 
-mixed-blocks-requires-5 : tie.Need-mixed-blocks-requires-5
+mixed-blocks-requires-5 : tie.Need-mixed_blocks-blocks-requires-5
 mixed-blocks-requires-5 c κs = search rules
 
-add-blocks-4 : tie.Need-overflow-add-blocks-4
+add-blocks-4 : tie.Need-overflow_add-blocks-4
 add-blocks-4 c = search rules
 
-mixed-blocks-requires-6 : tie.Need-mixed-blocks-requires-6
+mixed-blocks-requires-6 : tie.Need-mixed_blocks-blocks-requires-6
 mixed-blocks-requires-6 c κs = search rules
 
-add-blocks-5 : tie.Need-overflow-add-blocks-5
+add-blocks-5 : tie.Need-overflow_add-blocks-5
 add-blocks-5 c = search rules
 
-mul-result : tie.Need-overflow-mul-result
+mul-result : tie.Need-overflow_mul-result
 mul-result c = search rules
 
-add-result : tie.Need-overflow-add-result
+add-result : tie.Need-overflow_add-result
 add-result c = search rules
 
 returns : tie.Need-returns
 returns c =
-    size_is c.before.before.before.before.before.before.args.word refl refl refl refl refl refl (search rules)
-    c.before.before.before.before.before.mixed-blocks.ensures.0 c.before.before.before.before.mixed-blocks2.ensures.0
-    c.before.before.before.mixed-blocks3.ensures.0 c.before.before.mixed-blocks4.ensures.0 c.before.mixed-blocks5.ensures.0
-    c.mixed-blocks6.ensures.0
+    size_is c.args.word refl refl refl refl refl refl (search rules)
+    c.mixed_blocks-blocks.ensures.0 c.mixed_blocks-blocks-2.ensures.0
+    c.mixed_blocks-blocks-3.ensures.0 c.mixed_blocks-blocks-4.ensures.0 c.mixed_blocks-blocks-5.ensures.0
+    c.mixed_blocks-blocks-6.ensures.0
 
-pub size-of-word-spec : {M : Type 1} → statement M
-size-of-word-spec =
+pub size_of_word_spec : {M : Type 1} → statement M
+size_of_word_spec =
     tie.close
     (tie.spec
     mixed-blocks-requires

@@ -11,59 +11,59 @@ use Rattle.at_once.proofs.text.write_eight.Reads as reads
 use Rattle.at_once.proofs.text.write_eight.Lts as lts
 use Rattle.at_once.proofs.text.write_four.Reads as write-four-reads
 
-slice-write-out : tie.Need-slice-write-out
+slice-write-out : tie.Need-bounds-out-at
 slice-write-out c = search rules
 
-add-result : tie.Need-overflow-add-result
+add-result : tie.Need-overflow_add-result
 add-result c = search rules
 
-same_length : tie.Need-same-length
+same_length : tie.Need-shape_of-out-then-word-eq0
 same_length c = search rules
 
-returns : tie.Need-returns
-returns c = white_stored c.before.before.requires c.if1.true
+returns : tie.Need-returns-then-word-eq0
+returns c = white_stored c.requires c.if-word-eq0.true
 
-slice-write-out-2 : tie.Need-slice-write-out-2
+slice-write-out-2 : tie.Need-bounds-out-at-then-word-eq255
 slice-write-out-2 c = search rules
 
-add-result-2 : tie.Need-overflow-add-result-2
+add-result-2 : tie.Need-overflow_add-result-then-word-eq255
 add-result-2 c = search rules
 
-same-length-2 : tie.Need-same-length-2
+same-length-2 : tie.Need-shape_of-out-then-word-eq255
 same-length-2 c = search rules
 
-returns-2 : tie.Need-returns-2
-returns-2 c = black_stored c.before.before.before.requires c.before.if1.false refl c.if2.true
+returns-2 : tie.Need-returns-then-word-eq255
+returns-2 c = black_stored c.requires c.if-word-eq0.false refl c.if-word-eq255.true
 
-slice-write-out-3 : tie.Need-slice-write-out-3
+slice-write-out-3 : tie.Need-bounds-out-at-2
 slice-write-out-3 c = search rules
 
-add-write-four : tie.Need-overflow-add-write-four
+add-write-four : tie.Need-overflow_add-at
 add-write-four c = search rules
 
-write-four-requires : tie.Need-write-four-requires
-write-four-requires c κs = low_roomy c.before.before.before.before.requires c.before.before.if1.false refl c.before.if2.false refl refl
+write-four-requires : tie.Need-write_four-middle-requires
+write-four-requires c κs = low_roomy c.requires c.if-word-eq0.false refl c.if-word-eq255.false refl refl
 
-write-four-requires-2 : tie.Need-write-four-requires-2
+write-four-requires-2 : tie.Need-write_four-requires
 write-four-requires-2 c κs =
-    high_roomy c.before.before.before.before.before.before.before.before.requires c.before.before.before.before.before.before.if1.false refl
-    c.before.before.before.before.before.if2.false refl refl c.before.before.before.write-four.ensures
+    high_roomy c.requires c.if-word-eq0.false refl
+    c.if-word-eq255.false refl refl c.write_four-middle.ensures
 
-same-length-3 : tie.Need-same-length-3
+same-length-3 : tie.Need-shape_of-out
 same-length-3 c =
-    let k = c.before.before.before.before.before.before.before.before.before.before.before in
-    c.before.before.write-four2.auto.1.0 ∙ c.before.before.before.before.before.before.write-four.auto.1.0
+    let k = c in
+    c.write_four.auto.out ∙ c.write_four-middle.auto.out
     ∙ length-set {A = ℕ} k.args.out.now k.args.at open_symbol
 
-returns-3 : tie.Need-returns-3
+returns-3 : tie.Need-returns
 returns-3 c =
-    both_stored c.before.before.before.before.before.before.before.before.before.before.before.requires
-    c.before.before.before.before.before.before.before.before.before.if1.false refl
-    c.before.before.before.before.before.before.before.before.if2.false refl refl
-    c.before.before.before.before.before.before.write-four.ensures c.before.before.write-four2.ensures
+    both_stored c.requires
+    c.if-word-eq0.false refl
+    c.if-word-eq255.false refl refl
+    c.write_four-middle.ensures c.write_four.ensures
 
-pub write-eight-spec : {M : Type 1} → statement M
-write-eight-spec =
+pub write_eight_spec : {M : Type 1} → statement M
+write_eight_spec =
     tie.close
     (tie.spec
     slice-write-out

@@ -8,32 +8,32 @@ use Rattle.at_once.proofs.text.write_one.Tie as tie
 use Rattle.at_once.proofs.text.write_one.Reads as reads
 use Rattle.at_once.proofs.text.write_one.Lts as lts
 
-slice-write-out : tie.Need-slice-write-out
+slice-write-out : tie.Need-bounds-out-at
 slice-write-out c = search rules
 
-add-result : tie.Need-overflow-add-result
+add-result : tie.Need-overflow_add-result
 add-result c = search rules
 
-same_length : tie.Need-same-length
+same_length : tie.Need-shape_of-out-then-word-eq0
 same_length c = search rules
 
-returns : tie.Need-returns
-returns c = white_stored c.before.requires c.if1.true
+returns : tie.Need-returns-then-word-eq0
+returns c = white_stored c.requires c.if-word-eq0.true
 
-slice-write-out-2 : tie.Need-slice-write-out-2
+slice-write-out-2 : tie.Need-bounds-out-at-2
 slice-write-out-2 c = search rules
 
-add-result-2 : tie.Need-overflow-add-result-2
+add-result-2 : tie.Need-overflow_add-result-2
 add-result-2 c = search rules
 
-same-length-2 : tie.Need-same-length-2
+same-length-2 : tie.Need-shape_of-out
 same-length-2 c = search rules
 
-returns-2 : tie.Need-returns-2
-returns-2 c = black_stored c.before.requires c.if1.false refl (omega (arith, c.before.requires.text.digits, c.if1.false))
+returns-2 : tie.Need-returns
+returns-2 c = black_stored c.requires c.if-word-eq0.false refl (omega (arith, c.requires.text.digits, c.if-word-eq0.false))
 
-pub write-one-spec : {M : Type 1} → statement M
-write-one-spec =
+pub write_one_spec : {M : Type 1} → statement M
+write_one_spec =
     tie.close
     (tie.spec
     slice-write-out

@@ -11,59 +11,59 @@ use Rattle.at_once.proofs.text.write_two.Reads as reads
 use Rattle.at_once.proofs.text.write_two.Lts as lts
 use Rattle.at_once.proofs.text.write_one.Reads as write-one-reads
 
-slice-write-out : tie.Need-slice-write-out
+slice-write-out : tie.Need-bounds-out-at
 slice-write-out c = search rules
 
-add-result : tie.Need-overflow-add-result
+add-result : tie.Need-overflow_add-result
 add-result c = search rules
 
-same_length : tie.Need-same-length
+same_length : tie.Need-shape_of-out-then-word-eq0
 same_length c = search rules
 
-returns : tie.Need-returns
-returns c = white_stored c.before.before.requires c.if1.true
+returns : tie.Need-returns-then-word-eq0
+returns c = white_stored c.requires c.if-word-eq0.true
 
-slice-write-out-2 : tie.Need-slice-write-out-2
+slice-write-out-2 : tie.Need-bounds-out-at-then-word-eq3
 slice-write-out-2 c = search rules
 
-add-result-2 : tie.Need-overflow-add-result-2
+add-result-2 : tie.Need-overflow_add-result-then-word-eq3
 add-result-2 c = search rules
 
-same-length-2 : tie.Need-same-length-2
+same-length-2 : tie.Need-shape_of-out-then-word-eq3
 same-length-2 c = search rules
 
-returns-2 : tie.Need-returns-2
-returns-2 c = black_stored c.before.before.before.requires c.before.if1.false refl c.if2.true
+returns-2 : tie.Need-returns-then-word-eq3
+returns-2 c = black_stored c.requires c.if-word-eq0.false refl c.if-word-eq3.true
 
-slice-write-out-3 : tie.Need-slice-write-out-3
+slice-write-out-3 : tie.Need-bounds-out-at-2
 slice-write-out-3 c = search rules
 
-add-write-one : tie.Need-overflow-add-write-one
+add-write-one : tie.Need-overflow_add-at
 add-write-one c = search rules
 
-write-one-requires : tie.Need-write-one-requires
-write-one-requires c κs = low_roomy c.before.before.before.before.requires c.before.before.if1.false refl c.before.if2.false refl refl
+write-one-requires : tie.Need-write_one-middle-requires
+write-one-requires c κs = low_roomy c.requires c.if-word-eq0.false refl c.if-word-eq3.false refl refl
 
-write-one-requires-2 : tie.Need-write-one-requires-2
+write-one-requires-2 : tie.Need-write_one-requires
 write-one-requires-2 c κs =
-    high_roomy c.before.before.before.before.before.before.before.before.requires c.before.before.before.before.before.before.if1.false refl
-    c.before.before.before.before.before.if2.false refl refl c.before.before.before.write-one.ensures
+    high_roomy c.requires c.if-word-eq0.false refl
+    c.if-word-eq3.false refl refl c.write_one-middle.ensures
 
-same-length-3 : tie.Need-same-length-3
+same-length-3 : tie.Need-shape_of-out
 same-length-3 c =
-    let k = c.before.before.before.before.before.before.before.before.before.before.before in
-    c.before.before.write-one2.auto.1.0 ∙ c.before.before.before.before.before.before.write-one.auto.1.0
+    let k = c in
+    c.write_one.auto.out ∙ c.write_one-middle.auto.out
     ∙ length-set {A = ℕ} k.args.out.now k.args.at open_symbol
 
-returns-3 : tie.Need-returns-3
+returns-3 : tie.Need-returns
 returns-3 c =
-    both_stored c.before.before.before.before.before.before.before.before.before.before.before.requires
-    c.before.before.before.before.before.before.before.before.before.if1.false refl
-    c.before.before.before.before.before.before.before.before.if2.false refl refl
-    c.before.before.before.before.before.before.write-one.ensures c.before.before.write-one2.ensures
+    both_stored c.requires
+    c.if-word-eq0.false refl
+    c.if-word-eq3.false refl refl
+    c.write_one-middle.ensures c.write_one.ensures
 
-pub write-two-spec : {M : Type 1} → statement M
-write-two-spec =
+pub write_two_spec : {M : Type 1} → statement M
+write_two_spec =
     tie.close
     (tie.spec
     slice-write-out

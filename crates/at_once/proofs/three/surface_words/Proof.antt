@@ -5,39 +5,39 @@ use Rattle.at_once.proofs.OwnLeaves.{three_row, three_ball}
 use Rattle.at_once.proofs.three.surface_words.Statement.{statement}
 use Rattle.at_once.proofs.three.surface_words.Tie as tie
 
-sub-i : tie.Need-overflow-sub-i
+sub-i : tie.Need-overflow_sub-i
 sub-i c =
-    let c1 = c.before in
-    row_some c1.requires.0 c.if1.true
+    let c1 = c in
+    row_some c1.requires.0 c.if-name-lt-FIRST_BALL.true
 
-cast-i : tie.Need-overflow-cast-i
+cast-i : tie.Need-overflow_cast-i
 cast-i c = search rules
 
-words-of-row-requires : tie.Need-words-of-row-requires
+words-of-row-requires : tie.Need-words_of_row-requires
 words-of-row-requires c κs =
-    let c1 = c.before in let l = c.if1.true in
+    let c1 = c in let l = c.if-name-lt-FIRST_BALL.true in
     (c1.requires.0.block, (row_place c1.requires.0 l, row_value c1.requires.1 (row_some c1.requires.0 l) l))
 
-returns : tie.Need-returns
+returns : tie.Need-returns-then-name-lt-FIRST_BALL
 returns c =
-    let c1 = c.before in
-    λ job. three_row job c1.if1.true (c.words-of-row.ensures job.block)
+    let c1 = c in
+    λ job. three_row job c1.if-name-lt-FIRST_BALL.true (c.words_of_row.ensures job.block)
 
-cast-i-2 : tie.Need-overflow-cast-i-2
+cast-i-2 : tie.Need-overflow_cast-i-2
 cast-i-2 c = search rules
 
-words-of-ball-requires : tie.Need-words-of-ball-requires
+words-of-ball-requires : tie.Need-words_of_ball-requires
 words-of-ball-requires c κs =
-    let c1 = c.before in
-    (c1.requires.0.block, ball_place c1.requires.0 c.if1.false)
+    let c1 = c in
+    (c1.requires.0.block, ball_place c1.requires.0 c.if-name-lt-FIRST_BALL.false)
 
-returns-2 : tie.Need-returns-2
+returns-2 : tie.Need-returns
 returns-2 c =
-    let c1 = c.before in
-    λ job. three_ball job c1.if1.false (c.words-of-ball.ensures job.block)
+    let c1 = c in
+    λ job. three_ball job c1.if-name-lt-FIRST_BALL.false (c.words_of_ball.ensures job.block)
 
-pub surface-words-spec : {M : Type 1} → statement M
-surface-words-spec =
+pub surface_words_spec : {M : Type 1} → statement M
+surface_words_spec =
     tie.close
     (tie.spec
     sub-i

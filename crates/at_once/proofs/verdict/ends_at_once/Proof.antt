@@ -4,19 +4,19 @@ use Rattle.at_once.proofs.Checks.{all_ready, spanned_refused, spanned_done}
 use Rattle.at_once.proofs.verdict.ends_at_once.Statement.{statement}
 use Rattle.at_once.proofs.verdict.ends_at_once.Tie as tie
 
-returns : tie.Need-returns
+returns : tie.Need-returns-then-refusal-ne0
 returns c =
-    spanned_refused _ _ _ _ _ _ c.before.before.refusal_of.ensures c.before.if1.true c.refused.ensures
+    spanned_refused _ _ _ _ _ _ c.refusal_of-refusal.ensures c.if-refusal-ne0.true c.refused.ensures
 
-whole-span-requires : tie.Need-whole-span-requires
-whole-span-requires c κs = all_ready _ _ _ _ _ _ c.before.refusal-of.ensures c.if1.false
+whole-span-requires : tie.Need-whole_span-span-requires
+whole-span-requires c κs = all_ready _ _ _ _ _ _ c.refusal_of-refusal.ensures c.if-refusal-ne0.false
 
-returns-2 : tie.Need-returns-2
+returns-2 : tie.Need-returns
 returns-2 c =
-    spanned_done _ _ _ _ _ _ c.before.before.before.refusal-of.ensures c.before.before.if1.false c.before.whole-span.ensures c.done.ensures
+    spanned_done _ _ _ _ _ _ c.refusal_of-refusal.ensures c.if-refusal-ne0.false c.whole_span-span.ensures c.done.ensures
 
-pub ends-at-once-spec : {M : Type 1} → statement M
-ends-at-once-spec =
+pub ends_at_once_spec : {M : Type 1} → statement M
+ends_at_once_spec =
     tie.close
     (tie.spec
     (λ c κs. search rules)

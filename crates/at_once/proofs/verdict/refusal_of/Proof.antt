@@ -4,15 +4,15 @@ use Rattle.at_once.proofs.Checks.{refused_scene_lem, refused_window}
 use Rattle.at_once.proofs.verdict.refusal_of.Statement.{statement}
 use Rattle.at_once.proofs.verdict.refusal_of.Tie as tie
 
-returns : tie.Need-returns
-returns c = refused_scene_lem _ _ _ _ _ _ c.before.scene-refusal.ensures c.if1.true
+returns : tie.Need-returns-then-refusal-ne0
+returns c = refused_scene_lem _ _ _ _ _ _ c.scene_refusal-refusal.ensures c.if-refusal-ne0.true
 
-returns-2 : tie.Need-returns-2
+returns-2 : tie.Need-returns
 returns-2 c =
-    refused_window _ _ _ _ _ _ c.before.before.scene_refusal.ensures c.before.if1.false c.window-refusal.ensures
+    refused_window _ _ _ _ _ _ c.scene_refusal-refusal.ensures c.if-refusal-ne0.false c.window_refusal.ensures
 
-pub refusal-of-spec : {M : Type 1} → statement M
-refusal-of-spec =
+pub refusal_of_spec : {M : Type 1} → statement M
+refusal_of_spec =
     tie.close
     (tie.spec
     (λ c κs. search rules)

@@ -5,26 +5,26 @@ use Rattle.at_once.proofs.whole.load_both.Statement.{statement}
 use Rattle.at_once.proofs.whole.load_both.Tie as tie
 
 load-requires : tie.Need-load-requires
-load-requires c κs = first_load c.before.before.before.before.before.requires
+load-requires c κs = first_load c.requires
 
 load-requires-2 : tie.Need-load-requires-2
 load-requires-2 c κs =
-    let k = c.before.before.before.before.before.before.before.before.before.before in
-    second_load k.requires (c.before.before.before.before.load.ensures (first_load k.requires))
+    let k = c in
+    second_load k.requires (c.load.ensures (first_load k.requires))
 
 begin-requires : tie.Need-begin-requires
 begin-requires c κs =
-    let k = c.before.before.before.before.before.before.before.before.before.before.before.before.before.before.before in
-    let l = c.before.before.before.before.before.before.before.before.before.load.ensures (first_load k.requires) in
-    begin_job k.requires l (c.before.before.before.before.load2.ensures (second_load k.requires l))
+    let k = c in
+    let l = c.load.ensures (first_load k.requires) in
+    begin_job k.requires l (c.load-2.ensures (second_load k.requires l))
 
 returns : tie.Need-returns
 returns c =
-    λ job. let l = c.before.before.before.before.before.before.before.before.before.before.load.ensures (first_load job) in
-    both_loaded job l (c.before.before.before.before.before.load2.ensures (second_load job l)) c.begin.ensures
+    λ job. let l = c.load.ensures (first_load job) in
+    both_loaded job l (c.load-2.ensures (second_load job l)) c.begin.ensures
 
-pub load-both-spec : {M : Type 1} → statement M
-load-both-spec =
+pub load_both_spec : {M : Type 1} → statement M
+load_both_spec =
     tie.close
     (tie.spec
     load-requires

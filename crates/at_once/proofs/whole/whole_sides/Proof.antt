@@ -6,8 +6,8 @@ use Rattle.at_once.proofs.whole.whole_sides.Tie as tie
 
 returns : tie.Need-returns
 unfolding listed
-returns c = rw (c.before.before.before.side.ensures, c.before.before.side2.ensures, c.before.side3.ensures, c.side4.ensures)
+returns c = rw (c.side.ensures, c.side-2.ensures, c.side-3.ensures, c.side-4.ensures)
 
-pub whole-sides-spec : {M : Type 1} → statement M
-whole-sides-spec =
+pub whole_sides_spec : {M : Type 1} → statement M
+whole_sides_spec =
     tie.close (tie.spec (λ c κs. search rules) (λ c κs. search rules) (λ c κs. search rules) (λ c κs. search rules) returns)

@@ -31,88 +31,88 @@ module _ (t : ℕ) where
   abbrev cs : window-word-lts.Claims
   cs = (is-between-reads.Asked, is-between-reads.Learnt, window_word_below t, window-word.Post, side-by-side-reads.Asked, side-by-side-reads.Learnt)
 
-  window_word_is_between_requires : window-word-lts.Need-is-between-requires cs (window_word_at t) window-word.Post
+  window_word_is_between_requires : window-word-lts.Need-is_between-requires cs (window_word_at t) window-word.Post
   window_word_is_between_requires c κs = tt
 
-  window_word_cast_result : window-word-lts.Need-overflow-cast-result cs (window_word_at t) window-word.Post
+  window_word_cast_result : window-word-lts.Need-overflow_cast-result cs (window_word_at t) window-word.Post
   window_word_cast_result c = search rules
 
-  window_word_returns : window-word-lts.Need-returns cs (window_word_at t) window-word.Post
+  window_word_returns : window-word-lts.Need-returns-then-left-eq0 cs (window_word_at t) window-word.Post
   window_word_returns c =
-      let t = c.before.before in
-      λ h. window_none t.args.first t.args.last h.universe t.args.frame c.before.if1.true c.is-between.ensures
+      let t = c in
+      λ h. window_none t.args.first t.args.last h.universe t.args.frame c.if-left-eq0.true c.is_between.ensures
 
-  window_word_sub_n : window-word-lts.Need-overflow-sub-n cs (window_word_at t) window-word.Post
+  window_word_sub_n : window-word-lts.Need-overflow_sub-n cs (window_word_at t) window-word.Post
   window_word_sub_n c = omega arith
 
-  window_word_window_word_requires : window-word-lts.Need-window-word-requires cs (window_word_at t) window-word.Post
-  window_word_window_word_requires c κs = (omega (arith, c.before.requires.0), (fewer c.before.requires.1.0 c.if1.false, omega (arith, c.before.requires.1.1)))
+  window_word_window_word_requires : window-word-lts.Need-window_word-low-requires cs (window_word_at t) window-word.Post
+  window_word_window_word_requires c κs = (omega (arith, c.requires.0), (fewer c.requires.1.0 c.if-left-eq0.false, omega (arith, c.requires.1.1)))
 
-  window_word_mul_if2 : window-word-lts.Need-overflow-mul-if2 cs (window_word_at t) window-word.Post
-  window_word_mul_if2 c = omega (arith, word_place c.before.before.requires.1.0 c.before.if1.false)
+  window_word_mul_if2 : window-word-lts.Need-offset_bounds-table-j cs (window_word_at t) window-word.Post
+  window_word_mul_if2 c = omega (arith, word_place c.requires.1.0 c.if-left-eq0.false)
 
-  window_word_element_copy_out_if2 : window-word-lts.Need-element-copy-out-if2 cs (window_word_at t) window-word.Post
-  window_word_element_copy_out_if2 c = omega (arith, word_place c.before.before.requires.1.0 c.before.if1.false)
+  window_word_element_copy_out_if2 : window-word-lts.Need-bounds-table-j cs (window_word_at t) window-word.Post
+  window_word_element_copy_out_if2 c = omega (arith, word_place c.requires.1.0 c.if-left-eq0.false)
 
-  window_word_side_by_side_requires : window-word-lts.Need-side-by-side-requires cs (window_word_at t) window-word.Post
+  window_word_side_by_side_requires : window-word-lts.Need-side_by_side-requires cs (window_word_at t) window-word.Post
   window_word_side_by_side_requires c κs =
-      let t = c.before.before.before.before in let c3 = c.before.before.before in let c2 = c.before.before in (
-        word_place t.requires.1.0 c3.if1.false,
+      let t = c in let c3 = c in let c2 = c in (
+        word_place t.requires.1.0 c3.if-left-eq0.false,
         (
           window_fits t.args.first t.args.last t.requires.1.0.universe (t.args.left - 1) t.args.frame
-              (c2.window-word.ensures (fewer t.requires.1.0 c3.if1.false)),
+              (c2.window_word-low.ensures (fewer t.requires.1.0 c3.if-left-eq0.false)),
           window_fits t.args.first t.args.last t.requires.1.0.universe
-              (t.args.left - 1) t.args.frame (c2.window-word.ensures (fewer t.requires.1.0 c3.if1.false)),
+              (t.args.left - 1) t.args.frame (c2.window_word-low.ensures (fewer t.requires.1.0 c3.if-left-eq0.false)),
         ),
       )
 
-  window_word_returns_2 : window-word-lts.Need-returns-2 cs (window_word_at t) window-word.Post
+  window_word_returns_2 : window-word-lts.Need-returns-then-table-j cs (window_word_at t) window-word.Post
   window_word_returns_2 c =
-      let t = c.before.before.before.before.before in let c4 = c.before.before.before.before in let c3 = c.before.before.before in
-      λ h. gives_alike h c4.if1.false t.args.first t.args.last t.args.frame (c3.window-word.ensures (fewer h c4.if1.false))
-      c.before.if2.true c.side_by_side.ensures
+      let t = c in let c4 = c in let c3 = c in
+      λ h. gives_alike h c4.if-left-eq0.false t.args.first t.args.last t.args.frame (c3.window_word-low.ensures (fewer h c4.if-left-eq0.false))
+      c.if-table-j.true c.side_by_side.ensures
 
-  window_word_mul_window_word : window-word-lts.Need-overflow-mul-window-word cs (window_word_at t) window-word.Post
-  window_word_mul_window_word c = omega (arith, word_place c.before.before.before.before.requires.1.0 c.before.before.before.if1.false)
+  window_word_mul_window_word : window-word-lts.Need-offset_bounds-lengths-j cs (window_word_at t) window-word.Post
+  window_word_mul_window_word c = omega (arith, word_place c.requires.1.0 c.if-left-eq0.false)
 
-  window_word_element_copy_out_window_word : window-word-lts.Need-element-copy-out-window-word cs (window_word_at t) window-word.Post
-  window_word_element_copy_out_window_word c = word_place c.before.before.before.before.requires.1.0 c.before.before.before.if1.false
+  window_word_element_copy_out_window_word : window-word-lts.Need-bounds-lengths-j cs (window_word_at t) window-word.Post
+  window_word_element_copy_out_window_word c = word_place c.requires.1.0 c.if-left-eq0.false
 
-  window_word_add_window_word : window-word-lts.Need-overflow-add-window-word cs (window_word_at t) window-word.Post
+  window_word_add_window_word : window-word-lts.Need-overflow_add-frame cs (window_word_at t) window-word.Post
   window_word_add_window_word c =
-      let t = c.before.before.before.before.before in let c4 = c.before.before.before.before in
-      omega (arith, length_short t.requires.1.0 c4.if1.false, t.requires.1.1)
+      let t = c in let c4 = c in
+      omega (arith, length_short t.requires.1.0 c4.if-left-eq0.false, t.requires.1.1)
 
-  window_word_window_word_requires_2 : window-word-lts.Need-window-word-requires-2 cs (window_word_at t) window-word.Post
+  window_word_window_word_requires_2 : window-word-lts.Need-window_word-high-requires cs (window_word_at t) window-word.Post
   window_word_window_word_requires_2 c κs =
-      let t = c.before.before.before.before.before in let c4 = c.before.before.before.before in (
-        omega (arith, t.requires.0, c4.if1.false),
-        (fewer t.requires.1.0 c4.if1.false, omega (arith, length_short t.requires.1.0 c4.if1.false, t.requires.1.1)),
+      let t = c in let c4 = c in (
+        omega (arith, t.requires.0, c4.if-left-eq0.false),
+        (fewer t.requires.1.0 c4.if-left-eq0.false, omega (arith, length_short t.requires.1.0 c4.if-left-eq0.false, t.requires.1.1)),
       )
 
-  window_word_side_by_side_requires_2 : window-word-lts.Need-side-by-side-requires-2 cs (window_word_at t) window-word.Post
+  window_word_side_by_side_requires_2 : window-word-lts.Need-side_by_side-requires-2 cs (window_word_at t) window-word.Post
   window_word_side_by_side_requires_2 c κs =
-      let t = c.before.before.before.before.before.before in let c5 = c.before.before.before.before.before in
-      let c4 = c.before.before.before.before in (
-        word_place t.requires.1.0 c5.if1.false,
+      let t = c in let c5 = c in
+      let c4 = c in (
+        word_place t.requires.1.0 c5.if-left-eq0.false,
         (
           window_fits t.args.first t.args.last t.requires.1.0.universe (t.args.left - 1) t.args.frame
-              (c4.window-word.ensures (fewer t.requires.1.0 c5.if1.false)),
+              (c4.window_word-low.ensures (fewer t.requires.1.0 c5.if-left-eq0.false)),
           window_fits t.args.first t.args.last t.requires.1.0.universe
               (t.args.left - 1) (t.args.frame + get_or t.args.lengths.now (t.args.left - 1) 0)
-              (c.window-word2.ensures (fewer t.requires.1.0 c5.if1.false)),
+              (c.window_word-high.ensures (fewer t.requires.1.0 c5.if-left-eq0.false)),
         ),
       )
 
-  window_word_returns_3 : window-word-lts.Need-returns-3 cs (window_word_at t) window-word.Post
+  window_word_returns_3 : window-word-lts.Need-returns cs (window_word_at t) window-word.Post
   window_word_returns_3 c =
-      let t = c.before.before.before.before.before.before.before in let c6 = c.before.before.before.before.before.before in
-      let c5 = c.before.before.before.before.before in let c3 = c.before.before.before in
-      λ h. gives_across h c6.if1.false t.args.first t.args.last t.args.frame (c5.window-word.ensures (fewer h c6.if1.false))
-      c3.if2.false (c.before.window-word2.ensures (fewer h c6.if1.false)) c.side-by-side2.ensures
+      let t = c in let c6 = c in
+      let c5 = c in let c3 = c in
+      λ h. gives_across h c6.if-left-eq0.false t.args.first t.args.last t.args.frame (c5.window_word-low.ensures (fewer h c6.if-left-eq0.false))
+      c3.if-table-j.false (c.window_word-high.ensures (fewer h c6.if-left-eq0.false)) c.side_by_side-2.ensures
 
-pub +window-word-spec : {M : Type 1} → statement M
-+window-word-spec = close μ_window_word λ t. window-word-lts.spec (cs t)
+pub +window_word_spec : {M : Type 1} → statement M
++window_word_spec = close μ_window_word λ t. window-word-lts.spec (cs t)
     (window_word_at t)
     window-word.Post
     (window_word_is_between_requires t)

@@ -41,165 +41,165 @@ module _ (t : ℕ) where
     side-by-side-reads.Learnt,
   )
 
-  ball_word_returns : ball-word-lts.Need-returns cs (ball_word_at t) ball-word.Post
+  ball_word_returns : ball-word-lts.Need-returns-then-left-eq0 cs (ball_word_at t) ball-word.Post
   ball_word_returns c =
-      let i = c.before in
-      λ over. as_held over i.before.ranges.most i.if1.true (λ o. gives_digit o c.near-digit.ensures)
+      let i = c in
+      λ over. as_held over i.ranges.most i.if-left-eq0.true (λ o. gives_digit o c.near_digit.ensures)
 
-  ball_word_ball_two_requires : ball-word-lts.Need-ball-two-requires cs (ball_word_at t) ball-word.Post
-  ball_word_ball_two_requires c κs = let k = c.before.before in held_over k.requires.1 k.ranges.most c.if2.true
+  ball_word_ball_two_requires : ball-word-lts.Need-ball_two-requires cs (ball_word_at t) ball-word.Post
+  ball_word_ball_two_requires c κs = let k = c in held_over k.requires.1 k.ranges.most c.if-left-eq1.true
 
-  ball_word_returns_2 : ball-word-lts.Need-returns-2 cs (ball_word_at t) ball-word.Post
+  ball_word_returns_2 : ball-word-lts.Need-returns-then-left-eq1 cs (ball_word_at t) ball-word.Post
   ball_word_returns_2 c =
-      let i = c.before in
-      λ over. as_held over i.before.before.ranges.most i.if2.true c.ball-two.ensures
+      let i = c in
+      λ over. as_held over i.ranges.most i.if-left-eq1.true c.ball_two.ensures
 
-  ball_word_ball_four_requires : ball-word-lts.Need-ball-four-requires cs (ball_word_at t) ball-word.Post
-  ball_word_ball_four_requires c κs = let k = c.before.before.before in held_over k.requires.1 k.ranges.most c.if3.true
+  ball_word_ball_four_requires : ball-word-lts.Need-ball_four-requires cs (ball_word_at t) ball-word.Post
+  ball_word_ball_four_requires c κs = let k = c in held_over k.requires.1 k.ranges.most c.if-left-eq2.true
 
-  ball_word_returns_3 : ball-word-lts.Need-returns-3 cs (ball_word_at t) ball-word.Post
+  ball_word_returns_3 : ball-word-lts.Need-returns-then-left-eq2 cs (ball_word_at t) ball-word.Post
   ball_word_returns_3 c =
-      let i = c.before in
-      λ over. as_held over i.before.before.before.ranges.most i.if3.true c.ball-four.ensures
+      let i = c in
+      λ over. as_held over i.ranges.most i.if-left-eq2.true c.ball_four.ensures
 
-  ball_word_sub_n : ball-word-lts.Need-overflow-sub-n cs (ball_word_at t) ball-word.Post
+  ball_word_sub_n : ball-word-lts.Need-overflow_sub-n cs (ball_word_at t) ball-word.Post
   ball_word_sub_n c = omega arith
 
-  ball_word_ball_word_requires : ball-word-lts.Need-ball-word-requires cs (ball_word_at t) ball-word.Post
-  ball_word_ball_word_requires c κs = let over = c.before.before.before.requires.1 in let f = c.before.before.before.ranges.most in let k = c.before.before.if1.false in
-      (omega (arith, c.before.before.before.requires.0, k), low_over over f k)
+  ball_word_ball_word_requires : ball-word-lts.Need-ball_word-low-requires cs (ball_word_at t) ball-word.Post
+  ball_word_ball_word_requires c κs = let over = c.requires.1 in let f = c.ranges.most in let k = c.if-left-eq0.false in
+      (omega (arith, c.requires.0, k), low_over over f k)
 
-  ball_word_mul_axis : ball-word-lts.Need-overflow-mul-axis cs (ball_word_at t) ball-word.Post
+  ball_word_mul_axis : ball-word-lts.Need-offset_bounds-table-j cs (ball_word_at t) ball-word.Post
   ball_word_mul_axis c =
-      let t = c.before.before.before.before in let over = t.requires.1 in let f = t.ranges.most in let k = c.before.before.before.if1.false in
+      let t = c in let over = t.requires.1 in let f = t.ranges.most in let k = c.if-left-eq0.false in
       omega (arith, half_place over f k)
 
-  ball_word_element_copy_out_axis : ball-word-lts.Need-element-copy-out-axis cs (ball_word_at t) ball-word.Post
+  ball_word_element_copy_out_axis : ball-word-lts.Need-bounds-table-j cs (ball_word_at t) ball-word.Post
   ball_word_element_copy_out_axis c =
-      let t = c.before.before.before.before in let over = t.requires.1 in let f = t.ranges.most in let k = c.before.before.before.if1.false in
+      let t = c in let over = t.requires.1 in let f = t.ranges.most in let k = c.if-left-eq0.false in
       omega (arith, half_place over f k)
 
-  ball_word_side_by_side_requires : ball-word-lts.Need-side-by-side-requires cs (ball_word_at t) ball-word.Post
+  ball_word_side_by_side_requires : ball-word-lts.Need-side_by_side-requires cs (ball_word_at t) ball-word.Post
   ball_word_side_by_side_requires c κs =
-      let t = c.before.before.before.before.before.before in let c3 = c.before.before.before.before.before in let c2 = c.before.before in let over
+      let t = c in let c3 = c in let c2 = c in let over
       = t.requires.1 in
-      let f = t.ranges.most in let k = c3.if1.false in let e = c2.ball-word.ensures (low_over over f k) in
+      let f = t.ranges.most in let k = c3.if-left-eq0.false in let e = c2.ball_word-low.ensures (low_over over f k) in
       (half_place over f k, (low_fits over f k e, low_fits over f k e))
 
-  ball_word_returns_4 : ball-word-lts.Need-returns-4 cs (ball_word_at t) ball-word.Post
-  ball_word_returns_4 c = let f = c.before.before.before.before.before.before.before.ranges.most in let k = c.before.before.before.before.before.before.if1.false in
-      λ over. gives_alike over f k (c.before.before.before.ball-word.ensures (low_over over f k)) c.before.if4.true c.side_by_side.ensures
+  ball_word_returns_4 : ball-word-lts.Need-returns-then-places-axis cs (ball_word_at t) ball-word.Post
+  ball_word_returns_4 c = let f = c.ranges.most in let k = c.if-left-eq0.false in
+      λ over. gives_alike over f k (c.ball_word-low.ensures (low_over over f k)) c.if-places-axis.true c.side_by_side.ensures
 
-  ball_word_mul_length : ball-word-lts.Need-overflow-mul-length cs (ball_word_at t) ball-word.Post
+  ball_word_mul_length : ball-word-lts.Need-offset_bounds-lengths-j cs (ball_word_at t) ball-word.Post
   ball_word_mul_length c =
-      let t = c.before.before.before.before.before.before in let c3 = c.before.before.before.before.before in let over = t.requires.1 in let f = t.ranges.most in
-      let k = c3.if1.false in
+      let t = c in let c3 = c in let over = t.requires.1 in let f = t.ranges.most in
+      let k = c3.if-left-eq0.false in
       omega (arith, half_place over f k)
 
-  ball_word_element_copy_out_length : ball-word-lts.Need-element-copy-out-length cs (ball_word_at t) ball-word.Post
+  ball_word_element_copy_out_length : ball-word-lts.Need-bounds-lengths-j cs (ball_word_at t) ball-word.Post
   ball_word_element_copy_out_length c =
-      let t = c.before.before.before.before.before.before in let c3 = c.before.before.before.before.before in let over = t.requires.1 in let f = t.ranges.most in
-      let k = c3.if1.false in
+      let t = c in let c3 = c in let over = t.requires.1 in let f = t.ranges.most in
+      let k = c3.if-left-eq0.false in
       half_place over f k
 
-  ball_word_cast_length : ball-word-lts.Need-overflow-cast-length cs (ball_word_at t) ball-word.Post
+  ball_word_cast_length : ball-word-lts.Need-overflow_cast-length cs (ball_word_at t) ball-word.Post
   ball_word_cast_length c =
-      let t = c.before.before.before.before.before.before.before in let c4 = c.before.before.before.before.before.before in let over = t.requires.1 in
-      let f = t.ranges.most in let k = c4.if1.false in let l = c.before.if4.false in
+      let t = c in let c4 = c in let over = t.requires.1 in
+      let f = t.ranges.most in let k = c4.if-left-eq0.false in let l = c.if-places-axis.false in
       length_cast over f k l
 
-  ball_word_mul_off : ball-word-lts.Need-overflow-mul-off cs (ball_word_at t) ball-word.Post
+  ball_word_mul_off : ball-word-lts.Need-offset_bounds-offs-axis cs (ball_word_at t) ball-word.Post
   ball_word_mul_off c =
-      let t = c.before.before.before.before.before.before.before in let c4 = c.before.before.before.before.before.before in let over = t.requires.1 in
-      let f = t.ranges.most in let k = c4.if1.false in let l = c.before.if4.false in
+      let t = c in let c4 = c in let over = t.requires.1 in
+      let f = t.ranges.most in let k = c4.if-left-eq0.false in let l = c.if-places-axis.false in
       omega (arith, axis_place over f k l)
 
-  ball_word_array_copy_out_off : ball-word-lts.Need-array-copy-out-off cs (ball_word_at t) ball-word.Post
+  ball_word_array_copy_out_off : ball-word-lts.Need-bounds-offs-axis cs (ball_word_at t) ball-word.Post
   ball_word_array_copy_out_off c =
-      let t = c.before.before.before.before.before.before.before in let c4 = c.before.before.before.before.before.before in let over = t.requires.1 in
-      let f = t.ranges.most in let k = c4.if1.false in let l = c.before.if4.false in
+      let t = c in let c4 = c in let over = t.requires.1 in
+      let f = t.ranges.most in let k = c4.if-left-eq0.false in let l = c.if-places-axis.false in
       axis_place over f k l
 
-  ball_word_mul_further : ball-word-lts.Need-overflow-mul-further cs (ball_word_at t) ball-word.Post
+  ball_word_mul_further : ball-word-lts.Need-overflow_mul-further cs (ball_word_at t) ball-word.Post
   ball_word_mul_further c =
-      let t = c.before.before.before.before.before.before.before.before in let c5 = c.before.before.before.before.before.before.before in let c2
-      = c.before.before in
-      let over = t.requires.1 in let f = t.ranges.most in let k = c5.if1.false in let l = c2.if4.left in
+      let t = c in let c5 = c in let c2
+      = c in
+      let over = t.requires.1 in let f = t.ranges.most in let k = c5.if-left-eq0.false in let l = c2.if-places-axis.false in
       two_fits over f k l
 
-  ball_word_add_further : ball-word-lts.Need-overflow-add-further cs (ball_word_at t) ball-word.Post
+  ball_word_add_further : ball-word-lts.Need-overflow_add-further cs (ball_word_at t) ball-word.Post
   ball_word_add_further c =
-      let t = c.before.before.before.before.before.before.before.before in let c5 = c.before.before.before.before.before.before.before in let c2
-      = c.before.before in
-      let over = t.requires.1 in let f = t.ranges.most in let k = c5.if1.false in let l = c2.if4.left in
+      let t = c in let c5 = c in let c2
+      = c in
+      let over = t.requires.1 in let f = t.ranges.most in let k = c5.if-left-eq0.false in let l = c2.if-places-axis.false in
       further_fits over f k l
 
-  ball_word_mul_further_2 : ball-word-lts.Need-overflow-mul-further-2 cs (ball_word_at t) ball-word.Post
+  ball_word_mul_further_2 : ball-word-lts.Need-offset_bounds-further-axis cs (ball_word_at t) ball-word.Post
   ball_word_mul_further_2 c =
-      let t = c.before.before.before.before.before.before.before.before in let c5 = c.before.before.before.before.before.before.before in let c2
-      = c.before.before in
-      let over = t.requires.1 in let f = t.ranges.most in let k = c5.if1.false in let l = c2.if4.left in
+      let t = c in let c5 = c in let c2
+      = c in
+      let over = t.requires.1 in let f = t.ranges.most in let k = c5.if-left-eq0.false in let l = c2.if-places-axis.false in
       omega (arith, axis_place over f k l)
 
-  ball_word_array_set_from_further : ball-word-lts.Need-array-set-from-further cs (ball_word_at t) ball-word.Post
+  ball_word_array_set_from_further : ball-word-lts.Need-bounds-further-axis cs (ball_word_at t) ball-word.Post
   ball_word_array_set_from_further c =
-      let t = c.before.before.before.before.before.before.before.before in let c5 = c.before.before.before.before.before.before.before in let c2
-      = c.before.before in
-      let over = t.requires.1 in let f = t.ranges.most in let k = c5.if1.false in let l = c2.if4.left in
+      let t = c in let c5 = c in let c2
+      = c in
+      let over = t.requires.1 in let f = t.ranges.most in let k = c5.if-left-eq0.false in let l = c2.if-places-axis.false in
       axis_place over f k l
 
-  ball_word_mul_more : ball-word-lts.Need-overflow-mul-more cs (ball_word_at t) ball-word.Post
+  ball_word_mul_more : ball-word-lts.Need-overflow_mul-more cs (ball_word_at t) ball-word.Post
   ball_word_mul_more c =
-      let t = c.before.before.before.before.before.before.before.before in let c5 = c.before.before.before.before.before.before.before in let c2
-      = c.before.before in
-      let over = t.requires.1 in let f = t.ranges.most in let k = c5.if1.false in let l = c2.if4.left in
+      let t = c in let c5 = c in let c2
+      = c in
+      let over = t.requires.1 in let f = t.ranges.most in let k = c5.if-left-eq0.false in let l = c2.if-places-axis.false in
       four_fits over f k l
 
-  ball_word_add_more : ball-word-lts.Need-overflow-add-more cs (ball_word_at t) ball-word.Post
+  ball_word_add_more : ball-word-lts.Need-overflow_add-more cs (ball_word_at t) ball-word.Post
   ball_word_add_more c =
-      let t = c.before.before.before.before.before.before.before.before in let c5 = c.before.before.before.before.before.before.before in let c2
-      = c.before.before in
-      let over = t.requires.1 in let f = t.ranges.most in let k = c5.if1.false in let l = c2.if4.left in
+      let t = c in let c5 = c in let c2
+      = c in
+      let over = t.requires.1 in let f = t.ranges.most in let k = c5.if-left-eq0.false in let l = c2.if-places-axis.false in
       sum_fits over f k l
 
-  ball_word_mul_more_2 : ball-word-lts.Need-overflow-mul-more-2 cs (ball_word_at t) ball-word.Post
+  ball_word_mul_more_2 : ball-word-lts.Need-overflow_mul-more-2 cs (ball_word_at t) ball-word.Post
   ball_word_mul_more_2 c =
-      let t = c.before.before.before.before.before.before.before.before in let c5 = c.before.before.before.before.before.before.before in let c2
-      = c.before.before in
-      let over = t.requires.1 in let f = t.ranges.most in let k = c5.if1.false in let l = c2.if4.left in
+      let t = c in let c5 = c in let c2
+      = c in
+      let over = t.requires.1 in let f = t.ranges.most in let k = c5.if-left-eq0.false in let l = c2.if-places-axis.false in
       more_fits over f k l
 
-  ball_word_add_ball_word : ball-word-lts.Need-overflow-add-ball-word cs (ball_word_at t) ball-word.Post
+  ball_word_add_ball_word : ball-word-lts.Need-overflow_add-distance cs (ball_word_at t) ball-word.Post
   ball_word_add_ball_word c =
-      let t = c.before.before.before.before.before.before.before.before in let c5 = c.before.before.before.before.before.before.before in let c2
-      = c.before.before in
-      let over = t.requires.1 in let f = t.ranges.most in let k = c5.if1.false in let l = c2.if4.left in
+      let t = c in let c5 = c in let c2
+      = c in
+      let over = t.requires.1 in let f = t.ranges.most in let k = c5.if-left-eq0.false in let l = c2.if-places-axis.false in
       far_fits over f k l
 
-  ball_word_ball_word_requires_2 : ball-word-lts.Need-ball-word-requires-2 cs (ball_word_at t) ball-word.Post
+  ball_word_ball_word_requires_2 : ball-word-lts.Need-ball_word-high-requires cs (ball_word_at t) ball-word.Post
   ball_word_ball_word_requires_2 c κs =
-      let t = c.before.before.before.before.before.before.before.before in let c5 = c.before.before.before.before.before.before.before in let c2
-      = c.before.before in
-      let over = t.requires.1 in let f = t.ranges.most in let k = c5.if1.false in let l = c2.if4.left in
+      let t = c in let c5 = c in let c2
+      = c in
+      let over = t.requires.1 in let f = t.ranges.most in let k = c5.if-left-eq0.false in let l = c2.if-places-axis.false in
       (omega (arith, t.requires.0, k), high_over over f k l)
 
-  ball_word_side_by_side_requires_2 : ball-word-lts.Need-side-by-side-requires-2 cs (ball_word_at t) ball-word.Post
+  ball_word_side_by_side_requires_2 : ball-word-lts.Need-side_by_side-requires-2 cs (ball_word_at t) ball-word.Post
   ball_word_side_by_side_requires_2 c κs =
-      let t = c.before.before.before.before.before.before.before.before.before in let c6 = c.before.before.before.before.before.before.before.before in
-      let c5 = c.before.before.before.before.before in let c3 = c.before.before.before in let over = t.requires.1 in let f = t.ranges.most in
-      let k = c6.if1.left in let l = c3.if4.false in let e = c5.ball-word.ensures (low_over over f k) in
-      (half_place over f k, (low_fits over f k e, high_fits over f k l (c.ball-word2.ensures (high_over over f k l))))
+      let t = c in let c6 = c in
+      let c5 = c in let c3 = c in let over = t.requires.1 in let f = t.ranges.most in
+      let k = c6.if-left-eq0.false in let l = c3.if-places-axis.false in let e = c5.ball_word-low.ensures (low_over over f k) in
+      (half_place over f k, (low_fits over f k e, high_fits over f k l (c.ball_word-high.ensures (high_over over f k l))))
 
-  ball_word_returns_5 : ball-word-lts.Need-returns-5 cs (ball_word_at t) ball-word.Post
+  ball_word_returns_5 : ball-word-lts.Need-returns cs (ball_word_at t) ball-word.Post
   ball_word_returns_5 c =
-      let t = c.before.before.before.before.before.before.before.before.before.before in
-      let c7 = c.before.before.before.before.before.before.before.before.before in let c6 = c.before.before.before.before.before.before in
-      let c4 = c.before.before.before.before in let f = t.ranges.most in let k = c7.if1.false in let l = c4.if4.false in
-      λ over. gives_across over f k l (c.before.ball-word2.ensures (high_over over f k l)) (c6.ball-word.ensures (low_over over f k))
-      c.side-by-side2.ensures
+      let t = c in
+      let c7 = c in let c6 = c in
+      let c4 = c in let f = t.ranges.most in let k = c7.if-left-eq0.false in let l = c4.if-places-axis.false in
+      λ over. gives_across over f k l (c.ball_word-high.ensures (high_over over f k l)) (c6.ball_word-low.ensures (low_over over f k))
+      c.side_by_side-2.ensures
 
-pub +ball-word-spec : {M : Type 1} → statement M
-+ball-word-spec = close μ_ball_word λ t. ball-word-lts.spec (cs t)
+pub +ball_word_spec : {M : Type 1} → statement M
++ball_word_spec = close μ_ball_word λ t. ball-word-lts.spec (cs t)
     (ball_word_at t)
     ball-word.Post
     (λ c κs. tt)

@@ -6,23 +6,23 @@ use Rattle.at_once.proofs.word.each_of_sixty_four.Statement.{statement}
 use Rattle.at_once.proofs.word.each_of_sixty_four.Tie as tie
 use Rattle.at_once.proofs.word.thirty_two.Reads as thirty-two-reads
 
-thirty-two-requires : tie.Need-thirty-two-requires
+thirty-two-requires : tie.Need-thirty_two-requires
 thirty-two-requires c κs = low_ready 5 (lit< tt) c.requires
 
-element-copy-out-thirty-two : tie.Need-element-copy-out-thirty-two
+element-copy-out-thirty-two : tie.Need-bounds-steps-5
 element-copy-out-thirty-two c = search rules
 
-add-thirty-two : tie.Need-overflow-add-thirty-two
-add-thirty-two c = step_fits 5 (lit< tt) c.before.before.requires
+add-thirty-two : tie.Need-overflow_add-v
+add-thirty-two c = step_fits 5 (lit< tt) c.requires
 
-thirty-two-requires-2 : tie.Need-thirty-two-requires-2
-thirty-two-requires-2 c κs = high_ready 5 (lit< tt) c.before.before.requires
+thirty-two-requires-2 : tie.Need-thirty_two-requires-2
+thirty-two-requires-2 c κs = high_ready 5 (lit< tt) c.requires
 
 returns : tie.Need-returns
-returns c = both_halves 5 (lit< tt) c.before.before.before.requires c.before.before.thirty_two.ensures c.thirty-two2.ensures
+returns c = both_halves 5 (lit< tt) c.requires c.thirty_two.ensures c.thirty_two-2.ensures
 
-pub each-of-sixty-four-spec : {M : Type 1} → statement M
-each-of-sixty-four-spec =
+pub each_of_sixty_four_spec : {M : Type 1} → statement M
+each_of_sixty_four_spec =
     tie.close
     (tie.spec
     thirty-two-requires

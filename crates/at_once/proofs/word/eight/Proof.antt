@@ -9,18 +9,18 @@ use Rattle.at_once.proofs.word.four.Reads as four-reads
 four-requires : tie.Need-four-requires
 four-requires c κs = low_ready 2 (lit< tt) c.requires
 
-element-copy-out-four : tie.Need-element-copy-out-four
+element-copy-out-four : tie.Need-bounds-steps-2
 element-copy-out-four c = search rules
 
-add-four : tie.Need-overflow-add-four
-add-four c = step_fits 2 (lit< tt) c.before.before.requires
+add-four : tie.Need-overflow_add-v
+add-four c = step_fits 2 (lit< tt) c.requires
 
 four-requires-2 : tie.Need-four-requires-2
-four-requires-2 c κs = high_ready 2 (lit< tt) c.before.before.requires
+four-requires-2 c κs = high_ready 2 (lit< tt) c.requires
 
 returns : tie.Need-returns
-returns c = both_halves 2 (lit< tt) c.before.before.before.requires c.before.before.four.ensures c.four2.ensures
+returns c = both_halves 2 (lit< tt) c.requires c.four.ensures c.four-2.ensures
 
-pub eight-spec : {M : Type 1} → statement M
-eight-spec =
+pub eight_spec : {M : Type 1} → statement M
+eight_spec =
     tie.close (tie.spec four-requires element-copy-out-four add-four four-requires-2 returns)

@@ -16,5 +16,5 @@ returns c =
     byte_count (le_z (held c.args.distance) (held c.args.most))
     ∙ ap₂ (λ (x y : ℤ). count (le_z x y)) (to_z-of_z w64 c.args.distance c.ranges.distance) (to_z-of_z w64 c.args.most c.ranges.most)
 
-pub near-digit-spec : {M : Type 1} → statement M
-near-digit-spec = tie.close (tie.spec (λ c. search rules) returns)
+pub near_digit_spec : {M : Type 1} → statement M
+near_digit_spec = tie.close (tie.spec (λ c. search rules) returns)

@@ -4,7 +4,7 @@ use borrow.Author.Rules.{rules}
 use Rattle.at_once.proofs.word.one.Statement.{statement}
 use Rattle.at_once.proofs.word.one.Tie as tie
 
-cast-result : tie.Need-overflow-cast-result
+cast-result : tie.Need-overflow_cast-result
 cast-result c = search rules
 
 returns : tie.Need-returns

@@ -3,44 +3,44 @@ use Rattle.at_once.proofs.Falling.{small_steps, same_ready, as_held, least_fits,
 use Rattle.at_once.proofs.word.sixty_four.Statement.{statement}
 use Rattle.at_once.proofs.word.sixty_four.Tie as tie
 
-fall-of-requires : tie.Need-fall-of-requires
+fall-of-requires : tie.Need-fall_of-requires
 fall-of-requires c κs = small_steps c.requires
 
-add-least : tie.Need-overflow-add-least
-add-least c = least_fits c.before.requires c.fall-of.ensures
+add-least : tie.Need-overflow_add-least
+add-least c = least_fits c.requires c.fall_of.ensures
 
-returns : tie.Need-returns
-returns c = ones_are c.before.before.requires c.before.fall-of.ensures c.if1.true
+returns : tie.Need-returns-then-least-ge0
+returns c = ones_are c.requires c.fall_of.ensures c.if-least-ge0.true
 
-rise-of-requires : tie.Need-rise-of-requires
-rise-of-requires c κs = small_steps c.before.before.requires
+rise-of-requires : tie.Need-rise_of-requires
+rise-of-requires c κs = small_steps c.requires
 
-add-greatest : tie.Need-overflow-add-greatest
-add-greatest c = greatest_fits c.before.before.before.requires c.before.before.fall_of.ensures c.rise-of.ensures
+add-greatest : tie.Need-overflow_add-greatest
+add-greatest c = greatest_fits c.requires c.fall_of.ensures c.rise_of.ensures
 
-returns-2 : tie.Need-returns-2
-returns-2 c = none_are c.before.before.before.before.requires c.before.before.before.fall-of.ensures c.before.rise-of.ensures c.if2.true
+returns-2 : tie.Need-returns-then-greatest-lt0
+returns-2 c = none_are c.requires c.fall_of.ensures c.rise_of.ensures c.if-greatest-lt0.true
 
-sub-if3 : tie.Need-overflow-sub-if3
-sub-if3 c = apart_fits c.before.before.before.before.requires c.before.before.before.fall-of.ensures c.before.rise-of.ensures
+sub-if3 : tie.Need-overflow_sub-greatest
+sub-if3 c = apart_fits c.requires c.fall_of.ensures c.rise_of.ensures
 
-pairs-word-requires : tie.Need-pairs-word-requires
+pairs-word-requires : tie.Need-pairs_word-requires
 pairs-word-requires c κs =
-    let c3 = c.before.before.before in
-    few_values c3.before.before.requires c3.before.fall-of.ensures c.before.before.rise_of.ensures c3.if1.false c.before.if2.false
-    c.if3.true
+    let c3 = c in
+    few_values c3.requires c3.fall_of.ensures c.rise_of.ensures c3.if-least-ge0.false c.if-greatest-lt0.false
+    c.if-greatest-least-lt-MOST_APART.true
 
-returns-3 : tie.Need-returns-3
-returns-3 c = as_held c.before.before.before.before.before.before.requires c.pairs-word.ensures
+returns-3 : tie.Need-returns-then-greatest-least-lt-MOST_APART
+returns-3 c = as_held c.requires c.pairs_word.ensures
 
-each-of-sixty-four-requires : tie.Need-each-of-sixty-four-requires
-each-of-sixty-four-requires c κs = same_ready c.before.before.before.before.before.requires
+each-of-sixty-four-requires : tie.Need-each_of_sixty_four-requires
+each-of-sixty-four-requires c κs = same_ready c.requires
 
-returns-4 : tie.Need-returns-4
-returns-4 c = as_held c.before.before.before.before.before.before.requires c.each-of-sixty-four.ensures
+returns-4 : tie.Need-returns
+returns-4 c = as_held c.requires c.each_of_sixty_four.ensures
 
-pub sixty-four-spec : {M : Type 1} → statement M
-sixty-four-spec =
+pub sixty_four_spec : {M : Type 1} → statement M
+sixty_four_spec =
     tie.close
     (tie.spec
     fall-of-requires

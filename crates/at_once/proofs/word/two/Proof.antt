@@ -9,18 +9,18 @@ use Rattle.at_once.proofs.word.one.Reads as one-reads
 one-requires : tie.Need-one-requires
 one-requires c κs = search rules
 
-element-copy-out-one : tie.Need-element-copy-out-one
+element-copy-out-one : tie.Need-bounds-steps-0
 element-copy-out-one c = search rules
 
-add-one : tie.Need-overflow-add-one
-add-one c = step_fits 0 (lit< tt) c.before.before.requires
+add-one : tie.Need-overflow_add-v
+add-one c = step_fits 0 (lit< tt) c.requires
 
 one-requires-2 : tie.Need-one-requires-2
 one-requires-2 c κs = search rules
 
 returns : tie.Need-returns
-returns c = let s = c.before.before.before.args.steps.now in
-    both_halves 0 (lit< tt) c.before.before.before.requires (as_row _ s c.before.before.one.ensures) (as_row _ s c.one2.ensures)
+returns c = let s = c.args.steps.now in
+    both_halves 0 (lit< tt) c.requires (as_row _ s c.one.ensures) (as_row _ s c.one-2.ensures)
 
-pub two-spec : {M : Type 1} → statement M
-two-spec = tie.close (tie.spec one-requires element-copy-out-one add-one one-requires-2 returns)
+pub two_spec : {M : Type 1} → statement M
+two_spec = tie.close (tie.spec one-requires element-copy-out-one add-one one-requires-2 returns)
