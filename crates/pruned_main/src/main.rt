@@ -1,9 +1,12 @@
 // The pruned conversions run through the entry points: a line for each, its number, w where it is work room that is
 // lacking, its length or need, the nodes looked at, whether the work room is as it was, and the room for symbols;
 // behind it the number, the length and the room of the first conversion of the same scene.
+#![tactic(auto)]
+
 use bintree::Written;
-use libc::STDOUT_FILENO;
 use pruned::Conversion;
+use std::io;
+use std::io::Write;
 use universe::Universe;
 
 // What the work room holds before a call.
@@ -29,14 +32,13 @@ fn universe(axes: u64, bits: u64, frame_bits: u64) -> Universe {
     }
 }
 
-fn say(text: &[u8]) {
-    io::write_all(STDOUT_FILENO, text);
+fn say(to: &mut impl Write, text: &[u8]) -> io::Result<()> {
+    to.write_all(text)
 }
 
 // A number behind a space.
-fn next_number(n: u64) {
-    say(b" ");
-    io::print_decimal(STDOUT_FILENO, n);
+fn next_number(to: &mut impl Write, n: u64) -> io::Result<()> {
+    write!(to, " {n}")
 }
 
 // Whether the first number of the work room, where there is one, is as it was.
@@ -48,26 +50,34 @@ fn is_untouched(work: &[i64]) -> bool {
 }
 
 // A line: what the pruned conversion answered and left, and what the first one did.
-fn tell(label: &[u8], found: Conversion, work: &[i64], out: &[u8], first: Written, other: &[u8]) {
-    say(label);
-    say(b":");
-    next_number(found.refusal);
+fn tell(
+    to: &mut impl Write,
+    label: &[u8],
+    found: Conversion,
+    work: &[i64],
+    out: &[u8],
+    first: Written,
+    other: &[u8],
+) -> io::Result<()> {
+    say(to, label)?;
+    say(to, b":")?;
+    next_number(to, found.refusal)?;
     if found.short_of_work {
-        say(b"w");
+        say(to, b"w")?;
     }
-    next_number(found.length);
-    next_number(found.looked);
+    next_number(to, found.length)?;
+    next_number(to, found.looked)?;
     if is_untouched(work) {
-        say(b" untouched");
+        say(to, b" untouched")?;
     }
-    say(b" ");
-    say(out);
-    say(b" /");
-    next_number(first.refusal);
-    next_number(first.length);
-    say(b" ");
-    say(other);
-    say(b"\n");
+    say(to, b" ")?;
+    say(to, out)?;
+    say(to, b" /")?;
+    next_number(to, first.refusal)?;
+    next_number(to, first.length)?;
+    say(to, b" ")?;
+    say(to, other)?;
+    say(to, b"\n")
 }
 
 // The expression of one tree by the pruned conversion, merged or raw.
@@ -103,6 +113,7 @@ fn plain_of_one(
 
 // One tree by both, with this work room and rooms for symbols.
 fn one(
+    to: &mut impl Write,
     merging: bool,
     label: &[u8],
     universe: Universe,
@@ -112,10 +123,10 @@ fn one(
     work: &mut [i64],
     out: &mut [u8],
     other: &mut [u8],
-) {
+) -> io::Result<()> {
     let found = pruned_of_one(merging, universe, rows, balls, words, work, out);
     let plain = plain_of_one(merging, universe, rows, balls, words, other);
-    tell(label, found, work, out, plain, other);
+    tell(to, label, found, work, out, plain, other)
 }
 
 // The expression of two trees by the pruned conversion, merged or raw.
@@ -153,6 +164,7 @@ fn plain_of_two(
 
 // Two trees by both, with this work room and rooms for symbols.
 fn two(
+    to: &mut impl Write,
     merging: bool,
     label: &[u8],
     universe: Universe,
@@ -163,14 +175,15 @@ fn two(
     work: &mut [i64],
     out: &mut [u8],
     other: &mut [u8],
-) {
+) -> io::Result<()> {
     let found = pruned_of_two(merging, universe, rows, balls, first, second, work, out);
     let plain = plain_of_two(merging, universe, rows, balls, first, second, other);
-    tell(label, found, work, out, plain, other);
+    tell(to, label, found, work, out, plain, other)
 }
 
 // One tree, with work room for so many nodes and so much room for symbols.
 fn one_in(
+    to: &mut impl Write,
     merging: bool,
     label: &[u8],
     universe: Universe,
@@ -179,7 +192,7 @@ fn one_in(
     words: &[u16],
     nodes: usize,
     lent: usize,
-) {
+) -> io::Result<()> {
     let mut work = [BEFORE; NODE_LENGTH * MOST_NODES];
     let mut out = [b'.'; LENT];
     let mut other = [b'.'; LENT];
@@ -187,6 +200,7 @@ fn one_in(
         if lent <= LENT {
             let numbers = NODE_LENGTH * nodes;
             one(
+                to,
                 merging,
                 label,
                 universe,
@@ -196,13 +210,15 @@ fn one_in(
                 &mut work[..numbers],
                 &mut out[..lent],
                 &mut other[..lent],
-            );
+            )?;
         }
     }
+    Ok(())
 }
 
 // The same of two trees.
 fn two_in(
+    to: &mut impl Write,
     merging: bool,
     label: &[u8],
     universe: Universe,
@@ -212,7 +228,7 @@ fn two_in(
     second: &[u16],
     nodes: usize,
     lent: usize,
-) {
+) -> io::Result<()> {
     let mut work = [BEFORE; NODE_LENGTH * MOST_NODES];
     let mut out = [b'.'; LENT];
     let mut other = [b'.'; LENT];
@@ -220,6 +236,7 @@ fn two_in(
         if lent <= LENT {
             let numbers = NODE_LENGTH * nodes;
             two(
+                to,
                 merging,
                 label,
                 universe,
@@ -230,14 +247,24 @@ fn two_in(
                 &mut work[..numbers],
                 &mut out[..lent],
                 &mut other[..lent],
-            );
+            )?;
         }
     }
+    Ok(())
 }
 
 // A tree of one plane.
-fn plane(merging: bool, label: &[u8], plane: [i64; 5], words: &[u16], nodes: usize, lent: usize) {
+fn plane(
+    to: &mut impl Write,
+    merging: bool,
+    label: &[u8],
+    plane: [i64; 5],
+    words: &[u16],
+    nodes: usize,
+    lent: usize,
+) -> io::Result<()> {
     one_in(
+        to,
         merging,
         label,
         universe(2, 2, 2),
@@ -246,12 +273,19 @@ fn plane(merging: bool, label: &[u8], plane: [i64; 5], words: &[u16], nodes: usi
         words,
         nodes,
         lent,
-    );
+    )
 }
 
 // A plane that moves, from frame 1 on.
-fn moved(merging: bool, label: &[u8], nodes: usize, lent: usize) {
+fn moved(
+    to: &mut impl Write,
+    merging: bool,
+    label: &[u8],
+    nodes: usize,
+    lent: usize,
+) -> io::Result<()> {
     one_in(
+        to,
         merging,
         label,
         universe(2, 2, 2),
@@ -260,14 +294,25 @@ fn moved(merging: bool, label: &[u8], nodes: usize, lent: usize) {
         &[256, 257, 3],
         nodes,
         lent,
-    );
+    )
 }
 
 // Constants alone.
-fn constants() {
+fn constants(to: &mut impl Write) -> io::Result<()> {
     let none: &[i64] = &[];
-    one_in(false, b"WHITE", universe(2, 2, 2), none, none, &[0], 5, 1);
     one_in(
+        to,
+        false,
+        b"WHITE",
+        universe(2, 2, 2),
+        none,
+        none,
+        &[0],
+        5,
+        1,
+    )?;
+    one_in(
+        to,
         true,
         b"BLACK less WHITE",
         universe(2, 2, 2),
@@ -276,13 +321,14 @@ fn constants() {
         &[1, 0, 4],
         15,
         2,
-    );
+    )
 }
 
 // Trees that are decided over the universe.
-fn decided() {
-    plane(false, b"decided at once", [5, 1, 0, 0, 0], &[256], 5, 1);
+fn decided(to: &mut impl Write) -> io::Result<()> {
+    plane(to, false, b"decided at once", [5, 1, 0, 0, 0], &[256], 5, 1)?;
     one_in(
+        to,
         false,
         b"decided at once by one son",
         universe(2, 2, 2),
@@ -291,20 +337,21 @@ fn decided() {
         &[257, 256, 2],
         15,
         1,
-    );
+    )
 }
 
 // Walls, and centres that lie on a plane.
-fn walls() {
+fn walls(to: &mut impl Write) -> io::Result<()> {
     let row: &[u16] = &[256];
-    plane(false, b"a wall", [-2, 1, 0, 0, 0], row, 5, 3);
-    plane(false, b"through centres", [-3, 2, 0, 0, 0], row, 5, 13);
-    plane(true, b"through centres", [-3, 2, 0, 0, 0], row, 5, 13);
+    plane(to, false, b"a wall", [-2, 1, 0, 0, 0], row, 5, 3)?;
+    plane(to, false, b"through centres", [-3, 2, 0, 0, 0], row, 5, 13)?;
+    plane(to, true, b"through centres", [-3, 2, 0, 0, 0], row, 5, 13)
 }
 
 // MINUS, and MINUS within MINUS.
-fn cuts() {
+fn cuts(to: &mut impl Write) -> io::Result<()> {
     one_in(
+        to,
         false,
         b"MINUS within MINUS",
         universe(2, 2, 2),
@@ -313,17 +360,18 @@ fn cuts() {
         &[256, 257, 258, 4, 4],
         25,
         11,
-    );
+    )?;
     let cut: &[u16] = &[256, 256, 4];
-    plane(false, b"less itself", [-3, 2, 0, 0, 0], cut, 15, 13);
-    plane(true, b"less itself", [-3, 2, 0, 0, 0], cut, 15, 1);
+    plane(to, false, b"less itself", [-3, 2, 0, 0, 0], cut, 15, 13)?;
+    plane(to, true, b"less itself", [-3, 2, 0, 0, 0], cut, 15, 1)
 }
 
 // Two trees side by side, one of them BLACK or decided early.
-fn pairs() {
+fn pairs(to: &mut impl Write) -> io::Result<()> {
     let none: &[i64] = &[];
     let row: &[u16] = &[256];
     two_in(
+        to,
         false,
         b"BLACK beside a wall",
         universe(2, 3, 3),
@@ -333,8 +381,9 @@ fn pairs() {
         row,
         14,
         21,
-    );
+    )?;
     two_in(
+        to,
         true,
         b"a wall beside a frame",
         universe(2, 3, 3),
@@ -344,12 +393,13 @@ fn pairs() {
         &[257],
         14,
         35,
-    );
+    )
 }
 
 // Balls.
-fn balls() {
+fn balls(to: &mut impl Write) -> io::Result<()> {
     one_in(
+        to,
         true,
         b"a ball",
         universe(3, 2, 1),
@@ -358,8 +408,9 @@ fn balls() {
         &[512],
         6,
         47,
-    );
+    )?;
     two_in(
+        to,
         true,
         b"a ball less a ball beside a wall",
         universe(3, 2, 1),
@@ -369,29 +420,30 @@ fn balls() {
         &[256],
         24,
         55,
-    );
+    )
 }
 
 // The work room exact, and a node short with the room for symbols short too.
-fn work_rooms() {
-    moved(false, b"exact", 15, 23);
-    moved(false, b"a node short", 14, 23);
-    moved(false, b"both short", 14, 0);
+fn work_rooms(to: &mut impl Write) -> io::Result<()> {
+    moved(to, false, b"exact", 15, 23)?;
+    moved(to, false, b"a node short", 14, 23)?;
+    moved(to, false, b"both short", 14, 0)
 }
 
 // The room for symbols a symbol short.
-fn symbol_rooms() {
-    moved(false, b"a symbol short", 15, 22);
-    moved(true, b"merged, a symbol short", 15, 16);
-    moved(true, b"merged, exact", 15, 17);
+fn symbol_rooms(to: &mut impl Write) -> io::Result<()> {
+    moved(to, false, b"a symbol short", 15, 22)?;
+    moved(to, true, b"merged, a symbol short", 15, 16)?;
+    moved(to, true, b"merged, exact", 15, 17)
 }
 
 // Refusals before both.
-fn refused() {
+fn refused(to: &mut impl Write) -> io::Result<()> {
     let rows: &[i64] = &TWO_ROWS;
     let none: &[i64] = &[];
     let row: &[u16] = &[256];
     one_in(
+        to,
         false,
         b"no such row",
         universe(2, 2, 2),
@@ -400,8 +452,9 @@ fn refused() {
         &[256, 258, 3],
         0,
         1,
-    );
+    )?;
     one_in(
+        to,
         false,
         b"no universe",
         universe(5, 2, 2),
@@ -410,8 +463,9 @@ fn refused() {
         row,
         1,
         1,
-    );
+    )?;
     two_in(
+        to,
         false,
         b"no second tree",
         universe(2, 2, 2),
@@ -421,16 +475,17 @@ fn refused() {
         &[],
         1,
         1,
-    );
+    )
 }
 
-// The work room of two trees; a universe of one voxel.
-fn two_rooms() {
+// The work room of two trees.
+fn two_rooms(to: &mut impl Write) -> io::Result<()> {
     let rows: &[i64] = &TWO_ROWS;
     let none: &[i64] = &[];
     let row: &[u16] = &[256];
     let other: &[u16] = &[257];
     two_in(
+        to,
         false,
         b"two exact",
         universe(2, 2, 2),
@@ -440,8 +495,9 @@ fn two_rooms() {
         other,
         10,
         23,
-    );
+    )?;
     two_in(
+        to,
         true,
         b"two, a node short",
         universe(2, 2, 2),
@@ -451,28 +507,35 @@ fn two_rooms() {
         other,
         9,
         0,
-    );
+    )
+}
+
+// A universe of one voxel.
+fn no_levels(to: &mut impl Write) -> io::Result<()> {
     one_in(
+        to,
         false,
         b"no levels",
         universe(1, 0, 0),
         &[1, 0, 0, 0, 0],
-        none,
-        row,
+        &[],
+        &[256],
         1,
         1,
-    );
+    )
 }
 
-fn main() {
-    constants();
-    decided();
-    walls();
-    cuts();
-    pairs();
-    balls();
-    work_rooms();
-    symbol_rooms();
-    refused();
-    two_rooms();
+fn main(rt: HostRuntime) -> io::Result<()> {
+    let to = &mut rt.stdout();
+    constants(to)?;
+    decided(to)?;
+    walls(to)?;
+    cuts(to)?;
+    pairs(to)?;
+    balls(to)?;
+    work_rooms(to)?;
+    symbol_rooms(to)?;
+    refused(to)?;
+    two_rooms(to)?;
+    no_levels(to)
 }
