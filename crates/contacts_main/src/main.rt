@@ -1,7 +1,10 @@
 // Sure and possible contact run through the entry point: a line for each answer, its number and the three counts; and
 // beside it what the verdict counts on the same scene.
+#![tactic(auto)]
+
 use bintree::Verdict;
-use libc::STDOUT_FILENO;
+use std::io;
+use std::io::Write;
 use universe::Universe;
 
 const LENT: usize = 2_048;
@@ -14,18 +17,18 @@ fn universe(axes: u64, bits: u64, frame_bits: u64) -> Universe {
     }
 }
 
-fn say(text: &[u8]) {
-    io::write_all(STDOUT_FILENO, text);
+fn say(to: &mut impl Write, text: &[u8]) -> io::Result<()> {
+    to.write_all(text)
 }
 
 // A number behind a space.
-fn next_number(n: u64) {
-    say(b" ");
-    io::print_decimal(STDOUT_FILENO, n);
+fn next_number(to: &mut impl Write, n: u64) -> io::Result<()> {
+    write!(to, " {n}")
 }
 
 // What the verdict of the same scene counts.
 fn verdict(
+    to: &mut impl Write,
     universe: Universe,
     rows: &[i64],
     balls: &[i64],
@@ -33,7 +36,7 @@ fn verdict(
     second: &[u16],
     first_frame: u64,
     last_frame: u64,
-) {
+) -> io::Result<()> {
     let mut lent = [b'.'; LENT];
     let answer = convert::verdict_of_two(
         universe,
@@ -47,16 +50,17 @@ fn verdict(
     );
     let refusal = answer.refusal;
     let verdict = answer.verdict;
-    say(b", verdict");
-    next_number(refusal);
+    say(to, b", verdict")?;
+    next_number(to, refusal)?;
     match verdict {
-        Verdict::Clear => say(b" clear"),
-        Verdict::Hit(contact) => next_number(contact.voxels),
+        Verdict::Clear => say(to, b" clear"),
+        Verdict::Hit(contact) => next_number(to, contact.voxels),
     }
 }
 
 // The counts of two trees over a window, and the verdict.
 fn over(
+    to: &mut impl Write,
     label: &[u8],
     universe: Universe,
     rows: &[i64],
@@ -65,7 +69,7 @@ fn over(
     second: &[u16],
     first_frame: u64,
     last_frame: u64,
-) {
+) -> io::Result<()> {
     let answer = at_once::contacts_of_two(
         universe,
         rows,
@@ -75,13 +79,14 @@ fn over(
         first_frame,
         last_frame,
     );
-    say(label);
-    say(b":");
-    next_number(answer.refusal);
-    next_number(answer.sure);
-    next_number(answer.centre);
-    next_number(answer.possible);
+    say(to, label)?;
+    say(to, b":")?;
+    next_number(to, answer.refusal)?;
+    next_number(to, answer.sure)?;
+    next_number(to, answer.centre)?;
+    next_number(to, answer.possible)?;
     verdict(
+        to,
         universe,
         rows,
         balls,
@@ -89,44 +94,45 @@ fn over(
         second,
         first_frame,
         last_frame,
-    );
-    say(b"\n");
+    )?;
+    say(to, b"\n")
 }
 
 // One tree and BLACK over the four frames of four places.
-fn strip(label: &[u8], rows: &[i64], words: &[u16]) {
-    over(label, universe(2, 2, 2), rows, &[], words, &[1], 0, 3);
+fn strip(to: &mut impl Write, label: &[u8], rows: &[i64], words: &[u16]) -> io::Result<()> {
+    over(to, label, universe(2, 2, 2), rows, &[], words, &[1], 0, 3)
 }
 
 // A plane as it is and reversed.
-fn turned(label: &[u8], plane: &[i64]) {
-    strip(label, plane, &[256]);
-    strip(b"reversed", plane, &[1, 256, 4]);
+fn turned(to: &mut impl Write, label: &[u8], plane: &[i64]) -> io::Result<()> {
+    strip(to, label, plane, &[256])?;
+    strip(to, b"reversed", plane, &[1, 256, 4])
 }
 
 // The same, and less itself.
-fn cut(label: &[u8], plane: &[i64]) {
-    turned(label, plane);
-    strip(b"less itself", plane, &[256, 256, 4]);
+fn cut(to: &mut impl Write, label: &[u8], plane: &[i64]) -> io::Result<()> {
+    turned(to, label, plane)?;
+    strip(to, b"less itself", plane, &[256, 256, 4])
 }
 
 // Planes through centres and through faces, and five zeros.
-fn planes() {
-    cut(b"through centres", &[-3, 2, 0, 0, 0]);
-    cut(b"through faces", &[-2, 1, 0, 0, 0]);
-    turned(b"five zeros", &[0, 0, 0, 0, 0]);
+fn planes(to: &mut impl Write) -> io::Result<()> {
+    cut(to, b"through centres", &[-3, 2, 0, 0, 0])?;
+    cut(to, b"through faces", &[-2, 1, 0, 0, 0])?;
+    turned(to, b"five zeros", &[0, 0, 0, 0, 0])
 }
 
 // A wall that ends inside a place.
-fn quarters() {
+fn quarters(to: &mut impl Write) -> io::Result<()> {
     let rows: &[i64] = &[5, -4, 0, 0, 0, -1, 1, 0, 0, 0];
-    strip(b"a quarter of a place", rows, &[256, 257, 3]);
-    strip(b"the places beside it", rows, &[256, 257, 2]);
+    strip(to, b"a quarter of a place", rows, &[256, 257, 3])?;
+    strip(to, b"the places beside it", rows, &[256, 257, 2])
 }
 
 // A mover and a wall in a window.
-fn moved(label: &[u8], first_frame: u64, last_frame: u64) {
+fn moved(to: &mut impl Write, label: &[u8], first_frame: u64, last_frame: u64) -> io::Result<()> {
     over(
+        to,
         label,
         universe(2, 2, 2),
         &[
@@ -137,68 +143,138 @@ fn moved(label: &[u8], first_frame: u64, last_frame: u64) {
         &[258, 259, 3],
         first_frame,
         last_frame,
-    );
+    )
 }
 
 // Windows at both ends, within, and past the end.
-fn windows() {
-    moved(b"frame 0", 0, 0);
-    moved(b"frame 1", 1, 1);
-    moved(b"frames 2 and 3", 2, 3);
-    moved(b"frame 3", 3, 3);
-    moved(b"all frames", 0, 3);
-    moved(b"past the last", 0, 4);
-    moved(b"first after last", 2, 1);
+fn windows(to: &mut impl Write) -> io::Result<()> {
+    moved(to, b"frame 0", 0, 0)?;
+    moved(to, b"frame 1", 1, 1)?;
+    moved(to, b"frames 2 and 3", 2, 3)?;
+    moved(to, b"frame 3", 3, 3)?;
+    moved(to, b"all frames", 0, 3)?;
+    moved(to, b"past the last", 0, 4)?;
+    moved(to, b"first after last", 2, 1)
 }
 
 // A tree of one ball alone, up to a frame.
-fn alone(label: &[u8], universe: Universe, ball: [i64; 4], words: &[u16], last_frame: u64) {
-    over(label, universe, &[], &ball, words, &[1], 0, last_frame);
+fn alone(
+    to: &mut impl Write,
+    label: &[u8],
+    universe: Universe,
+    ball: [i64; 4],
+    words: &[u16],
+    last_frame: u64,
+) -> io::Result<()> {
+    over(to, label, universe, &[], &ball, words, &[1], 0, last_frame)
 }
 
 // Balls that touch a voxel from outside and from inside, reversed too, on one and two place axes.
-fn touching() {
+fn touching(to: &mut impl Write) -> io::Result<()> {
     let ball: &[u16] = &[512];
     let reversed: &[u16] = &[1, 512, 4];
-    alone(b"touches a place", universe(2, 2, 1), [1, 0, 0, 1], ball, 1);
-    alone(b"reversed", universe(2, 2, 1), [1, 0, 0, 1], reversed, 1);
-    alone(b"one voxel", universe(3, 2, 1), [4, 4, 0, 0], ball, 0);
-    alone(b"reversed", universe(3, 2, 1), [4, 4, 0, 0], reversed, 0);
+    alone(
+        to,
+        b"touches a place",
+        universe(2, 2, 1),
+        [1, 0, 0, 1],
+        ball,
+        1,
+    )?;
+    alone(
+        to,
+        b"reversed",
+        universe(2, 2, 1),
+        [1, 0, 0, 1],
+        reversed,
+        1,
+    )?;
+    alone(to, b"one voxel", universe(3, 2, 1), [4, 4, 0, 0], ball, 0)?;
+    alone(
+        to,
+        b"reversed",
+        universe(3, 2, 1),
+        [4, 4, 0, 0],
+        reversed,
+        0,
+    )
 }
 
 // Balls on three place axes and on none.
-fn other_axes() {
+fn other_axes(to: &mut impl Write) -> io::Result<()> {
     let ball: &[u16] = &[512];
-    alone(b"three places", universe(4, 2, 1), [2, 2, 2, 2], ball, 1);
     alone(
+        to,
+        b"three places",
+        universe(4, 2, 1),
+        [2, 2, 2, 2],
+        ball,
+        1,
+    )?;
+    alone(
+        to,
         b"less itself",
         universe(4, 2, 1),
         [2, 2, 2, 2],
         &[512, 512, 4],
         1,
-    );
-    alone(b"no place", universe(1, 0, 2), [0, 0, 0, 0], ball, 3);
+    )?;
+    alone(to, b"no place", universe(1, 0, 2), [0, 0, 0, 0], ball, 3)
 }
 
 // Two balls, one against the other.
-fn two_heads(label: &[u8], balls: [i64; 8]) {
-    over(label, universe(3, 3, 2), &[], &balls, &[512], &[513], 1, 2);
+fn two_heads(to: &mut impl Write, label: &[u8], balls: [i64; 8]) -> io::Result<()> {
+    over(
+        to,
+        label,
+        universe(3, 3, 2),
+        &[],
+        &balls,
+        &[512],
+        &[513],
+        1,
+        2,
+    )
 }
 
 // Two heads.
-fn heads() {
-    two_heads(b"heads that touch", [2, 4, 0, 2, 6, 4, 0, 2]);
-    two_heads(b"heads that meet", [3, 4, 0, 2, 5, 4, 0, 2]);
+fn heads(to: &mut impl Write) -> io::Result<()> {
+    two_heads(to, b"heads that touch", [2, 4, 0, 2, 6, 4, 0, 2])?;
+    two_heads(to, b"heads that meet", [3, 4, 0, 2, 5, 4, 0, 2])
 }
 
 // A plane and BLACK from the first frame to a last.
-fn plane_over(label: &[u8], universe: Universe, plane: [i64; 5], last_frame: u64) {
-    over(label, universe, &plane, &[], &[256], &[1], 0, last_frame);
+fn plane_over(
+    to: &mut impl Write,
+    label: &[u8],
+    universe: Universe,
+    plane: [i64; 5],
+    last_frame: u64,
+) -> io::Result<()> {
+    over(
+        to,
+        label,
+        universe,
+        &plane,
+        &[],
+        &[256],
+        &[1],
+        0,
+        last_frame,
+    )
 }
 
 // BLACK and a constant in a window.
-fn black_over(label: &[u8], universe: Universe, constant: u16, first_frame: u64, last_frame: u64) {
+fn black_over(
+    to: &mut impl Write,
+    label: &[u8],
+    universe: Universe,
+    constant: u16,
+    first_frame: u64,
+    last_frame: u64,
+) -> io::Result<()> {
     over(
+        to,
         label,
         universe,
         &[],
@@ -207,30 +283,32 @@ fn black_over(label: &[u8], universe: Universe, constant: u16, first_frame: u64,
         &[constant],
         first_frame,
         last_frame,
-    );
+    )
 }
 
 // No bits, one axis, and the largest.
-fn smallest() {
+fn smallest(to: &mut impl Write) -> io::Result<()> {
     plane_over(
+        to,
         b"one voxel in doubt",
         universe(2, 0, 0),
         [-1, 2, 0, 0, 0],
         0,
-    );
-    black_over(b"one voxel", universe(4, 0, 0), 1, 0, 0);
-    black_over(b"none", universe(4, 0, 0), 0, 0, 0);
-    plane_over(b"frames alone", universe(1, 0, 2), [-3, 2, 0, 0, 0], 3);
-    black_over(b"all of the largest", universe(4, 10, 12), 1, 0, 4_095);
-    black_over(b"its last frame", universe(4, 10, 12), 1, 4_095, 4_095);
+    )?;
+    black_over(to, b"one voxel", universe(4, 0, 0), 1, 0, 0)?;
+    black_over(to, b"none", universe(4, 0, 0), 0, 0, 0)?;
+    plane_over(to, b"frames alone", universe(1, 0, 2), [-3, 2, 0, 0, 0], 3)?;
+    black_over(to, b"all of the largest", universe(4, 10, 12), 1, 0, 4_095)?;
+    black_over(to, b"its last frame", universe(4, 10, 12), 1, 4_095, 4_095)
 }
 
 // Each number up to the balls', with a fault behind it.
-fn refused_surfaces() {
+fn refused_surfaces(to: &mut impl Write) -> io::Result<()> {
     let none: &[i64] = &[];
     let torn: &[i64] = &[0];
     let black: &[u16] = &[1];
     over(
+        to,
         b"the universe",
         universe(5, 2, 2),
         torn,
@@ -239,8 +317,9 @@ fn refused_surfaces() {
         black,
         0,
         3,
-    );
+    )?;
     over(
+        to,
         b"the rows",
         universe(2, 2, 2),
         torn,
@@ -249,8 +328,9 @@ fn refused_surfaces() {
         black,
         0,
         3,
-    );
+    )?;
     over(
+        to,
         b"the balls",
         universe(2, 2, 2),
         none,
@@ -259,12 +339,19 @@ fn refused_surfaces() {
         black,
         0,
         3,
-    );
+    )
 }
 
 // Two trees over no rows and no balls, up to a frame.
-fn bare(label: &[u8], first: &[u16], second: &[u16], last_frame: u64) {
+fn bare(
+    to: &mut impl Write,
+    label: &[u8],
+    first: &[u16],
+    second: &[u16],
+    last_frame: u64,
+) -> io::Result<()> {
     over(
+        to,
         label,
         universe(2, 2, 2),
         &[],
@@ -273,31 +360,33 @@ fn bare(label: &[u8], first: &[u16], second: &[u16], last_frame: u64) {
         second,
         0,
         last_frame,
-    );
+    )
 }
 
 // Each number of the trees and of the window.
-fn refused_trees() {
+fn refused_trees(to: &mut impl Write) -> io::Result<()> {
     let none: &[u16] = &[];
     let black: &[u16] = &[1];
     let overfull: &[u16] = &[1; 256];
-    bare(b"tree 1", &[256], overfull, 3);
-    bare(b"tree 1 overfull", overfull, none, 3);
-    bare(b"tree 2", black, none, 4);
-    bare(b"tree 2 overfull", black, overfull, 4);
-    bare(b"the window", black, black, 4);
+    bare(to, b"tree 1", &[256], overfull, 3)?;
+    bare(to, b"tree 1 overfull", overfull, none, 3)?;
+    bare(to, b"tree 2", black, none, 4)?;
+    bare(to, b"tree 2 overfull", black, overfull, 4)?;
+    bare(to, b"the window", black, black, 4)
 }
 
 // Two trees over planes that move and a ball, in a window.
 fn moving(
+    to: &mut impl Write,
     label: &[u8],
     universe: Universe,
     first: &[u16],
     second: &[u16],
     first_frame: u64,
     last_frame: u64,
-) {
+) -> io::Result<()> {
     over(
+        to,
         label,
         universe,
         &[-7, 2, 1, -1, 0, 9, -1, -3, 2, 0],
@@ -306,35 +395,46 @@ fn moving(
         second,
         first_frame,
         last_frame,
-    );
+    )
 }
 
 // Levels at both sides of a word's six, and windows that cut a word.
-fn levels() {
+fn levels(to: &mut impl Write) -> io::Result<()> {
     let plane: &[u16] = &[257];
-    moving(b"five levels", universe(3, 1, 3), &[512], plane, 1, 6);
+    moving(to, b"five levels", universe(3, 1, 3), &[512], plane, 1, 6)?;
     moving(
+        to,
         b"six levels",
         universe(3, 2, 2),
         &[1, 256, 4],
         &[257, 512, 2],
         1,
         2,
-    );
+    )?;
     moving(
+        to,
         b"seven levels",
         universe(3, 2, 3),
         &[256, 512, 2],
         plane,
         1,
         6,
-    );
+    )
 }
 
 // More levels, more frames than places and fewer: planes that move, a ball, and what is left of one.
-fn more_levels() {
-    moving(b"ten levels", universe(3, 4, 2), &[257, 512, 4], &[1], 2, 3);
+fn more_levels(to: &mut impl Write) -> io::Result<()> {
+    moving(
+        to,
+        b"ten levels",
+        universe(3, 4, 2),
+        &[257, 512, 4],
+        &[1],
+        2,
+        3,
+    )?;
     over(
+        to,
         b"twelve levels",
         universe(4, 2, 6),
         &[-7, 2, 1, -1, 0, 9, -1, -3, 2, -1],
@@ -343,8 +443,9 @@ fn more_levels() {
         &[1, 256, 512, 3, 4],
         5,
         5 + 36,
-    );
+    )?;
     over(
+        to,
         b"nine levels of frames",
         universe(1, 0, 9),
         &[-201, 2, 0, 0, 0, 301, -1, 0, 0, 0],
@@ -353,19 +454,20 @@ fn more_levels() {
         &[257],
         99,
         300,
-    );
+    )
 }
 
-fn main() {
-    planes();
-    quarters();
-    windows();
-    touching();
-    other_axes();
-    heads();
-    smallest();
-    levels();
-    more_levels();
-    refused_surfaces();
-    refused_trees();
+fn main(rt: HostRuntime) -> io::Result<()> {
+    let to = &mut rt.stdout();
+    planes(to)?;
+    quarters(to)?;
+    windows(to)?;
+    touching(to)?;
+    other_axes(to)?;
+    heads(to)?;
+    smallest(to)?;
+    levels(to)?;
+    more_levels(to)?;
+    refused_surfaces(to)?;
+    refused_trees(to)
 }
