@@ -1,5 +1,7 @@
 // Raw conversions and the verdict of two trees in lent room, with the first conversion's answers: pruned in work room of
 // the call's own where the nodes fit, by codes where they do not.
+#![tactic(auto)]
+
 mod conversion;
 mod verdict;
 mod work;

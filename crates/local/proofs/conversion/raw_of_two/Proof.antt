@@ -8,88 +8,88 @@ use borrow.Author.Rules.{rules}
 use Rattle.local.proofs.conversion.raw_of_two.Statement.{statement}
 use Rattle.local.proofs.conversion.raw_of_two.Tie as tie
 
-add-gains-little : tie.Need-overflow-add-gains-little
+add-gains-little : tie.Need-overflow_add-first
 add-gains-little c = search rules
 
-gains-little-requires : tie.Need-gains-little-requires
+gains-little-requires : tie.Need-gains_little-requires
 gains-little-requires c κs = search rules
 
-raw_of-two-requires : tie.Need-raw_of-two-requires
+raw_of-two-requires : tie.Need-raw_of_two-requires
 raw_of-two-requires c κs = search rules
 
-same_length : tie.Need-same-length
+same_length : tie.Need-shape_of-out-then-gains_little
 same_length c = search rules
 
-returns : tie.Need-returns
+returns : tie.Need-returns-then-gains_little
 returns c = search rules
 
-left-of-two-requires : tie.Need-left-of-two-requires
+left-of-two-requires : tie.Need-left_of_two-requires
 left-of-two-requires c κs = search rules
 
-same-length-2 : tie.Need-same-length-2
+same-length-2 : tie.Need-shape_of-out-then-out-le-MOST_SCRATCH
 same-length-2 c = search rules
 
-returns-2 : tie.Need-returns-2
+returns-2 : tie.Need-returns-then-out-le-MOST_SCRATCH
 returns-2 c = search rules
 
-left-of-two-requires-2 : tie.Need-left-of-two-requires-2
+left-of-two-requires-2 : tie.Need-left_of_two-requires-then-out-gt-MOST_SCRATCH
 left-of-two-requires-2 c κs = search rules
 
-same-length-3 : tie.Need-same-length-3
+same-length-3 : tie.Need-shape_of-out-then-out-gt-MOST_SCRATCH
 same-length-3 c = search rules
 
-returns-3 : tie.Need-returns-3
+returns-3 : tie.Need-returns-then-out-gt-MOST_SCRATCH
 returns-3 c = search rules
 
-halfspace-words-requires : tie.Need-halfspace-words-requires
+halfspace-words-requires : tie.Need-halfspace_words-requires
 halfspace-words-requires c κs = search rules
 
-halfspace-words-requires-2 : tie.Need-halfspace-words-requires-2
+halfspace-words-requires-2 : tie.Need-halfspace_words-requires-2
 halfspace-words-requires-2 c κs = search rules
 
-add-leaves : tie.Need-overflow-add-leaves
+add-leaves : tie.Need-overflow_add-leaves
 add-leaves c =
-    let k = c.before.before.before.before.before.before.before.before.before.args in
+    let k = c.args in
     let one = count_words_most first_halfspace most_rows k.first.now in
     let two = count_words_most first_halfspace most_rows k.second.now in
-    record { fits = omega (arith, c.before.halfspace-words.ensures, c.halfspace-words2.ensures, one, two) }
+    record { fits = omega (arith, c.halfspace_words.ensures, c.halfspace_words-2.ensures, one, two) }
 
-ball-words-requires : tie.Need-ball-words-requires
+ball-words-requires : tie.Need-ball_words-requires
 ball-words-requires c κs = search rules
 
-ball-words-requires-2 : tie.Need-ball-words-requires-2
+ball-words-requires-2 : tie.Need-ball_words-requires-2
 ball-words-requires-2 c κs = search rules
 
-add-round : tie.Need-overflow-add-round
+add-round : tie.Need-overflow_add-round
 add-round c =
-    let k = c.before.before.before.before.before.before.before.before.before.before.before.args in
+    let k = c.args in
     let one = count_words_most first_ball most_balls k.first.now in
     let two = count_words_most first_ball most_balls k.second.now in
-    record { fits = omega (arith, c.before.ball-words.ensures, c.ball-words2.ensures, one, two) }
+    record { fits = omega (arith, c.ball_words.ensures, c.ball_words-2.ensures, one, two) }
 
-room-requires : tie.Need-room-requires
+room-requires : tie.Need-room-room-requires
 room-requires c κs = search rules
 
-left-of-two-requires-3 : tie.Need-left-of-two-requires-3
+left-of-two-requires-3 : tie.Need-left_of_two-requires-then-room-out
 left-of-two-requires-3 c κs = search rules
 
-same-length-4 : tie.Need-same-length-4
+same-length-4 : tie.Need-shape_of-out-then-room-out
 same-length-4 c = search rules
 
-returns-4 : tie.Need-returns-4
+returns-4 : tie.Need-returns-then-room-out
 returns-4 c = search rules
 
-raw_of-two-requires-2 : tie.Need-raw_of-two-requires-2
+raw_of-two-requires-2 : tie.Need-raw_of_two-requires-2
 raw_of-two-requires-2 c κs = search rules
 
-same-length-5 : tie.Need-same-length-5
+same-length-5 : tie.Need-shape_of-out
 same-length-5 c = search rules
 
-returns-5 : tie.Need-returns-5
+returns-5 : tie.Need-returns
 returns-5 c = search rules
 
-pub raw_of-two-spec : {M : Type 1} → statement M
-raw_of-two-spec =
+pub raw_of_two_spec : {M : Type 1} → statement M
+raw_of_two_spec =
     tie.close
     (tie.spec
     add-gains-little

@@ -7,72 +7,72 @@ use borrow.Author.Rules.{rules}
 use Rattle.local.proofs.verdict.verdict_of_two.Statement.{statement}
 use Rattle.local.proofs.verdict.verdict_of_two.Tie as tie
 
-window-refusal-requires : tie.Need-window-refusal-requires
+window-refusal-requires : tie.Need-window_refusal-nine-requires
 window-refusal-requires c κs = search rules
 
-scene-refusal-requires : tie.Need-scene-refusal-requires
+scene-refusal-requires : tie.Need-scene_refusal-refusal-requires
 scene-refusal-requires c κs = search rules
 
 refused-requires : tie.Need-refused-requires
 refused-requires c κs = search rules
 
-returns : tie.Need-returns
-returns c = stopped_early _ _ _ _ _ _ _ c.before.before.scene_refusal.ensures c.before.if2.true c.refused.ensures
+returns : tie.Need-returns-then-refusal-ne0
+returns c = stopped_early _ _ _ _ _ _ _ c.scene_refusal-refusal.ensures c.if-refusal-ne0.true c.refused.ensures
 
-refused-requires-2 : tie.Need-refused-requires-2
+refused-requires-2 : tie.Need-refused-requires-then-nine-ne0
 refused-requires-2 c κs = search rules
 
-returns-2 : tie.Need-returns-2
+returns-2 : tie.Need-returns-then-nine-ne0
 returns-2 c =
-    let s = c.before.before in
-    stopped_window _ _ _ _ _ _ _ s.scene_refusal.ensures c.before.if2.false s.before.before.window_refusal.ensures s.before.if1.true c.refused2.ensures
+    let s = c in
+    stopped_window _ _ _ _ _ _ _ s.scene_refusal-refusal.ensures c.if-refusal-ne0.false s.window_refusal-nine.ensures s.if-nine-ne0.true c.refused-then-nine-ne0.ensures
 
-raw_of-two-requires : tie.Need-raw_of-two-requires
+raw_of-two-requires : tie.Need-raw_of_two-written-requires
 raw_of-two-requires c κs = search rules
 
-refused-requires-3 : tie.Need-refused-requires-3
+refused-requires-3 : tie.Need-refused-requires-then-written-ne0
 refused-requires-3 c κs = search rules
 
-same_length : tie.Need-same-length
+same_length : tie.Need-shape_of-out-then-written-ne0
 same_length c = search rules
 
-returns-3 : tie.Need-returns-3
+returns-3 : tie.Need-returns-then-written-ne0
 returns-3 c =
-    let k = c.before.before.before.before.before in
-    let n = k.before.before in
-    raw_stopped _ _ _ _ _ _ _ n.before.window-refusal.ensures n.if1.false k.raw_of-two.ensures c.before.if3.true c.refused3.ensures
+    let k = c in
+    let n = k in
+    raw_stopped _ _ _ _ _ _ _ n.window_refusal-nine.ensures n.if-nine-ne0.false k.raw_of_two-written.ensures c.if-written-ne0.true c.refused-then-written-ne0.ensures
 
-slice-reshare-prefix-numbers-of : tie.Need-slice-reshare-prefix-numbers-of
+slice-reshare-prefix-numbers-of : tie.Need-slice_bounds-numbers_of-end
 slice-reshare-prefix-numbers-of c =
-    let k = c.before.before.before.before in
-    let n = k.before.before in
-    raw_within _ _ _ _ _ _ _ n.before.window-refusal.ensures n.if1.false k.raw_of-two.ensures c.if3.false
+    let k = c in
+    let n = k in
+    raw_within _ _ _ _ _ _ _ n.window_refusal-nine.ensures n.if-nine-ne0.false k.raw_of_two-written.ensures c.if-written-ne0.false
 
-slice-aggregate-numbers-of : tie.Need-slice-aggregate-numbers-of
+slice-aggregate-numbers-of : tie.Need-slice_bounds-numbers_of-end-2
 slice-aggregate-numbers-of c =
-    let k = c.before.before.before.before.before in
-    let n = k.before.before in
+    let k = c in
+    let n = k in
     sym (length-take-le _ _
-    (raw_within _ _ _ _ _ _ _ n.before.window-refusal.ensures n.if1.false k.raw_of-two.ensures c.before.if3.false))
+    (raw_within _ _ _ _ _ _ _ n.window_refusal-nine.ensures n.if-nine-ne0.false k.raw_of_two-written.ensures c.if-written-ne0.false))
 
-numbers-of-requires : tie.Need-numbers-of-requires
+numbers-of-requires : tie.Need-numbers_of-judged-requires
 numbers-of-requires c κs = search rules
 
 done-requires : tie.Need-done-requires
 done-requires c κs = search rules
 
-same-length-2 : tie.Need-same-length-2
+same-length-2 : tie.Need-shape_of-out
 same-length-2 c = search rules
 
-returns-4 : tie.Need-returns-4
+returns-4 : tie.Need-returns
 returns-4 c =
-    let k = c.before.before.before.before.before.before.before in
-    let n = k.before.before in
-    raw_judged _ _ _ _ _ _ _ n.before.window-refusal.ensures n.if1.false k.raw_of-two.ensures c.before.before.before.if3.false c.before.numbers_of.ensures
+    let k = c in
+    let n = k in
+    raw_judged _ _ _ _ _ _ _ n.window_refusal-nine.ensures n.if-nine-ne0.false k.raw_of_two-written.ensures c.if-written-ne0.false c.numbers_of-judged.ensures
     c.done.ensures
 
-pub verdict-of-two-spec : {M : Type 1} → statement M
-verdict-of-two-spec =
+pub verdict_of_two_spec : {M : Type 1} → statement M
+verdict_of_two_spec =
     tie.close
     (tie.spec
     window-refusal-requires

@@ -5,44 +5,44 @@ use borrow.Author.Rules.{rules}
 use Rattle.local.proofs.work.pruned_of.Statement.{statement}
 use Rattle.local.proofs.work.pruned_of.Tie as tie
 
-fewest-of-requires : tie.Need-fewest-of-requires
-fewest-of-requires c κs = more_suffice c.before.before.before.before.before.requires.1 (omega (arith, c.before.if1.true))
+fewest-of-requires : tie.Need-fewest_of-requires
+fewest-of-requires c κs = more_suffice c.requires.1 (omega (arith, c.if-nodes.true))
 
-same_length : tie.Need-same-length
+same_length : tie.Need-shape_of-out-then-nodes
 same_length c = search rules
 
-returns : tie.Need-returns
+returns : tie.Need-returns-then-nodes
 returns c = search rules
 
-few-of-requires : tie.Need-few-of-requires
-few-of-requires c κs = more_suffice c.before.before.before.before.before.before.requires.1 (omega (arith, c.before.if2.true))
+few-of-requires : tie.Need-few_of-requires
+few-of-requires c κs = more_suffice c.requires.1 (omega (arith, c.if-nodes-2.true))
 
-same-length-2 : tie.Need-same-length-2
+same-length-2 : tie.Need-shape_of-out-then-nodes-2
 same-length-2 c = search rules
 
-returns-2 : tie.Need-returns-2
+returns-2 : tie.Need-returns-then-nodes-2
 returns-2 c = search rules
 
-some-of-requires : tie.Need-some-of-requires
-some-of-requires c κs = more_suffice c.before.before.before.before.before.before.before.requires.1 (omega (arith, c.before.if3.true))
+some-of-requires : tie.Need-some_of-requires
+some-of-requires c κs = more_suffice c.requires.1 (omega (arith, c.if-nodes-3.true))
 
-same-length-3 : tie.Need-same-length-3
+same-length-3 : tie.Need-shape_of-out-then-nodes-3
 same-length-3 c = search rules
 
-returns-3 : tie.Need-returns-3
+returns-3 : tie.Need-returns-then-nodes-3
 returns-3 c = search rules
 
-many-of-requires : tie.Need-many-of-requires
-many-of-requires c κs = let k = c.before.before.before.before.before.before.before.requires in more_suffice k.1 k.0
+many-of-requires : tie.Need-many_of-requires
+many-of-requires c κs = let k = c.requires in more_suffice k.1 k.0
 
-same-length-4 : tie.Need-same-length-4
+same-length-4 : tie.Need-shape_of-out
 same-length-4 c = search rules
 
-returns-4 : tie.Need-returns-4
+returns-4 : tie.Need-returns
 returns-4 c = search rules
 
-pub pruned-of-spec : {M : Type 1} → statement M
-pruned-of-spec =
+pub pruned_of_spec : {M : Type 1} → statement M
+pruned_of_spec =
     tie.close
     (tie.spec
     fewest-of-requires
