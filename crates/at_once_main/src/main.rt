@@ -1,11 +1,14 @@
 // Answers at once run through the entry points: a line for each question, the number and the verdict, the number and
 // the ends, and beside them the verdict in lent room on the same scene; and merged expressions, the number, the length
 // and the room, and beside them those of the first conversion; and both conversions in rooms at each edge.
+#![tactic(auto)]
+
 mod rooms;
 
 use at_once::Span;
 use bintree::{Verdict, Written};
-use libc::STDOUT_FILENO;
+use std::io;
+use std::io::Write;
 use universe::Universe;
 
 const LENT: usize = 2_048;
@@ -23,44 +26,44 @@ fn universe(axes: u64, bits: u64, frame_bits: u64) -> Universe {
     }
 }
 
-fn say(text: &[u8]) {
-    io::write_all(STDOUT_FILENO, text);
+fn say(to: &mut impl Write, text: &[u8]) -> io::Result<()> {
+    to.write_all(text)
 }
 
 // A number behind a space.
-fn next_number(n: u64) {
-    say(b" ");
-    io::print_decimal(STDOUT_FILENO, n);
+fn next_number(to: &mut impl Write, n: u64) -> io::Result<()> {
+    write!(to, " {n}")
 }
 
 // A verdict behind its number.
-fn tell(refusal: u64, verdict: Verdict) {
-    next_number(refusal);
+fn tell(to: &mut impl Write, refusal: u64, verdict: Verdict) -> io::Result<()> {
+    next_number(to, refusal)?;
     match verdict {
-        Verdict::Clear => say(b" clear"),
+        Verdict::Clear => say(to, b" clear"),
         Verdict::Hit(contact) => {
-            next_number(contact.first);
-            next_number(contact.last);
-            next_number(contact.voxels);
+            next_number(to, contact.first)?;
+            next_number(to, contact.last)?;
+            next_number(to, contact.voxels)
         }
     }
 }
 
 // The ends behind their number.
-fn tell_ends(refusal: u64, span: Span) {
-    say(b", ends");
-    next_number(refusal);
+fn tell_ends(to: &mut impl Write, refusal: u64, span: Span) -> io::Result<()> {
+    say(to, b", ends")?;
+    next_number(to, refusal)?;
     match span {
-        Span::Clear => say(b" clear"),
+        Span::Clear => say(to, b" clear"),
         Span::Hit(first, last) => {
-            next_number(first);
-            next_number(last);
+            next_number(to, first)?;
+            next_number(to, last)
         }
     }
 }
 
 // The verdict in lent room on the same scene.
 fn lent_verdict(
+    to: &mut impl Write,
     universe: Universe,
     rows: &[i64],
     balls: &[i64],
@@ -68,7 +71,7 @@ fn lent_verdict(
     second: &[u16],
     first_frame: u64,
     last_frame: u64,
-) {
+) -> io::Result<()> {
     let mut lent = [b'.'; LENT];
     let answer = convert::verdict_of_two(
         universe,
@@ -82,13 +85,13 @@ fn lent_verdict(
     );
     let refusal = answer.refusal;
     let verdict = answer.verdict;
-    say(b", in room");
-    tell(refusal, verdict);
+    say(to, b", in room")?;
+    tell(to, refusal, verdict)
 }
 
-// Both questions of two trees over a window.
-fn over(
-    label: &[u8],
+// The verdict and the ends at once.
+fn both_at_once(
+    to: &mut impl Write,
     universe: Universe,
     rows: &[i64],
     balls: &[i64],
@@ -96,7 +99,7 @@ fn over(
     second: &[u16],
     first_frame: u64,
     last_frame: u64,
-) {
+) -> io::Result<()> {
     let judged = at_once::verdict_at_once(
         universe,
         rows,
@@ -106,11 +109,7 @@ fn over(
         first_frame,
         last_frame,
     );
-    let refusal = judged.refusal;
-    let verdict = judged.verdict;
-    say(label);
-    say(b":");
-    tell(refusal, verdict);
+    tell(to, judged.refusal, judged.verdict)?;
     let spanned = at_once::ends_at_once(
         universe,
         rows,
@@ -120,10 +119,25 @@ fn over(
         first_frame,
         last_frame,
     );
-    let number = spanned.refusal;
-    let span = spanned.span;
-    tell_ends(number, span);
-    lent_verdict(
+    tell_ends(to, spanned.refusal, spanned.span)
+}
+
+// Both questions of two trees over a window.
+fn over(
+    to: &mut impl Write,
+    label: &[u8],
+    universe: Universe,
+    rows: &[i64],
+    balls: &[i64],
+    first: &[u16],
+    second: &[u16],
+    first_frame: u64,
+    last_frame: u64,
+) -> io::Result<()> {
+    say(to, label)?;
+    say(to, b":")?;
+    both_at_once(
+        to,
         universe,
         rows,
         balls,
@@ -131,13 +145,30 @@ fn over(
         second,
         first_frame,
         last_frame,
-    );
-    say(b"\n");
+    )?;
+    lent_verdict(
+        to,
+        universe,
+        rows,
+        balls,
+        first,
+        second,
+        first_frame,
+        last_frame,
+    )?;
+    say(to, b"\n")
 }
 
 // A mover between t and t + 1 and a wall from 2 to 3, in a window.
-fn moved(label: &[u8], universe: Universe, first_frame: u64, last_frame: u64) {
+fn moved(
+    to: &mut impl Write,
+    label: &[u8],
+    universe: Universe,
+    first_frame: u64,
+    last_frame: u64,
+) -> io::Result<()> {
     over(
+        to,
         label,
         universe,
         &MOVER_AND_WALL,
@@ -146,44 +177,55 @@ fn moved(label: &[u8], universe: Universe, first_frame: u64, last_frame: u64) {
         &[258, 259, 3],
         first_frame,
         last_frame,
-    );
+    )
 }
 
 // Universes of four to eight levels, so that a word is the whole, a part of it, or wider than it.
-fn levels() {
-    moved(b"four levels", universe(2, 2, 2), 0, 3);
-    moved(b"five levels", universe(2, 2, 3), 0, 7);
-    moved(b"six levels", universe(2, 3, 3), 0, 7);
-    moved(b"seven levels", universe(2, 3, 4), 0, 15);
-    moved(b"eight levels", universe(2, 4, 4), 0, 15);
-    moved(b"long frames", universe(2, 2, 6), 0, 63);
-    moved(b"wide places", universe(2, 7, 2), 0, 3);
+fn levels(to: &mut impl Write) -> io::Result<()> {
+    moved(to, b"four levels", universe(2, 2, 2), 0, 3)?;
+    moved(to, b"five levels", universe(2, 2, 3), 0, 7)?;
+    moved(to, b"six levels", universe(2, 3, 3), 0, 7)?;
+    moved(to, b"seven levels", universe(2, 3, 4), 0, 15)?;
+    moved(to, b"eight levels", universe(2, 4, 4), 0, 15)?;
+    moved(to, b"long frames", universe(2, 2, 6), 0, 63)?;
+    moved(to, b"wide places", universe(2, 7, 2), 0, 3)
 }
 
 // Windows that cut a word, at both ends, within, and past the end.
-fn windows() {
-    moved(b"up to frame 1", universe(2, 3, 4), 0, 1);
-    moved(b"frame 1", universe(2, 3, 4), 1, 1);
-    moved(b"from frame 2", universe(2, 3, 4), 2, 15);
-    moved(b"from frame 3", universe(2, 3, 4), 3, 15);
-    moved(b"the last frame", universe(2, 3, 4), 15, 15);
-    moved(b"past the last", universe(2, 3, 4), 0, 16);
-    moved(b"first after last", universe(2, 3, 4), 2, 1);
+fn windows(to: &mut impl Write) -> io::Result<()> {
+    moved(to, b"up to frame 1", universe(2, 3, 4), 0, 1)?;
+    moved(to, b"frame 1", universe(2, 3, 4), 1, 1)?;
+    moved(to, b"from frame 2", universe(2, 3, 4), 2, 15)?;
+    moved(to, b"from frame 3", universe(2, 3, 4), 3, 15)?;
+    moved(to, b"the last frame", universe(2, 3, 4), 15, 15)?;
+    moved(to, b"past the last", universe(2, 3, 4), 0, 16)?;
+    moved(to, b"first after last", universe(2, 3, 4), 2, 1)
 }
 
 // A tree of one plane and BLACK over all frames of four axes, 2 bits each.
-fn plane_alone(label: &[u8], plane: [i64; 5], words: &[u16]) {
-    over(label, universe(4, 2, 2), &plane, &[], words, &[1], 0, 3);
+fn plane_alone(
+    to: &mut impl Write,
+    label: &[u8],
+    plane: [i64; 5],
+    words: &[u16],
+) -> io::Result<()> {
+    over(to, label, universe(4, 2, 2), &plane, &[], words, &[1], 0, 3)
 }
 
 // The same of one ball.
-fn ball_alone(label: &[u8], ball: [i64; 4], words: &[u16]) {
-    over(label, universe(4, 2, 2), &[], &ball, words, &[1], 0, 3);
+fn ball_alone(to: &mut impl Write, label: &[u8], ball: [i64; 4], words: &[u16]) -> io::Result<()> {
+    over(to, label, universe(4, 2, 2), &[], &ball, words, &[1], 0, 3)
 }
 
 // The same of a ball and a plane.
-fn ball_and_plane(label: &[u8], plane: [i64; 5], words: [u16; 3]) {
+fn ball_and_plane(
+    to: &mut impl Write,
+    label: &[u8],
+    plane: [i64; 5],
+    words: [u16; 3],
+) -> io::Result<()> {
     over(
+        to,
         label,
         universe(4, 2, 2),
         &plane,
@@ -192,41 +234,48 @@ fn ball_and_plane(label: &[u8], plane: [i64; 5], words: [u16; 3]) {
         &[1],
         0,
         3,
-    );
+    )
 }
 
 // A plane as it is, reversed, and less itself; and other planes.
-fn planes() {
+fn planes(to: &mut impl Write) -> io::Result<()> {
     let row: &[u16] = &[256];
-    plane_alone(b"through centres", [-9, 2, 2, 2, 0], row);
-    plane_alone(b"reversed", [-9, 2, 2, 2, 0], &[1, 256, 4]);
-    plane_alone(b"less itself", [-9, 2, 2, 2, 0], &[256, 256, 4]);
-    plane_alone(b"in motion", [-3, 1, 0, 0, 2], row);
-    plane_alone(b"five zeros", [0, 0, 0, 0, 0], row);
+    plane_alone(to, b"through centres", [-9, 2, 2, 2, 0], row)?;
+    plane_alone(to, b"reversed", [-9, 2, 2, 2, 0], &[1, 256, 4])?;
+    plane_alone(to, b"less itself", [-9, 2, 2, 2, 0], &[256, 256, 4])?;
+    plane_alone(to, b"in motion", [-3, 1, 0, 0, 2], row)?;
+    plane_alone(to, b"five zeros", [0, 0, 0, 0, 0], row)
 }
 
 // A ball as it is, reversed, and less itself.
-fn balls() {
-    ball_alone(b"a ball", [2, 2, 2, 2], &[512]);
-    ball_alone(b"reversed", [2, 2, 2, 2], &[1, 512, 4]);
-    ball_alone(b"less itself", [2, 2, 2, 2], &[512, 512, 4]);
+fn balls(to: &mut impl Write) -> io::Result<()> {
+    ball_alone(to, b"a ball", [2, 2, 2, 2], &[512])?;
+    ball_alone(to, b"reversed", [2, 2, 2, 2], &[1, 512, 4])?;
+    ball_alone(to, b"less itself", [2, 2, 2, 2], &[512, 512, 4])
 }
 
 // Balls with a plane.
-fn balls_and_planes() {
-    ball_and_plane(b"a ball while it stays", [2, 0, 0, 0, -1], [512, 256, 3]);
-    ball_and_plane(b"a ball or after", [-3, 0, 0, 0, 1], [512, 256, 2]);
+fn balls_and_planes(to: &mut impl Write) -> io::Result<()> {
+    ball_and_plane(
+        to,
+        b"a ball while it stays",
+        [2, 0, 0, 0, -1],
+        [512, 256, 3],
+    )?;
+    ball_and_plane(to, b"a ball or after", [-3, 0, 0, 0, 1], [512, 256, 2])
 }
 
 // A plane and BLACK in a window.
 fn plane_over(
+    to: &mut impl Write,
     label: &[u8],
     universe: Universe,
     plane: [i64; 5],
     first_frame: u64,
     last_frame: u64,
-) {
+) -> io::Result<()> {
     over(
+        to,
         label,
         universe,
         &plane,
@@ -235,12 +284,20 @@ fn plane_over(
         &[1],
         first_frame,
         last_frame,
-    );
+    )
 }
 
 // BLACK and a constant in a window.
-fn black_over(label: &[u8], universe: Universe, constant: u16, first_frame: u64, last_frame: u64) {
+fn black_over(
+    to: &mut impl Write,
+    label: &[u8],
+    universe: Universe,
+    constant: u16,
+    first_frame: u64,
+    last_frame: u64,
+) -> io::Result<()> {
     over(
+        to,
         label,
         universe,
         &[],
@@ -249,32 +306,41 @@ fn black_over(label: &[u8], universe: Universe, constant: u16, first_frame: u64,
         &[constant],
         first_frame,
         last_frame,
-    );
+    )
 }
 
 // Each number of axes, no bits, and more than is lent.
-fn axes() {
-    plane_over(b"frames alone", universe(1, 0, 7), [-3, 2, 0, 0, 0], 0, 127);
-    plane_over(b"three axes", universe(3, 3, 2), [-7, 1, 1, 1, 0], 1, 2);
-    black_over(b"one voxel", universe(4, 0, 0), 1, 0, 0);
-    black_over(b"none", universe(4, 0, 0), 0, 0, 0);
+fn axes(to: &mut impl Write) -> io::Result<()> {
     plane_over(
+        to,
+        b"frames alone",
+        universe(1, 0, 7),
+        [-3, 2, 0, 0, 0],
+        0,
+        127,
+    )?;
+    plane_over(to, b"three axes", universe(3, 3, 2), [-7, 1, 1, 1, 0], 1, 2)?;
+    black_over(to, b"one voxel", universe(4, 0, 0), 1, 0, 0)?;
+    black_over(to, b"none", universe(4, 0, 0), 0, 0, 0)?;
+    plane_over(
+        to,
         b"more than is lent",
         universe(4, 3, 3),
         [-29, 2, 2, 2, 1],
         0,
         7,
-    );
-    black_over(b"all of the largest", universe(4, 10, 12), 1, 0, 4_095);
-    black_over(b"its last frame", universe(4, 10, 12), 1, 4_095, 4_095);
+    )?;
+    black_over(to, b"all of the largest", universe(4, 10, 12), 1, 0, 4_095)?;
+    black_over(to, b"its last frame", universe(4, 10, 12), 1, 4_095, 4_095)
 }
 
 // Each number up to the balls', with a fault behind it.
-fn refused_surfaces() {
+fn refused_surfaces(to: &mut impl Write) -> io::Result<()> {
     let none: &[i64] = &[];
     let torn: &[i64] = &[0];
     let black: &[u16] = &[1];
     over(
+        to,
         b"the universe",
         universe(5, 2, 2),
         torn,
@@ -283,8 +349,9 @@ fn refused_surfaces() {
         black,
         0,
         3,
-    );
+    )?;
     over(
+        to,
         b"the rows",
         universe(2, 2, 2),
         torn,
@@ -293,8 +360,9 @@ fn refused_surfaces() {
         black,
         0,
         3,
-    );
+    )?;
     over(
+        to,
         b"the balls",
         universe(2, 2, 2),
         none,
@@ -303,67 +371,59 @@ fn refused_surfaces() {
         black,
         0,
         3,
-    );
+    )
 }
 
 // Each number of the trees and of the window.
-fn refused_trees() {
+fn refused_trees(to: &mut impl Write) -> io::Result<()> {
+    let square = universe(2, 2, 2);
     let none: &[i64] = &[];
     let black: &[u16] = &[1];
     let overfull: &[u16] = &[1; 256];
+    over(to, b"tree 1", square, none, none, &[256], overfull, 0, 3)?;
+    over(to, b"tree 2", square, none, none, black, &[], 0, 4)?;
     over(
-        b"tree 1",
-        universe(2, 2, 2),
-        none,
-        none,
-        &[256],
-        overfull,
-        0,
-        3,
-    );
-    over(b"tree 2", universe(2, 2, 2), none, none, black, &[], 0, 4);
-    over(
+        to,
         b"tree 2 overfull",
-        universe(2, 2, 2),
+        square,
         none,
         none,
         black,
         overfull,
         0,
         4,
-    );
-    over(
-        b"the window",
-        universe(2, 2, 2),
-        none,
-        none,
-        black,
-        black,
-        0,
-        4,
-    );
+    )?;
+    over(to, b"the window", square, none, none, black, black, 0, 4)
 }
 
 // What a merged conversion answered and left.
-fn tell_room(written: Written, room: &[u8]) {
-    next_number(written.refusal);
-    next_number(written.length);
-    say(b" ");
-    say(room);
+fn tell_room(to: &mut impl Write, written: Written, room: &[u8]) -> io::Result<()> {
+    next_number(to, written.refusal)?;
+    next_number(to, written.length)?;
+    say(to, b" ")?;
+    say(to, room)
 }
 
 // A line: what the conversion over codes answered and left, and what the first one did.
-fn tell_rooms(label: &[u8], found: Written, room: &[u8], plain: Written, other: &[u8]) {
-    say(label);
-    say(b":");
-    tell_room(found, room);
-    say(b" /");
-    tell_room(plain, other);
-    say(b"\n");
+fn tell_rooms(
+    to: &mut impl Write,
+    label: &[u8],
+    found: Written,
+    room: &[u8],
+    plain: Written,
+    other: &[u8],
+) -> io::Result<()> {
+    say(to, label)?;
+    say(to, b":")?;
+    tell_room(to, found, room)?;
+    say(to, b" /")?;
+    tell_room(to, plain, other)?;
+    say(to, b"\n")
 }
 
 // The merged expression of two trees in a room, and by the first conversion in another.
 fn merged_two(
+    to: &mut impl Write,
     label: &[u8],
     universe: Universe,
     rows: &[i64],
@@ -372,14 +432,15 @@ fn merged_two(
     second: &[u16],
     room: &mut [u8],
     other: &mut [u8],
-) {
+) -> io::Result<()> {
     let found = at_once::merged_of_two(universe, rows, balls, first, second, room);
     let plain = convert::merged_of_two(universe, rows, balls, first, second, other);
-    tell_rooms(label, found, room, plain, other);
+    tell_rooms(to, label, found, room, plain, other)
 }
 
 // The same of one tree.
 fn merged_one(
+    to: &mut impl Write,
     label: &[u8],
     universe: Universe,
     rows: &[i64],
@@ -387,14 +448,15 @@ fn merged_one(
     words: &[u16],
     room: &mut [u8],
     other: &mut [u8],
-) {
+) -> io::Result<()> {
     let found = at_once::merged_of_one(universe, rows, balls, words, room);
     let plain = convert::merged_of_one(universe, rows, balls, words, other);
-    tell_rooms(label, found, room, plain, other);
+    tell_rooms(to, label, found, room, plain, other)
 }
 
 // The merged expressions of two trees in rooms of this length.
 fn merged_two_in(
+    to: &mut impl Write,
     label: &[u8],
     universe: Universe,
     rows: &[i64],
@@ -402,11 +464,12 @@ fn merged_two_in(
     first: &[u16],
     second: &[u16],
     lent: usize,
-) {
+) -> io::Result<()> {
     let mut room = [b'.'; LENT];
     let mut other = [b'.'; LENT];
     if lent <= LENT {
         merged_two(
+            to,
             label,
             universe,
             rows,
@@ -415,23 +478,26 @@ fn merged_two_in(
             second,
             &mut room[..lent],
             &mut other[..lent],
-        );
+        )?;
     }
+    Ok(())
 }
 
 // The same of one tree.
 fn merged_one_in(
+    to: &mut impl Write,
     label: &[u8],
     universe: Universe,
     rows: &[i64],
     balls: &[i64],
     words: &[u16],
     lent: usize,
-) {
+) -> io::Result<()> {
     let mut room = [b'.'; LENT];
     let mut other = [b'.'; LENT];
     if lent <= LENT {
         merged_one(
+            to,
             label,
             universe,
             rows,
@@ -439,13 +505,20 @@ fn merged_one_in(
             words,
             &mut room[..lent],
             &mut other[..lent],
-        );
+        )?;
     }
+    Ok(())
 }
 
 // Both of the mover and the wall.
-fn merged_moved(label: &[u8], universe: Universe, lent: usize) {
+fn merged_moved(
+    to: &mut impl Write,
+    label: &[u8],
+    universe: Universe,
+    lent: usize,
+) -> io::Result<()> {
     merged_two_in(
+        to,
         label,
         universe,
         &MOVER_AND_WALL,
@@ -453,80 +526,117 @@ fn merged_moved(label: &[u8], universe: Universe, lent: usize) {
         &[256, 257, 3],
         &[258, 259, 3],
         lent,
-    );
+    )
 }
 
 // A tree of one plane.
-fn merged_plane(label: &[u8], universe: Universe, plane: [i64; 5], words: &[u16], lent: usize) {
-    merged_one_in(label, universe, &plane, &[], words, lent);
+fn merged_plane(
+    to: &mut impl Write,
+    label: &[u8],
+    universe: Universe,
+    plane: [i64; 5],
+    words: &[u16],
+    lent: usize,
+) -> io::Result<()> {
+    merged_one_in(to, label, universe, &plane, &[], words, lent)
 }
 
 // BLACK.
-fn merged_black(label: &[u8], universe: Universe, lent: usize) {
-    merged_one_in(label, universe, &[], &[], &[1], lent);
+fn merged_black(
+    to: &mut impl Write,
+    label: &[u8],
+    universe: Universe,
+    lent: usize,
+) -> io::Result<()> {
+    merged_one_in(to, label, universe, &[], &[], &[1], lent)
 }
 
 // Universes of no level to five, which one word holds.
-fn merged_small() {
-    merged_black(b"no level", universe(4, 0, 0), 1);
-    merged_moved(b"four levels", universe(2, 2, 2), 13);
-    merged_moved(b"five levels", universe(2, 2, 3), 14);
+fn merged_small(to: &mut impl Write) -> io::Result<()> {
+    merged_black(to, b"no level", universe(4, 0, 0), 1)?;
+    merged_moved(to, b"four levels", universe(2, 2, 2), 13)?;
+    merged_moved(to, b"five levels", universe(2, 2, 3), 14)
 }
 
 // Universes of six levels and more.
-fn merged_levels() {
-    merged_moved(b"six levels", universe(2, 3, 3), 17);
-    merged_moved(b"eight levels", universe(2, 4, 4), 22);
-    merged_moved(b"long frames", universe(2, 2, 6), 19);
-    merged_moved(b"wide places", universe(2, 7, 2), 33);
+fn merged_levels(to: &mut impl Write) -> io::Result<()> {
+    merged_moved(to, b"six levels", universe(2, 3, 3), 17)?;
+    merged_moved(to, b"eight levels", universe(2, 4, 4), 22)?;
+    merged_moved(to, b"long frames", universe(2, 2, 6), 19)?;
+    merged_moved(to, b"wide places", universe(2, 7, 2), 33)
 }
 
 // Each number of axes.
-fn merged_axes() {
+fn merged_axes(to: &mut impl Write) -> io::Result<()> {
     let row: &[u16] = &[256];
     merged_plane(
+        to,
         b"frames alone",
         universe(1, 0, 7),
         [-3, 2, 0, 0, 0],
         row,
         15,
-    );
-    merged_plane(b"three axes", universe(3, 3, 2), [-7, 1, 1, 1, 0], row, 82);
-    merged_plane(b"four axes", universe(4, 2, 2), [-9, 2, 2, 2, 0], row, 69);
+    )?;
+    merged_plane(
+        to,
+        b"three axes",
+        universe(3, 3, 2),
+        [-7, 1, 1, 1, 0],
+        row,
+        82,
+    )?;
+    merged_plane(
+        to,
+        b"four axes",
+        universe(4, 2, 2),
+        [-9, 2, 2, 2, 0],
+        row,
+        69,
+    )
 }
 
 // A plane reversed, less itself, and with the rest.
-fn merged_planes() {
+fn merged_planes(to: &mut impl Write) -> io::Result<()> {
     let plane: [i64; 5] = [-9, 2, 2, 2, 0];
-    merged_plane(b"reversed", universe(4, 2, 2), plane, &[1, 256, 4], 69);
-    merged_plane(b"less itself", universe(4, 2, 2), plane, &[256, 256, 4], 2);
+    merged_plane(to, b"reversed", universe(4, 2, 2), plane, &[1, 256, 4], 69)?;
     merged_plane(
+        to,
+        b"less itself",
+        universe(4, 2, 2),
+        plane,
+        &[256, 256, 4],
+        2,
+    )?;
+    merged_plane(
+        to,
         b"with the rest",
         universe(4, 2, 2),
         plane,
         &[256, 1, 256, 4, 2],
         2,
-    );
+    )
 }
 
 // Balls.
-fn merged_balls() {
+fn merged_balls(to: &mut impl Write) -> io::Result<()> {
     let none: &[i64] = &[];
     let ball: &[i64] = &[2, 2, 2, 2];
-    merged_one_in(b"a ball", universe(4, 2, 2), none, ball, &[512], 191);
+    merged_one_in(to, b"a ball", universe(4, 2, 2), none, ball, &[512], 191)?;
     merged_one_in(
+        to,
         b"a ball less itself",
         universe(4, 2, 2),
         none,
         ball,
         &[512, 512, 4],
         2,
-    );
+    )
 }
 
 // A ball beside a wall.
-fn merged_beside() {
+fn merged_beside(to: &mut impl Write) -> io::Result<()> {
     merged_two_in(
+        to,
         b"a ball beside a wall",
         universe(3, 3, 2),
         &[-3, 1, 0, 0, 0],
@@ -534,42 +644,45 @@ fn merged_beside() {
         &[512],
         &[256],
         200,
-    );
+    )
 }
 
 // Rooms that are exact, a symbol short, and none.
-fn merged_rooms() {
-    merged_moved(b"exact", universe(2, 3, 4), 17);
-    merged_moved(b"a symbol short", universe(2, 3, 4), 16);
-    merged_moved(b"no room", universe(2, 3, 4), 0);
-    merged_black(b"no room for one", universe(2, 3, 4), 0);
+fn merged_rooms(to: &mut impl Write) -> io::Result<()> {
+    merged_moved(to, b"exact", universe(2, 3, 4), 17)?;
+    merged_moved(to, b"a symbol short", universe(2, 3, 4), 16)?;
+    merged_moved(to, b"no room", universe(2, 3, 4), 0)?;
+    merged_black(to, b"no room for one", universe(2, 3, 4), 0)
 }
 
 // Rooms for every expression of the universe, and words whose own room is short.
-fn merged_at_once() {
+fn merged_at_once(to: &mut impl Write) -> io::Result<()> {
     let plane: [i64; 5] = [-3, 2, 0, 0, 0];
     let row: &[u16] = &[256];
     merged_plane(
+        to,
         b"room for all of four levels",
         universe(2, 2, 2),
         plane,
         row,
         31,
-    );
+    )?;
     merged_plane(
+        to,
         b"room for all of seven levels",
         universe(2, 3, 4),
         plane,
         row,
         255,
-    );
-    merged_plane(b"exact", universe(2, 2, 2), plane, row, 9);
-    merged_plane(b"a symbol short", universe(2, 2, 2), plane, row, 8);
+    )?;
+    merged_plane(to, b"exact", universe(2, 2, 2), plane, row, 9)?;
+    merged_plane(to, b"a symbol short", universe(2, 2, 2), plane, row, 8)
 }
 
 // Words and one more row in the largest universe.
-fn merged_largest(label: &[u8], words: &[u16]) {
+fn merged_largest(to: &mut impl Write, label: &[u8], words: &[u16]) -> io::Result<()> {
     merged_two_in(
+        to,
         label,
         universe(4, 10, 12),
         &[-512, 1, 0, 0, 0],
@@ -577,34 +690,35 @@ fn merged_largest(label: &[u8], words: &[u16]) {
         words,
         &[256],
         5,
-    );
+    )
 }
 
 // The most words whose codes few places hold, and two more, in the largest universe.
-fn merged_codes() {
+fn merged_codes(to: &mut impl Write) -> io::Result<()> {
     let more: [u16; 23] = [
         256, 256, 2, 256, 2, 256, 2, 256, 2, 256, 2, 256, 2, 256, 2, 256, 2, 256, 2, 256, 2, 256, 2,
     ];
-    merged_largest(b"few codes", &more[..21]);
-    merged_largest(b"more codes", &more);
+    merged_largest(to, b"few codes", &more[..21])?;
+    merged_largest(to, b"more codes", &more)
 }
 
 // Each number with a fault behind it.
-fn merged_refusals() {
+fn merged_refusals(to: &mut impl Write) -> io::Result<()> {
     let none: &[i64] = &[];
     let torn: &[i64] = &[0];
     let black: &[u16] = &[1];
-    merged_one_in(b"the universe", universe(5, 2, 2), torn, none, black, 2);
-    merged_one_in(b"the rows", universe(2, 2, 2), torn, torn, black, 2);
-    merged_one_in(b"the balls", universe(2, 2, 2), none, torn, &[], 2);
+    merged_one_in(to, b"the universe", universe(5, 2, 2), torn, none, black, 2)?;
+    merged_one_in(to, b"the rows", universe(2, 2, 2), torn, torn, black, 2)?;
+    merged_one_in(to, b"the balls", universe(2, 2, 2), none, torn, &[], 2)
 }
 
 // The trees refused in their order, before room is asked for.
-fn merged_trees() {
+fn merged_trees(to: &mut impl Write) -> io::Result<()> {
     let none: &[i64] = &[];
     let black: &[u16] = &[1];
     let overfull: &[u16] = &[1; 256];
     merged_two_in(
+        to,
         b"tree 1",
         universe(2, 2, 2),
         none,
@@ -612,9 +726,10 @@ fn merged_trees() {
         &[256],
         overfull,
         2,
-    );
-    merged_two_in(b"tree 2", universe(2, 2, 2), none, none, black, &[], 0);
+    )?;
+    merged_two_in(to, b"tree 2", universe(2, 2, 2), none, none, black, &[], 0)?;
     merged_two_in(
+        to,
         b"tree 2 overfull",
         universe(2, 2, 2),
         none,
@@ -622,33 +737,34 @@ fn merged_trees() {
         black,
         overfull,
         0,
-    );
+    )
 }
 
 // Merged expressions.
-fn merged() {
-    merged_small();
-    merged_levels();
-    merged_axes();
-    merged_planes();
-    merged_balls();
-    merged_beside();
-    merged_rooms();
-    merged_at_once();
-    merged_codes();
-    merged_refusals();
-    merged_trees();
+fn merged(to: &mut impl Write) -> io::Result<()> {
+    merged_small(to)?;
+    merged_levels(to)?;
+    merged_axes(to)?;
+    merged_planes(to)?;
+    merged_balls(to)?;
+    merged_beside(to)?;
+    merged_rooms(to)?;
+    merged_at_once(to)?;
+    merged_codes(to)?;
+    merged_refusals(to)?;
+    merged_trees(to)
 }
 
-fn main() {
-    levels();
-    windows();
-    planes();
-    balls();
-    balls_and_planes();
-    axes();
-    refused_surfaces();
-    refused_trees();
-    merged();
-    rooms::rooms();
+fn main(rt: HostRuntime) -> io::Result<()> {
+    let to = &mut rt.stdout();
+    levels(to)?;
+    windows(to)?;
+    planes(to)?;
+    balls(to)?;
+    balls_and_planes(to)?;
+    axes(to)?;
+    refused_surfaces(to)?;
+    refused_trees(to)?;
+    merged(to)?;
+    rooms::rooms(to)
 }

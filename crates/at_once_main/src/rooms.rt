@@ -3,6 +3,8 @@
 // conversion, so.
 use crate::{MOVER_AND_WALL, next_number, say, universe};
 use bintree::Written;
+use std::io;
+use std::io::Write;
 use universe::Universe;
 
 // The most symbols that are lent, more than scratch room ever holds.
@@ -19,21 +21,28 @@ fn is_same(one: &[u8; MOST_LENT], two: &[u8; MOST_LENT]) -> bool {
 }
 
 // One room: its length, what was answered, and whether that and the room are those of the first conversion.
-fn tell_lent(lent: usize, found: Written, plain: Written, is_same: bool) {
-    say(b";");
-    next_number(lent as u64);
-    say(b":");
-    next_number(found.refusal);
-    next_number(found.length);
+fn tell_lent(
+    to: &mut impl Write,
+    lent: usize,
+    found: Written,
+    plain: Written,
+    is_same: bool,
+) -> io::Result<()> {
+    say(to, b";")?;
+    next_number(to, lent as u64)?;
+    say(to, b":")?;
+    next_number(to, found.refusal)?;
+    next_number(to, found.length)?;
     if found.refusal != plain.refusal {
-        say(b" OTHER NUMBER");
+        say(to, b" OTHER NUMBER")?;
     }
     if found.length != plain.length {
-        say(b" OTHER LENGTH");
+        say(to, b" OTHER LENGTH")?;
     }
     if !is_same {
-        say(b" OTHER ROOM");
+        say(to, b" OTHER ROOM")?;
     }
+    Ok(())
 }
 
 // The expression of two trees over codes, merged or raw.
@@ -70,6 +79,7 @@ fn by_slots(
 
 // Two trees, with so much room.
 fn two_in(
+    to: &mut impl Write,
     merging: bool,
     universe: Universe,
     rows: &[i64],
@@ -77,7 +87,7 @@ fn two_in(
     first: &[u16],
     second: &[u16],
     lent: usize,
-) {
+) -> io::Result<()> {
     let mut out = [b'.'; MOST_LENT];
     let mut other = [b'.'; MOST_LENT];
     if lent <= MOST_LENT {
@@ -99,20 +109,22 @@ fn two_in(
             second,
             &mut other[..lent],
         );
-        tell_lent(lent, found, plain, is_same(&out, &other));
+        tell_lent(to, lent, found, plain, is_same(&out, &other))?;
     }
+    Ok(())
 }
 
 // Two trees, merged or raw, with no room, room exact, a symbol short, at both sides of what each scratch room holds,
 // and with much.
 fn two_rooms(
+    to: &mut impl Write,
     merging: bool,
     universe: Universe,
     rows: &[i64],
     balls: &[i64],
     first: &[u16],
     second: &[u16],
-) {
+) -> io::Result<()> {
     let asked = by_slots(
         merging,
         universe,
@@ -123,197 +135,246 @@ fn two_rooms(
         &mut [b'.'; 0],
     );
     let need = asked.length as usize;
-    two_in(merging, universe, rows, balls, first, second, 0);
-    two_in(merging, universe, rows, balls, first, second, need);
+    two_in(to, merging, universe, rows, balls, first, second, 0)?;
+    two_in(to, merging, universe, rows, balls, first, second, need)?;
     if 0 < need {
-        two_in(merging, universe, rows, balls, first, second, need - 1);
+        two_in(to, merging, universe, rows, balls, first, second, need - 1)?;
     }
-    two_in(merging, universe, rows, balls, first, second, 512);
-    two_in(merging, universe, rows, balls, first, second, 513);
-    two_in(merging, universe, rows, balls, first, second, 4_000);
-    two_in(merging, universe, rows, balls, first, second, 4_001);
-    two_in(merging, universe, rows, balls, first, second, MOST_LENT);
+    two_in(to, merging, universe, rows, balls, first, second, 512)?;
+    two_in(to, merging, universe, rows, balls, first, second, 513)?;
+    two_in(to, merging, universe, rows, balls, first, second, 4_000)?;
+    two_in(to, merging, universe, rows, balls, first, second, 4_001)?;
+    two_in(to, merging, universe, rows, balls, first, second, MOST_LENT)
 }
 
 // A scene of two trees, raw and merged.
 fn two(
+    to: &mut impl Write,
     label: &[u8],
     universe: Universe,
     rows: &[i64],
     balls: &[i64],
     first: &[u16],
     second: &[u16],
-) {
-    say(label);
-    say(b", raw");
-    two_rooms(false, universe, rows, balls, first, second);
-    say(b"\n");
-    say(label);
-    say(b", merged");
-    two_rooms(true, universe, rows, balls, first, second);
-    say(b"\n");
+) -> io::Result<()> {
+    say(to, label)?;
+    say(to, b", raw")?;
+    two_rooms(to, false, universe, rows, balls, first, second)?;
+    say(to, b"\n")?;
+    say(to, label)?;
+    say(to, b", merged")?;
+    two_rooms(to, true, universe, rows, balls, first, second)?;
+    say(to, b"\n")
 }
 
 // One tree, raw, with so much room.
-fn one_in(universe: Universe, rows: &[i64], balls: &[i64], words: &[u16], lent: usize) {
+fn one_in(
+    to: &mut impl Write,
+    universe: Universe,
+    rows: &[i64],
+    balls: &[i64],
+    words: &[u16],
+    lent: usize,
+) -> io::Result<()> {
     let mut out = [b'.'; MOST_LENT];
     let mut other = [b'.'; MOST_LENT];
     if lent <= MOST_LENT {
         let found = at_once::raw_of_one(universe, rows, balls, words, &mut out[..lent]);
         let plain = convert::raw_of_one(universe, rows, balls, words, &mut other[..lent]);
-        tell_lent(lent, found, plain, is_same(&out, &other));
+        tell_lent(to, lent, found, plain, is_same(&out, &other))?;
     }
+    Ok(())
 }
 
 // A scene of one tree, raw, with room exact, a symbol short, and much.
-fn one(label: &[u8], universe: Universe, rows: &[i64], balls: &[i64], words: &[u16]) {
+fn one(
+    to: &mut impl Write,
+    label: &[u8],
+    universe: Universe,
+    rows: &[i64],
+    balls: &[i64],
+    words: &[u16],
+) -> io::Result<()> {
     let asked = convert::raw_of_one(universe, rows, balls, words, &mut [b'.'; 0]);
     let need = asked.length as usize;
-    say(label);
-    say(b", raw of one");
-    one_in(universe, rows, balls, words, need);
+    say(to, label)?;
+    say(to, b", raw of one")?;
+    one_in(to, universe, rows, balls, words, need)?;
     if 0 < need {
-        one_in(universe, rows, balls, words, need - 1);
+        one_in(to, universe, rows, balls, words, need - 1)?;
     }
-    one_in(universe, rows, balls, words, MOST_LENT);
-    say(b"\n");
+    one_in(to, universe, rows, balls, words, MOST_LENT)?;
+    say(to, b"\n")
 }
 
 // A mover between two planes and a wall.
-fn moved(label: &[u8], universe: Universe) {
+fn moved(to: &mut impl Write, label: &[u8], universe: Universe) -> io::Result<()> {
     two(
+        to,
         label,
         universe,
         &MOVER_AND_WALL,
         &[],
         &[256, 257, 3],
         &[258, 259, 3],
-    );
+    )
 }
 
 // The same in universes of no level and of four to fifteen.
-fn levels() {
-    moved(b"no level", universe(2, 0, 0));
-    moved(b"four levels", universe(2, 2, 2));
-    moved(b"six levels", universe(2, 3, 3));
-    moved(b"seven levels", universe(2, 3, 4));
-    moved(b"fifteen levels", universe(2, 10, 5));
+fn levels(to: &mut impl Write) -> io::Result<()> {
+    moved(to, b"no level", universe(2, 0, 0))?;
+    moved(to, b"four levels", universe(2, 2, 2))?;
+    moved(to, b"six levels", universe(2, 3, 3))?;
+    moved(to, b"seven levels", universe(2, 3, 4))?;
+    moved(to, b"fifteen levels", universe(2, 10, 5))
 }
 
 // A plane and BLACK.
-fn plane(label: &[u8], universe: Universe, plane: [i64; 5]) {
-    two(label, universe, &plane, &[], &[256], &[1]);
+fn plane(to: &mut impl Write, label: &[u8], universe: Universe, plane: [i64; 5]) -> io::Result<()> {
+    two(to, label, universe, &plane, &[], &[256], &[1])
 }
 
 // A plane alone.
-fn plane_alone(label: &[u8], universe: Universe, plane: [i64; 5]) {
-    one(label, universe, &plane, &[], &[256]);
+fn plane_alone(
+    to: &mut impl Write,
+    label: &[u8],
+    universe: Universe,
+    plane: [i64; 5],
+) -> io::Result<()> {
+    one(to, label, universe, &plane, &[], &[256])
 }
 
 // Each number of axes, and expressions that each scratch room holds and that none does.
-fn axes() {
-    plane(b"frames alone", universe(1, 0, 8), [-37, 2, 0, 0, 0]);
-    plane_alone(b"frames alone", universe(1, 0, 12), [-37, 2, 0, 0, 0]);
-    plane(b"two axes", universe(2, 7, 7), [-90, 2, 3, 0, 0]);
-    plane(b"three axes", universe(3, 4, 4), [-21, 1, 2, 1, 0]);
-    plane(b"five bits", universe(3, 5, 5), [-45, 1, 2, 1, 0]);
-    plane(b"four axes", universe(4, 3, 3), [-13, 2, 1, 1, 1]);
-    plane_alone(b"four axes", universe(4, 2, 2), [-9, 2, 2, 2, 0]);
+fn axes(to: &mut impl Write) -> io::Result<()> {
+    plane(to, b"frames alone", universe(1, 0, 8), [-37, 2, 0, 0, 0])?;
+    plane_alone(to, b"frames alone", universe(1, 0, 12), [-37, 2, 0, 0, 0])?;
+    plane(to, b"two axes", universe(2, 7, 7), [-90, 2, 3, 0, 0])?;
+    plane(to, b"three axes", universe(3, 4, 4), [-21, 1, 2, 1, 0])?;
+    plane(to, b"five bits", universe(3, 5, 5), [-45, 1, 2, 1, 0])?;
+    plane(to, b"four axes", universe(4, 3, 3), [-13, 2, 1, 1, 1])?;
+    plane_alone(to, b"four axes", universe(4, 2, 2), [-9, 2, 2, 2, 0])
 }
 
 // A plane less itself, which raw expressions show, and a ball.
-fn surfaces() {
+fn surfaces(to: &mut impl Write) -> io::Result<()> {
     let none: &[i64] = &[];
     one(
+        to,
         b"less itself",
         universe(3, 3, 3),
         &[-9, 2, 2, 2, 0],
         none,
         &[256, 256, 4],
-    );
-    one(b"a ball", universe(4, 2, 2), none, &[2, 2, 2, 2], &[512]);
+    )?;
+    one(
+        to,
+        b"a ball",
+        universe(4, 2, 2),
+        none,
+        &[2, 2, 2, 2],
+        &[512],
+    )
 }
 
 // A ball beside a wall.
-fn beside() {
+fn beside(to: &mut impl Write) -> io::Result<()> {
     two(
+        to,
         b"a ball beside a wall",
         universe(3, 3, 2),
         &[-3, 1, 0, 0, 0],
         &[4, 4, 0, 3],
         &[512],
         &[256],
-    );
+    )
 }
 
 // The most words whose codes the fewest places hold, and two more.
-fn fewest_codes(more: &[u16]) {
+fn fewest_codes(to: &mut impl Write, more: &[u16]) -> io::Result<()> {
     let plane: &[i64] = &[-37, 2, 0, 0, 0];
     let none: &[i64] = &[];
     let fewest: &[u16] = &[256, 256, 2, 256, 2, 256, 2, 256, 2, 256, 2, 256, 2, 256, 2];
     let row: &[u16] = &[256];
-    two(b"fewest codes", universe(1, 0, 7), plane, none, fewest, row);
-    two(b"more codes", universe(1, 0, 7), plane, none, more, row);
+    two(
+        to,
+        b"fewest codes",
+        universe(1, 0, 7),
+        plane,
+        none,
+        fewest,
+        row,
+    )?;
+    two(to, b"more codes", universe(1, 0, 7), plane, none, more, row)
 }
 
 // The same of few places.
-fn few_codes(more: &[u16]) {
+fn few_codes(to: &mut impl Write, more: &[u16]) -> io::Result<()> {
     let plane: &[i64] = &[-512, 1, 0, 0, 0];
     let none: &[i64] = &[];
     two(
+        to,
         b"few codes",
         universe(4, 10, 12),
         plane,
         none,
         &[256, 256, 2, 256, 2],
         more,
-    );
+    )?;
     two(
+        to,
         b"most codes",
         universe(4, 10, 12),
         plane,
         none,
         &[256, 256, 2, 256, 2, 256, 2],
         more,
-    );
+    )
 }
 
 // Codes at both sides of what their places hold.
-fn codes() {
+fn codes(to: &mut impl Write) -> io::Result<()> {
     let more: [u16; 17] = [
         256, 256, 2, 256, 2, 256, 2, 256, 2, 256, 2, 256, 2, 256, 2, 256, 2,
     ];
-    fewest_codes(&more);
-    few_codes(&more);
+    fewest_codes(to, &more)?;
+    few_codes(to, &more)
 }
 
 // Each number up to the balls', with a fault behind it.
-fn refused_surfaces() {
+fn refused_surfaces(to: &mut impl Write) -> io::Result<()> {
     let none: &[i64] = &[];
     let torn: &[i64] = &[0];
     let black: &[u16] = &[1];
-    two(b"the universe", universe(5, 2, 2), torn, none, black, black);
-    two(b"the rows", universe(2, 2, 2), torn, torn, black, black);
-    two(b"the balls", universe(2, 2, 2), none, torn, &[], black);
+    two(
+        to,
+        b"the universe",
+        universe(5, 2, 2),
+        torn,
+        none,
+        black,
+        black,
+    )?;
+    two(to, b"the rows", universe(2, 2, 2), torn, torn, black, black)?;
+    two(to, b"the balls", universe(2, 2, 2), none, torn, &[], black)
 }
 
 // Each number of the trees.
-fn refused_trees() {
+fn refused_trees(to: &mut impl Write) -> io::Result<()> {
     let none: &[i64] = &[];
     let black: &[u16] = &[1];
     let row: &[u16] = &[256];
-    two(b"tree 1", universe(2, 2, 2), none, none, row, &[1; 256]);
-    two(b"tree 2", universe(2, 2, 2), none, none, black, &[]);
-    one(b"the tree", universe(2, 2, 2), none, none, row);
+    two(to, b"tree 1", universe(2, 2, 2), none, none, row, &[1; 256])?;
+    two(to, b"tree 2", universe(2, 2, 2), none, none, black, &[])?;
+    one(to, b"the tree", universe(2, 2, 2), none, none, row)
 }
 
 // All of them.
-pub(crate) fn rooms() {
-    levels();
-    axes();
-    surfaces();
-    beside();
-    codes();
-    refused_surfaces();
-    refused_trees();
+pub(crate) fn rooms(to: &mut impl Write) -> io::Result<()> {
+    levels(to)?;
+    axes(to)?;
+    surfaces(to)?;
+    beside(to)?;
+    codes(to)?;
+    refused_surfaces(to)?;
+    refused_trees(to)
 }
