@@ -1,8 +1,12 @@
 // Raw conversions and verdicts in local room run beside the first, at both sides of each size of work room: a line for
 // each scene, its levels, words and length, and behind it for each room lent the number and the length, and where
 // answer or room is not that of the first conversion, so.
+#![tactic(auto)]
+
 use bintree::{Verdict, Written};
-use libc::STDOUT_FILENO;
+use convert::Clearance;
+use std::io;
+use std::io::Write;
 use universe::Universe;
 
 // The most symbols that are lent.
@@ -21,14 +25,13 @@ fn universe(axes: u64, bits: u64, frame_bits: u64) -> Universe {
     }
 }
 
-fn say(text: &[u8]) {
-    io::write_all(STDOUT_FILENO, text);
+fn say(to: &mut impl Write, text: &[u8]) -> io::Result<()> {
+    to.write_all(text)
 }
 
 // A number behind a space.
-fn next_number(n: u64) {
-    say(b" ");
-    io::print_decimal(STDOUT_FILENO, n);
+fn next_number(to: &mut impl Write, n: u64) -> io::Result<()> {
+    write!(to, " {n}")
 }
 
 // Whether two rooms hold the same.
@@ -42,20 +45,27 @@ fn is_same(one: &[u8; MOST_LENT], two: &[u8; MOST_LENT]) -> bool {
 }
 
 // One room: its label, what was answered, and whether that and the room are those of the first conversion.
-fn tell(label: &[u8], found: Written, first: Written, is_same: bool) {
-    say(b"; ");
-    say(label);
-    next_number(found.refusal);
-    next_number(found.length);
+fn tell(
+    to: &mut impl Write,
+    label: &[u8],
+    found: Written,
+    first: Written,
+    is_same: bool,
+) -> io::Result<()> {
+    say(to, b"; ")?;
+    say(to, label)?;
+    next_number(to, found.refusal)?;
+    next_number(to, found.length)?;
     if found.refusal != first.refusal {
-        say(b" OTHER NUMBER");
+        say(to, b" OTHER NUMBER")?;
     }
     if found.length != first.length {
-        say(b" OTHER LENGTH");
+        say(to, b" OTHER LENGTH")?;
     }
     if !is_same {
-        say(b" OTHER ROOM");
+        say(to, b" OTHER ROOM")?;
     }
+    Ok(())
 }
 
 // One word more behind those that stand there, where there is place for it: how many stand there then.
@@ -91,24 +101,27 @@ fn push_unions(words: &mut [u16; MOST_WORDS], leaf: u16, more: usize) -> usize {
 
 // One tree, with so much room.
 fn one_in(
+    to: &mut impl Write,
     label: &[u8],
     universe: Universe,
     rows: &[i64],
     balls: &[i64],
     words: &[u16],
     lent: usize,
-) {
+) -> io::Result<()> {
     let mut out = [b'.'; MOST_LENT];
     let mut other = [b'.'; MOST_LENT];
     if lent <= MOST_LENT {
         let found = local::raw_of_one(universe, rows, balls, words, &mut out[..lent]);
         let first = convert::raw_of_one(universe, rows, balls, words, &mut other[..lent]);
-        tell(label, found, first, is_same(&out, &other));
+        tell(to, label, found, first, is_same(&out, &other))?;
     }
+    Ok(())
 }
 
 // Two trees, with so much room.
 fn two_in(
+    to: &mut impl Write,
     label: &[u8],
     universe: Universe,
     rows: &[i64],
@@ -116,32 +129,58 @@ fn two_in(
     first: &[u16],
     second: &[u16],
     lent: usize,
-) {
+) -> io::Result<()> {
     let mut out = [b'.'; MOST_LENT];
     let mut other = [b'.'; MOST_LENT];
     if lent <= MOST_LENT {
         let found = local::raw_of_two(universe, rows, balls, first, second, &mut out[..lent]);
         let plain = convert::raw_of_two(universe, rows, balls, first, second, &mut other[..lent]);
-        tell(label, found, plain, is_same(&out, &other));
+        tell(to, label, found, plain, is_same(&out, &other))?;
     }
+    Ok(())
 }
 
 // A verdict behind its number and length.
-fn tell_verdict(refusal: u64, length: u64, verdict: Verdict) {
-    next_number(refusal);
-    next_number(length);
+fn tell_verdict(
+    to: &mut impl Write,
+    refusal: u64,
+    length: u64,
+    verdict: Verdict,
+) -> io::Result<()> {
+    next_number(to, refusal)?;
+    next_number(to, length)?;
     match verdict {
-        Verdict::Clear => say(b" clear"),
+        Verdict::Clear => say(to, b" clear"),
         Verdict::Hit(contact) => {
-            next_number(contact.first);
-            next_number(contact.last);
-            next_number(contact.voxels);
+            next_number(to, contact.first)?;
+            next_number(to, contact.last)?;
+            next_number(to, contact.voxels)
         }
     }
 }
 
+// A verdict, beside it what the first one answers, and whether the room is that of the first.
+fn tell_verdicts(
+    to: &mut impl Write,
+    label: &[u8],
+    found: Clearance,
+    first: Clearance,
+    is_same: bool,
+) -> io::Result<()> {
+    say(to, b"; ")?;
+    say(to, label)?;
+    tell_verdict(to, found.refusal, found.length, found.verdict)?;
+    say(to, b" /")?;
+    tell_verdict(to, first.refusal, first.length, first.verdict)?;
+    if !is_same {
+        say(to, b" OTHER ROOM")?;
+    }
+    Ok(())
+}
+
 // The verdict of two trees over a window, with so much room: beside it what the first one answers.
 fn over(
+    to: &mut impl Write,
     label: &[u8],
     universe: Universe,
     rows: &[i64],
@@ -151,7 +190,7 @@ fn over(
     first_frame: u64,
     last_frame: u64,
     lent: usize,
-) {
+) -> io::Result<()> {
     let mut out = [b'.'; MOST_LENT];
     let mut other = [b'.'; MOST_LENT];
     if lent <= MOST_LENT {
@@ -175,53 +214,59 @@ fn over(
             last_frame,
             &mut other[..lent],
         );
-        say(b"; ");
-        say(label);
-        let verdict = found.verdict;
-        tell_verdict(found.refusal, found.length, verdict);
-        say(b" /");
-        let verdict = plain.verdict;
-        tell_verdict(plain.refusal, plain.length, verdict);
-        if !is_same(&out, &other) {
-            say(b" OTHER ROOM");
-        }
+        tell_verdicts(to, label, found, plain, is_same(&out, &other))?;
     }
+    Ok(())
 }
 
 // A scene: its levels and its words, whose product with one level more are the nodes, and its symbols.
-fn tell_scene(label: &[u8], universe: Universe, words: usize, symbols: u64) {
-    say(label);
-    say(b":");
-    next_number(universe.levels());
-    say(b" levels,");
-    next_number(words as u64);
-    say(b" words,");
-    next_number(symbols);
-    say(b" symbols");
+fn tell_scene(
+    to: &mut impl Write,
+    label: &[u8],
+    universe: Universe,
+    words: usize,
+    symbols: u64,
+) -> io::Result<()> {
+    say(to, label)?;
+    say(to, b":")?;
+    next_number(to, universe.levels())?;
+    say(to, b" levels,")?;
+    next_number(to, words as u64)?;
+    say(to, b" words,")?;
+    next_number(to, symbols)?;
+    say(to, b" symbols")
 }
 
 // One tree, with room exact, a symbol short, as the formula says, and at both sides of what little scratch room and
 // the most of it holds.
-fn one(label: &[u8], universe: Universe, rows: &[i64], balls: &[i64], words: &[u16]) {
+fn one(
+    to: &mut impl Write,
+    label: &[u8],
+    universe: Universe,
+    rows: &[i64],
+    balls: &[i64],
+    words: &[u16],
+) -> io::Result<()> {
     let asked = convert::raw_of_one(universe, rows, balls, words, &mut [b'.'; 0]);
     let need = asked.length as usize;
-    tell_scene(label, universe, words.len(), asked.length);
-    one_in(b"exact", universe, rows, balls, words, need);
+    tell_scene(to, label, universe, words.len(), asked.length)?;
+    one_in(to, b"exact", universe, rows, balls, words, need)?;
     if 0 < need {
-        one_in(b"short", universe, rows, balls, words, need - 1);
+        one_in(to, b"short", universe, rows, balls, words, need - 1)?;
     }
     let room = universe.room(csg::halfspace_words(words), csg::ball_words(words));
     let all = room.symbols as usize;
-    one_in(b"formula", universe, rows, balls, words, all);
-    one_in(b"little", universe, rows, balls, words, 768);
-    one_in(b"past it", universe, rows, balls, words, 769);
-    one_in(b"scratch", universe, rows, balls, words, 4_096);
-    one_in(b"more", universe, rows, balls, words, 4_097);
-    say(b"\n");
+    one_in(to, b"formula", universe, rows, balls, words, all)?;
+    one_in(to, b"little", universe, rows, balls, words, 768)?;
+    one_in(to, b"past it", universe, rows, balls, words, 769)?;
+    one_in(to, b"scratch", universe, rows, balls, words, 4_096)?;
+    one_in(to, b"more", universe, rows, balls, words, 4_097)?;
+    say(to, b"\n")
 }
 
 // Two trees, and their verdict over all frames, with so much room.
 fn judged_in(
+    to: &mut impl Write,
     label: &[u8],
     universe: Universe,
     rows: &[i64],
@@ -230,15 +275,16 @@ fn judged_in(
     second: &[u16],
     last_frame: u64,
     lent: usize,
-) {
-    two_in(label, universe, rows, balls, first, second, lent);
+) -> io::Result<()> {
+    two_in(to, label, universe, rows, balls, first, second, lent)?;
     over(
-        b"judged", universe, rows, balls, first, second, 0, last_frame, lent,
-    );
+        to, b"judged", universe, rows, balls, first, second, 0, last_frame, lent,
+    )
 }
 
 // Two trees as one, and their verdict where room is exact, a symbol short, and as the formula says.
 fn two(
+    to: &mut impl Write,
     label: &[u8],
     universe: Universe,
     rows: &[i64],
@@ -247,16 +293,17 @@ fn two(
     second: &[u16],
     last_frame: u64,
     all: usize,
-) {
+) -> io::Result<()> {
     let asked = convert::raw_of_two(universe, rows, balls, first, second, &mut [b'.'; 0]);
     let need = asked.length as usize;
     let words = first.len() + second.len();
-    tell_scene(label, universe, words, asked.length);
+    tell_scene(to, label, universe, words, asked.length)?;
     judged_in(
-        b"exact", universe, rows, balls, first, second, last_frame, need,
-    );
+        to, b"exact", universe, rows, balls, first, second, last_frame, need,
+    )?;
     if 0 < need {
         judged_in(
+            to,
             b"short",
             universe,
             rows,
@@ -265,25 +312,34 @@ fn two(
             second,
             last_frame,
             need - 1,
-        );
+        )?;
     }
     judged_in(
-        b"formula", universe, rows, balls, first, second, last_frame, all,
-    );
-    two_in(b"scratch", universe, rows, balls, first, second, 4_096);
-    two_in(b"more", universe, rows, balls, first, second, 4_097);
-    say(b"\n");
+        to, b"formula", universe, rows, balls, first, second, last_frame, all,
+    )?;
+    two_in(to, b"scratch", universe, rows, balls, first, second, 4_096)?;
+    two_in(to, b"more", universe, rows, balls, first, second, 4_097)?;
+    say(to, b"\n")
 }
 
 // One tree of so many words from the front.
-fn front(label: &[u8], universe: Universe, rows: &[i64], words: [u16; MOST_WORDS], count: usize) {
+fn front(
+    to: &mut impl Write,
+    label: &[u8],
+    universe: Universe,
+    rows: &[i64],
+    words: [u16; MOST_WORDS],
+    count: usize,
+) -> io::Result<()> {
     if count <= MOST_WORDS {
-        one(label, universe, rows, &[], &words[..count]);
+        one(to, label, universe, rows, &[], &words[..count])?;
     }
+    Ok(())
 }
 
 // Two trees of so many words from the front; so much room suffices.
 fn fronts(
+    to: &mut impl Write,
     label: &[u8],
     universe: Universe,
     rows: &[i64],
@@ -293,10 +349,11 @@ fn fronts(
     twos: usize,
     last_frame: u64,
     all: usize,
-) {
+) -> io::Result<()> {
     if ones <= MOST_WORDS {
         if twos <= MOST_WORDS {
             two(
+                to,
                 label,
                 universe,
                 rows,
@@ -305,20 +362,28 @@ fn fronts(
                 &second[..twos],
                 last_frame,
                 all,
-            );
+            )?;
         }
     }
+    Ok(())
 }
 
 // One tree: row 0 and so many times more, joined.
-fn unions(label: &[u8], universe: Universe, rows: &[i64], more: usize) {
+fn unions(
+    to: &mut impl Write,
+    label: &[u8],
+    universe: Universe,
+    rows: &[i64],
+    more: usize,
+) -> io::Result<()> {
     let mut words = [0u16; MOST_WORDS];
     let count = push_unions(&mut words, 256, more);
-    front(label, universe, rows, words, count);
+    front(to, label, universe, rows, words, count)
 }
 
 // Two trees: row 0 and so many times more, joined, and row 1 likewise; so many leaves in all.
 fn pairs(
+    to: &mut impl Write,
     label: &[u8],
     universe: Universe,
     rows: &[i64],
@@ -326,7 +391,7 @@ fn pairs(
     others: usize,
     leaves: u64,
     last_frame: u64,
-) {
+) -> io::Result<()> {
     let mut first = [0u16; MOST_WORDS];
     let mut second = [0u16; MOST_WORDS];
     let ones = push_unions(&mut first, 256, more);
@@ -334,37 +399,71 @@ fn pairs(
     let room = universe.room(leaves, 0);
     let all = room.symbols as usize;
     fronts(
-        label, universe, rows, first, ones, second, twos, last_frame, all,
-    );
+        to, label, universe, rows, first, ones, second, twos, last_frame, all,
+    )
 }
 
 // At both sides of the smallest work room: 32 and 33 nodes of one tree, 32 and 36 of two.
-fn fewest() {
-    unions(b"one of fewest", universe(4, 7, 10), &[-48, 1, 0, 0, 0], 0);
+fn fewest(to: &mut impl Write) -> io::Result<()> {
+    unions(
+        to,
+        b"one of fewest",
+        universe(4, 7, 10),
+        &[-48, 1, 0, 0, 0],
+        0,
+    )?;
     let rows: &[i64] = &[-3, 1, 0, 0, 0, 70, -1, 0, 0, 0];
-    unions(b"one past fewest", universe(1, 0, 10), rows, 1);
-    pairs(b"two of fewest", universe(1, 0, 7), rows, 1, 0, 3, 127);
-    pairs(b"two past fewest", universe(1, 0, 8), rows, 0, 1, 3, 255);
+    unions(to, b"one past fewest", universe(1, 0, 10), rows, 1)?;
+    pairs(to, b"two of fewest", universe(1, 0, 7), rows, 1, 0, 3, 127)?;
+    pairs(
+        to,
+        b"two past fewest",
+        universe(1, 0, 8),
+        rows,
+        0,
+        1,
+        3,
+        255,
+    )
 }
 
 // At both sides of the second: 126 and 129 nodes of one tree, 128 and 130 of two.
-fn few() {
-    unions(b"one of few", universe(2, 5, 12), &[-23, 2, 1, 0, 0], 3);
+fn few(to: &mut impl Write) -> io::Result<()> {
+    unions(to, b"one of few", universe(2, 5, 12), &[-23, 2, 1, 0, 0], 3)?;
     let rows: &[i64] = &[-3, 1, 0, 0, 0, 70, -1, 0, 0, 0];
-    unions(b"one past few", universe(1, 0, 2), rows, 21);
-    pairs(b"two of few", universe(1, 0, 7), rows, 4, 3, 9, 127);
-    pairs(b"two past few", universe(1, 0, 12), rows, 2, 2, 6, 2_000);
+    unions(to, b"one past few", universe(1, 0, 2), rows, 21)?;
+    pairs(to, b"two of few", universe(1, 0, 7), rows, 4, 3, 9, 127)?;
+    pairs(
+        to,
+        b"two past few",
+        universe(1, 0, 12),
+        rows,
+        2,
+        2,
+        6,
+        2_000,
+    )
 }
 
 // At both sides of the third: 511 and 513 nodes of one tree, 512 and 516 of two.
-fn some() {
+fn some(to: &mut impl Write) -> io::Result<()> {
     let rows: &[i64] = &[-23, 2, 1, 0, 0, 900, -3, -1, 0, 0];
-    unions(b"one of some", universe(2, 2, 4), rows, 36);
-    pairs(b"two of some", universe(2, 3, 12), rows, 8, 7, 17, 2_000);
+    unions(to, b"one of some", universe(2, 2, 4), rows, 36)?;
+    pairs(
+        to,
+        b"two of some",
+        universe(2, 3, 12),
+        rows,
+        8,
+        7,
+        17,
+        2_000,
+    )?;
     let walls = [-16i64, 1, 0, 0, 0];
-    unions(b"one past some", universe(4, 5, 11), &walls, 9);
+    unions(to, b"one past some", universe(4, 5, 11), &walls, 9)?;
     let walls = [-512i64, 1, 0, 0, 0, -256, 0, 1, 0, 0];
     pairs(
+        to,
         b"two past some",
         universe(4, 10, 12),
         &walls,
@@ -372,26 +471,36 @@ fn some() {
         2,
         7,
         2_000,
-    );
+    )
 }
 
 // At both sides of the largest: 1,245 and 1,251 nodes of one tree, 1,248 and 1,250 of two.
-fn many() {
+fn many(to: &mut impl Write) -> io::Result<()> {
     let rows: &[i64] = &[-5, 2, 1, 0, 0, 9, -1, -1, 0, 0];
-    unions(b"one of many", universe(2, 2, 2), rows, 124);
-    unions(b"one past many", universe(2, 4, 4), rows, 69);
-    pairs(b"two of many", universe(2, 2, 3), rows, 52, 51, 105, 7);
+    unions(to, b"one of many", universe(2, 2, 2), rows, 124)?;
+    unions(to, b"one past many", universe(2, 4, 4), rows, 69)?;
+    pairs(to, b"two of many", universe(2, 2, 3), rows, 52, 51, 105, 7)?;
     let walls = [-16i64, 1, 0, 0, 0, -8, 0, 1, 0, 0];
-    pairs(b"two past many", universe(4, 5, 9), &walls, 12, 12, 26, 400);
+    pairs(
+        to,
+        b"two past many",
+        universe(4, 5, 9),
+        &walls,
+        12,
+        12,
+        26,
+        400,
+    )
 }
 
 // Balls, and a tree that is decided at once.
-fn others() {
+fn others(to: &mut impl Write) -> io::Result<()> {
     let none: &[i64] = &[];
     let ball: &[i64] = &[4, 4, 0, 3];
     let black: &[u16] = &[1];
-    one(b"a ball", universe(3, 3, 2), none, ball, &[512]);
+    one(to, b"a ball", universe(3, 3, 2), none, ball, &[512])?;
     two(
+        to,
         b"a ball less itself",
         universe(3, 3, 2),
         &[-4, 1, 0, 0, 0],
@@ -400,29 +509,48 @@ fn others() {
         &[256],
         3,
         900,
-    );
-    two(b"BLACK", universe(2, 2, 2), none, none, black, black, 3, 1);
+    )?;
+    two(
+        to,
+        b"BLACK",
+        universe(2, 2, 2),
+        none,
+        none,
+        black,
+        black,
+        3,
+        1,
+    )
 }
 
 // Refusals: the universe, and words that no work room holds.
-fn refused_words() {
+fn refused_words(to: &mut impl Write) -> io::Result<()> {
     let none: &[i64] = &[];
-    one(b"no universe", universe(5, 2, 2), none, none, &[1]);
-    one(b"too many words", universe(2, 2, 2), none, none, &[1; 257]);
+    one(to, b"no universe", universe(5, 2, 2), none, none, &[1])?;
     one(
+        to,
+        b"too many words",
+        universe(2, 2, 2),
+        none,
+        none,
+        &[1; 257],
+    )?;
+    one(
+        to,
         b"more than nodes",
         universe(2, 2, 2),
         none,
         none,
         &[1; 2_689],
-    );
+    )
 }
 
 // Refusals: a tree, and the window before and behind a tree.
-fn refused_windows() {
+fn refused_windows(to: &mut impl Write) -> io::Result<()> {
     let none: &[i64] = &[];
     let black: &[u16] = &[1];
     two(
+        to,
         b"no second tree",
         universe(2, 2, 2),
         none,
@@ -431,8 +559,9 @@ fn refused_windows() {
         &[],
         3,
         1,
-    );
+    )?;
     two(
+        to,
         b"no window",
         universe(2, 2, 2),
         none,
@@ -441,8 +570,9 @@ fn refused_windows() {
         black,
         4,
         1,
-    );
+    )?;
     two(
+        to,
         b"no tree and no window",
         universe(2, 2, 2),
         none,
@@ -451,15 +581,16 @@ fn refused_windows() {
         &[2],
         4,
         1,
-    );
+    )
 }
 
-fn main() {
-    fewest();
-    few();
-    some();
-    many();
-    others();
-    refused_words();
-    refused_windows();
+fn main(rt: HostRuntime) -> io::Result<()> {
+    let to = &mut rt.stdout();
+    fewest(to)?;
+    few(to)?;
+    some(to)?;
+    many(to)?;
+    others(to)?;
+    refused_words(to)?;
+    refused_windows(to)
 }
