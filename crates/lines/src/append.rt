@@ -9,7 +9,7 @@ pub const MOST_BYTES: usize = 256;
 // A text.
 pub(crate) fn append_text(text: &[u8], out: &mut [u8; MOST_BYTES], at: usize) -> usize
     requires { at + length text.now ≤ most_bytes }
-    ensures { let text = text.entry.now in
+    ensures { let text = text.now in
         Appended (length text) out.old at text out.new result }
 {
     bintree::copy(text, out, at);
@@ -40,7 +40,7 @@ fn append_number(n: u64, out: &mut [u8; MOST_BYTES], at: usize) -> usize
 // A word and a number.
 pub(crate) fn append_labelled(word: &[u8], n: u64, out: &mut [u8; MOST_BYTES], at: usize) -> usize
     requires { at + (length word.now + most_digits) ≤ most_bytes }
-    ensures { let word = word.entry.now in
+    ensures { let word = word.now in
         Appended (length word + most_digits) out.old at (word ++ decimal n) out.new result }
 {
     let next = append_text(word, out, at);

@@ -1,4 +1,6 @@
 // The lines that are printed for a scene, in a lent array.
+#![tactic(auto)]
+
 mod append;
 mod line;
 mod program;

@@ -32,42 +32,42 @@ module _ (t : ℕ) where
   abbrev cs : append-number-lts.Claims
   cs = (append-byte-reads.Asked, append-byte-reads.Learnt, append_number_below t, append-number.Post)
 
-  append_number_cast_append_byte : append-number-lts.Need-overflow-cast-append-byte cs (append_number_at t) append-number.Post
+  append_number_cast_append_byte : append-number-lts.Need-overflow_cast-n cs (append_number_at t) append-number.Post
   append_number_cast_append_byte c = search rules
 
-  append_number_add_append_byte : append-number-lts.Need-overflow-add-append-byte cs (append_number_at t) append-number.Post
+  append_number_add_append_byte : append-number-lts.Need-overflow_add-n cs (append_number_at t) append-number.Post
   append_number_add_append_byte c = search rules
 
-  append_number_append_byte_requires : append-number-lts.Need-append-byte-requires cs (append_number_at t) append-number.Post
-  append_number_append_byte_requires c κs = omega (arith, c.before.before.requires.1, units_few _ c.before.if1.true)
+  append_number_append_byte_requires : append-number-lts.Need-append_byte-requires cs (append_number_at t) append-number.Post
+  append_number_append_byte_requires c κs = omega (arith, c.requires.1, units_few _ c.if-n-lt10.true)
 
-  append_number_returns : append-number-lts.Need-returns cs (append_number_at t) append-number.Post
-  append_number_returns c = spelled_units _ c.before.before.if1.true c.append-byte.ensures
+  append_number_returns : append-number-lts.Need-returns-then-n-lt10 cs (append_number_at t) append-number.Post
+  append_number_returns c = spelled_units _ c.if-n-lt10.true c.append_byte.ensures
 
-  append_number_append_number_requires : append-number-lts.Need-append-number-requires cs (append_number_at t) append-number.Post
+  append_number_append_number_requires : append-number-lts.Need-append_number-last-requires cs (append_number_at t) append-number.Post
   append_number_append_number_requires c κs =
-      let k = c.before.before in
-      let l = c.before.if1.false in
+      let k = c in
+      let l = c.if-n-lt10.false in
       (omega (arith, k.requires.0, l), omega (arith, k.requires.1, tens_few _ l))
 
-  append_number_cast_append_byte_2 : append-number-lts.Need-overflow-cast-append-byte-2 cs (append_number_at t) append-number.Post
+  append_number_cast_append_byte_2 : append-number-lts.Need-overflow_cast-n-2 cs (append_number_at t) append-number.Post
   append_number_cast_append_byte_2 c = search rules
 
-  append_number_add_append_byte_2 : append-number-lts.Need-overflow-add-append-byte-2 cs (append_number_at t) append-number.Post
+  append_number_add_append_byte_2 : append-number-lts.Need-overflow_add-n-2 cs (append_number_at t) append-number.Post
   append_number_add_append_byte_2 c = search rules
 
-  append_number_append_byte_requires_2 : append-number-lts.Need-append-byte-requires-2 cs (append_number_at t) append-number.Post
+  append_number_append_byte_requires_2 : append-number-lts.Need-append_byte-requires-2 cs (append_number_at t) append-number.Post
   append_number_append_byte_requires_2 c κs =
-      let k = c.before.before.before.before in
-      omega (arith, k.requires.1, tens_few _ c.before.before.before.if1.false, c.before.append-number.ensures.end)
+      let k = c in
+      omega (arith, k.requires.1, tens_few _ c.if-n-lt10.false, c.append_number-last.ensures.end)
 
-  append_number_returns_2 : append-number-lts.Need-returns-2 cs (append_number_at t) append-number.Post
+  append_number_returns_2 : append-number-lts.Need-returns cs (append_number_at t) append-number.Post
   append_number_returns_2 c =
-      let tens = c.before.before in
-      spelled_tens _ tens.before.before.if1.false tens.append-number.ensures c.append-byte2.ensures
+      let tens = c in
+      spelled_tens _ tens.if-n-lt10.false tens.append_number-last.ensures c.append_byte-2.ensures
 
-pub +append-number-spec : {M : Type 1} → statement M
-+append-number-spec = close μ_append_number λ t. append-number-lts.spec (cs t)
+pub +append_number_spec : {M : Type 1} → statement M
++append_number_spec = close μ_append_number λ t. append-number-lts.spec (cs t)
     (append_number_at t)
     append-number.Post
     (append_number_cast_append_byte t)

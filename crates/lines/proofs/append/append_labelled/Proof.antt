@@ -6,16 +6,16 @@ use borrow.Author.Rules.{rules}
 use Rattle.lines.proofs.append.append_labelled.Statement.{statement}
 use Rattle.lines.proofs.append.append_labelled.Tie as tie
 
-append-text-requires : tie.Need-append-text-requires
+append-text-requires : tie.Need-append_text-next-requires
 append-text-requires c κs = search rules
 
-append-number-requires : tie.Need-append-number-requires
+append-number-requires : tie.Need-append_number-requires
 append-number-requires c κs =
-    let k = c.before.before.before.before in
-    omega (arith, k.requires, decimal_few k.args.n k.ranges.n.fits, c.before.append-text.ensures.end)
+    let k = c in
+    omega (arith, k.requires, decimal_few k.args.n k.ranges.n.fits, c.append_text-next.ensures.end)
 
 returns : tie.Need-returns
-returns c = labelled c.before.before.before.before.before.ranges.n.fits c.before.before.append-text.ensures c.append-number.ensures
+returns c = labelled c.ranges.n.fits c.append_text-next.ensures c.append_number.ensures
 
-pub append-labelled-spec : {M : Type 1} → statement M
-append-labelled-spec = tie.close (tie.spec append-text-requires append-number-requires returns)
+pub append_labelled_spec : {M : Type 1} → statement M
+append_labelled_spec = tie.close (tie.spec append-text-requires append-number-requires returns)

@@ -6,41 +6,29 @@ use borrow.Author.Rules.{rules}
 use Rattle.lines.proofs.line.append_bits.Statement.{statement}
 use Rattle.lines.proofs.line.append_bits.Tie as tie
 
-slice-aggregate-append-labelled : tie.Need-slice-aggregate-append-labelled
-slice-aggregate-append-labelled c = search rules
-
-append-labelled-requires : tie.Need-append-labelled-requires
+append-labelled-requires : tie.Need-append_labelled-requires
 append-labelled-requires c κs = search rules
 
-returns : tie.Need-returns
-returns c = appended_within (appended_as (first_bits _ _ c.before.before.before.if1.true) c.append-labelled.ensures) (omega arith)
+returns : tie.Need-returns-then-version-eq-FIRST_VERSION
+returns c = appended_within (appended_as (first_bits _ _ c.if-version-eq-FIRST_VERSION.true) c.append_labelled.ensures) (omega arith)
 
-slice-aggregate-append-labelled-2 : tie.Need-slice-aggregate-append-labelled-2
-slice-aggregate-append-labelled-2 c = search rules
-
-append-labelled-requires-2 : tie.Need-append-labelled-requires-2
+append-labelled-requires-2 : tie.Need-append_labelled-frame-requires
 append-labelled-requires-2 c κs = search rules
 
-slice-aggregate-append-labelled-3 : tie.Need-slice-aggregate-append-labelled-3
-slice-aggregate-append-labelled-3 c = search rules
-
-append-labelled-requires-3 : tie.Need-append-labelled-requires-3
+append-labelled-requires-3 : tie.Need-append_labelled-requires-2
 append-labelled-requires-3 c κs = search rules
 
-returns-2 : tie.Need-returns-2
+returns-2 : tie.Need-returns
 returns-2 c =
-    let bits = c.before.before.before in
-    appended_as (later_bits _ _ bits.before.before.before.if1.false) (appended_then bits.append-labelled2.ensures c.append-labelled3.ensures)
+    let bits = c in
+    appended_as (later_bits _ _ bits.if-version-eq-FIRST_VERSION.false) (appended_then bits.append_labelled-frame.ensures c.append_labelled-2.ensures)
 
-pub append-bits-spec : {M : Type 1} → statement M
-append-bits-spec =
+pub append_bits_spec : {M : Type 1} → statement M
+append_bits_spec =
     tie.close
     (tie.spec
-    slice-aggregate-append-labelled
     append-labelled-requires
     returns
-    slice-aggregate-append-labelled-2
     append-labelled-requires-2
-    slice-aggregate-append-labelled-3
     append-labelled-requires-3
     returns-2)

@@ -5,21 +5,21 @@ use borrow.Author.Rules.{rules}
 use Rattle.lines.proofs.program.lines_of.Statement.{statement}
 use Rattle.lines.proofs.program.lines_of.Tie as tie
 
-write-refused-requires : tie.Need-write-refused-requires
+write-refused-requires : tie.Need-write_refused-requires
 write-refused-requires c κs = search rules
 
-returns : tie.Need-returns
+returns : tie.Need-returns-then-scene-gt-MOST_SCENE_BYTES
 returns c =
-    let k = c.before.before in
-    appended_front (appended_as (long_lines k.before.before.args.scene.now k.if1.true) c.write-refused.ensures)
+    let k = c in
+    appended_front (appended_as (long_lines k.args.scene.now k.if-scene-gt-MOST_SCENE_BYTES.true) c.write_refused.ensures)
 
-write-scene-requires : tie.Need-write-scene-requires
+write-scene-requires : tie.Need-write_scene-requires
 write-scene-requires c κs = search rules
 
-returns-2 : tie.Need-returns-2
+returns-2 : tie.Need-returns
 returns-2 c =
-    let k = c.before.before in
-    appended_front (appended_as (within_lines k.before.before.args.scene.now k.if1.false) c.write-scene.ensures)
+    let k = c in
+    appended_front (appended_as (within_lines k.args.scene.now k.if-scene-gt-MOST_SCENE_BYTES.false) c.write_scene.ensures)
 
-pub lines-of-spec : {M : Type 1} → statement M
-lines-of-spec = tie.close (tie.spec write-refused-requires returns write-scene-requires returns-2)
+pub lines_of_spec : {M : Type 1} → statement M
+lines_of_spec = tie.close (tie.spec write-refused-requires returns write-scene-requires returns-2)

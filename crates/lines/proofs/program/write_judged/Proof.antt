@@ -11,56 +11,56 @@ use borrow.Author.Rules.{rules}
 use Rattle.lines.proofs.program.write_judged.Statement.{statement}
 use Rattle.lines.proofs.program.write_judged.Tie as tie
 
-slice-aggregate-verdict-of-two : tie.Need-slice-aggregate-verdict-of-two
+slice-aggregate-verdict-of-two : tie.Need-slice_bounds-verdict_of_two-end
 slice-aggregate-verdict-of-two c = search rules
 
-verdict-of-two-requires : tie.Need-verdict-of-two-requires
+verdict-of-two-requires : tie.Need-verdict_of_two-clearance-requires
 verdict-of-two-requires c κs = search rules
 
-halfspace-words-requires : tie.Need-halfspace-words-requires
+halfspace-words-requires : tie.Need-halfspace_words-requires
 halfspace-words-requires c κs = search rules
 
-halfspace-words-requires-2 : tie.Need-halfspace-words-requires-2
+halfspace-words-requires-2 : tie.Need-halfspace_words-requires-2
 halfspace-words-requires-2 c κs = search rules
 
-add-leaves : tie.Need-overflow-add-leaves
+add-leaves : tie.Need-overflow_add-leaves
 add-leaves c =
-    let k = c.before.before.before.before.before.before.before.before.args in
+    let k = c.args in
     let one = count_words_most first_halfspace most_rows k.first.now in
     let two = count_words_most first_halfspace most_rows k.second.now in
-    record { fits = omega (arith, c.before.halfspace-words.ensures, c.halfspace-words2.ensures, one, two) }
+    record { fits = omega (arith, c.halfspace_words.ensures, c.halfspace_words-2.ensures, one, two) }
 
-ball-words-requires : tie.Need-ball-words-requires
+ball-words-requires : tie.Need-ball_words-requires
 ball-words-requires c κs = search rules
 
-ball-words-requires-2 : tie.Need-ball-words-requires-2
+ball-words-requires-2 : tie.Need-ball_words-requires-2
 ball-words-requires-2 c κs = search rules
 
-add-ball-words : tie.Need-overflow-add-ball-words
+add-ball-words : tie.Need-overflow_add-ball_words
 add-ball-words c =
-    let k = c.before.before.before.before.before.before.before.before.before.before.args in
+    let k = c.args in
     let one = count_words_most first_ball most_balls k.first.now in
     let two = count_words_most first_ball most_balls k.second.now in
-    record { fits = omega (arith, c.before.ball-words.ensures, c.ball-words2.ensures, one, two) }
+    record { fits = omega (arith, c.ball_words.ensures, c.ball_words-2.ensures, one, two) }
 
-write-clearance-requires : tie.Need-write-clearance-requires
+write-clearance-requires : tie.Need-write_clearance-requires
 write-clearance-requires c κs = search rules
 
 returns : tie.Need-returns
 returns c =
-    let four = c.before.before in
-    let three = four.before in
-    let two = three.before in
-    let one = two.before in
-    let verdict = one.before.before in
+    let four = c in
+    let three = four in
+    let two = three in
+    let one = two in
+    let verdict = one in
     let lines =
-    judged_lines_lem _ _ _ _ verdict.verdict-of-two.ensures.0 one.halfspace-words.ensures two.halfspace-words2.ensures
-    three.ball-words.ensures four.ball-words2.ensures
+    judged_lines_lem _ _ _ _ verdict.verdict_of_two-clearance.ensures.0 one.halfspace_words.ensures two.halfspace_words-2.ensures
+    three.ball_words.ensures four.ball_words-2.ensures
     in
-    appended_as lines c.write-clearance.ensures
+    appended_as lines c.write_clearance.ensures
 
-pub write-judged-spec : {M : Type 1} → statement M
-write-judged-spec =
+pub write_judged_spec : {M : Type 1} → statement M
+write_judged_spec =
     tie.close
     (tie.spec
     slice-aggregate-verdict-of-two
