@@ -22,7 +22,6 @@ use Rattle.bintree.specs.declared.Contact.{Contact}
 use Rattle.bintree.specs.declared.Verdict.{Verdict}
 use Rattle.bintree.specs.declared.Verdict.TheVariants.{Clear, Hit}
 use Rattle.bintree.specs.declared.Written.{Written}
-use Rattle.bintree.specs.Verdicts.{verdict}
 use Rattle.bintree.specs.Answers.{written_answer}
 use Rattle.bintree.proofs.Answers.{written_short, written_all, left_all}
 use Rattle.csg.specs.Halfspace.{row_length, row_count}

@@ -1,6 +1,6 @@
 -- Even motion: a step is exactly the change over so many frames, so that a corner worked back to time 0 and displaced by a step each frame is, at every time,
 -- where moving evenly from the one key's corner to the next one's puts it, and the far side with it: in fractions, with no rounding.
-use Prim.Native.Nat.{ℕ, ◌+◌, ◌-◌, ◌*◌, ◌/◌, ◌%◌, ◌≤◌, ◌<◌}
+use Prim.Native.Nat.{ℕ, ◌+◌, ◌*◌, ◌/◌, ◌%◌, ◌<◌}
 use native.Mathlib.Omega.{arith}
 use native.Mathlib.Nat.{div-add-mod', mul-pos}
 use mathlib.Core.Path.{◌≡◌, refl, ap, ◌∙◌}

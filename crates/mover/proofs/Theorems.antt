@@ -1,6 +1,6 @@
 -- WHAT IS PROMISED OF A MOVER that no check refuses: at each key's moment the near corner is the key's; at every time of a stretch the Box is where even motion
 -- puts it, in fractions; and a mover of two keys is the same Box as a proxy with a displacement.
-use Prim.Native.Nat.{ℕ, ◌+◌, ◌-◌, ◌*◌, ◌<◌}
+use Prim.Native.Nat.{ℕ, ◌+◌, ◌<◌}
 use native.Mathlib.Omega.{arith}
 use native.Mathlib.Nat.{eq_of_mul-eq-mul_right}
 use mathlib.Core.Path.{◌≡◌, refl, sym, ap, ap₂, ◌∙◌}

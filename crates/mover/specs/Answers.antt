@@ -1,6 +1,6 @@
 -- Rules 15.8 to 15.10: what the call answers and what it leaves in lent room. The refusals are in the order 2, 10, 11,
 -- 12, 3 for the rows, 3 for the balls, the tree's own, and 6 with the largest need of any stretch.
-use Rattle.std.specs.Prelude.{ℕ, zero, suc, ◌+◌, ◌-◌, cond, ◌&&◌, List, [], ◌∷◌, ◌++◌, leb, eqb, ℤ, length, drop}
+use Rattle.std.specs.Prelude.{ℕ, zero, suc, ◌-◌, cond, ◌&&◌, List, [], ◌∷◌, ◌++◌, leb, eqb, ℤ, length, drop}
 use Rattle.universe.specs.declared.Universe.{Universe}
 use Rattle.universe.specs.Refusals.{unless, first_refusal, bad_universe, bad_rows, no_room}
 use Rattle.universe.specs.Lent.{room_refusal}

@@ -135,7 +135,7 @@ fn judge_in(
         length (stretch_raw universe m surfaces words.now i) ≤ length out.old }
     ensures result_value { let m = mover_of size moments.now corners.now in
         let surfaces = surfaces_of rows.now balls.now in
-        let words = words.entry.now in
+        let words = words.now in
         let length = length (stretch_raw universe m surfaces words i) in
         result ≡ done_clearance (stretch_verdict universe m surfaces words i) length }
     ensures out_after { let m = mover_of size moments.now corners.now in
@@ -176,7 +176,7 @@ fn judge_stretch(
         length (stretch_raw universe m surfaces words.now i) ≤ length out.old }
     ensures result_value { let m = mover_of size moments.now corners.now in
         let surfaces = surfaces_of rows.now balls.now in
-        let words = words.entry.now in
+        let words = words.now in
         let length = length (stretch_raw universe m surfaces words i) in
         result ≡ done_clearance (stretch_verdict universe m surfaces words i) length }
     ensures out_after { let m = mover_of size moments.now corners.now in
@@ -223,7 +223,7 @@ pub(crate) fn judge_all(
         Fits universe m (surfaces_of rows.now balls.now) words.now out.old }
     ensures result_value { let m = mover_of size moments.now corners.now in
         let surfaces = surfaces_of rows.now balls.now in
-        let words = words.entry.now in
+        let words = words.now in
         let length = length (stretch_raw universe m surfaces words (stretches moments.now - 1)) in
         result ≡ done_clearance (mover_verdict universe m surfaces words) length }
     ensures out_after { let m = mover_of size moments.now corners.now in

@@ -1,4 +1,6 @@
 // Keyed movers: a Box that moves evenly from key to key against one static tree, every frame by its own stretch.
+#![tactic(auto)]
+
 mod judge;
 mod key;
 mod scene;

@@ -6,43 +6,43 @@ use Rattle.mover.proofs.Answers.{checked_mover, checked_rows, checked_balls, che
 use Rattle.mover.proofs.checked.Statement.{statement}
 use Rattle.mover.proofs.checked.Tie as tie
 
-returns : tie.Need-returns
+returns : tie.Need-returns-then-wrong_mover-ne0
 returns c =
-    let a = c.before.before.before.before.before.args in
+    let a = c.args in
     checked_mover a.universe (mover_of a.size a.moments.now a.corners.now) (surfaces_of a.rows.now a.balls.now) a.words.now
-    c.before.mover-refusal.ensures c.if1.true
+    c.mover_refusal-wrong_mover.ensures c.if-wrong_mover-ne0.true
 
-returns-2 : tie.Need-returns-2
+returns-2 : tie.Need-returns-then-wrong_rows-ne0
 returns-2 c =
-    let e = c.before.before in
-    let k = e.before in
-    let a = k.before.before.before.before.args in
+    let e = c in
+    let k = e in
+    let a = k.args in
     checked_rows a.universe (mover_of a.size a.moments.now a.corners.now) (surfaces_of a.rows.now a.balls.now) a.words.now
-    k.mover-refusal.ensures e.if1.false c.before.static-refusal.ensures c.if2.true
+    k.mover_refusal-wrong_mover.ensures e.if-wrong_mover-ne0.false c.static_refusal-wrong_rows.ensures c.if-wrong_rows-ne0.true
 
-returns-3 : tie.Need-returns-3
+returns-3 : tie.Need-returns-then-wrong_balls-ne0
 returns-3 c =
-    let rows = c.before.before in
-    let e = rows.before.before in
-    let k = e.before in
-    let a = k.before.before.before.before.args in
+    let rows = c in
+    let e = rows in
+    let k = e in
+    let a = k.args in
     checked_balls a.universe (mover_of a.size a.moments.now a.corners.now) (surfaces_of a.rows.now a.balls.now) a.words.now
-    k.mover-refusal.ensures e.if1.false rows.before.static-refusal.ensures rows.if2.false c.before.check-balls.ensures c.if3.true
+    k.mover_refusal-wrong_mover.ensures e.if-wrong_mover-ne0.false rows.static_refusal-wrong_rows.ensures rows.if-wrong_rows-ne0.false c.check_balls-wrong_balls.ensures c.if-wrong_balls-ne0.true
 
-returns-4 : tie.Need-returns-4
+returns-4 : tie.Need-returns
 returns-4 c =
-    let balls = c.before in
-    let rows = balls.before.before in
-    let e = rows.before.before in
-    let k = e.before in
-    let a = k.before.before.before.before.args in
+    let balls = c in
+    let rows = balls in
+    let e = rows in
+    let k = e in
+    let a = k.args in
     checked_tree a.universe (mover_of a.size a.moments.now a.corners.now) (surfaces_of a.rows.now a.balls.now) a.words.now
-    k.mover-refusal.ensures e.if1.false rows.before.static-refusal.ensures rows.if2.false
-    balls.before.check-balls.ensures balls.if3.false
-    c.check-tree.ensures
+    k.mover_refusal-wrong_mover.ensures e.if-wrong_mover-ne0.false rows.static_refusal-wrong_rows.ensures rows.if-wrong_rows-ne0.false
+    balls.check_balls-wrong_balls.ensures balls.if-wrong_balls-ne0.false
+    c.check_tree.ensures
 
-pub checked-spec : {M : Type 1} → statement M
-checked-spec =
+pub checked_spec : {M : Type 1} → statement M
+checked_spec =
     tie.close
     (tie.spec
     (λ c κs. search rules)

@@ -2,14 +2,9 @@
 use Rattle.mover.proofs.Answers.{mover_laws}
 use Rattle.mover.proofs.mover_refusal.Statement.{statement}
 use Rattle.mover.proofs.mover_refusal.Tie as tie
-use Rattle.mover.proofs.axes_refusal.Reads as axes-refusal-reads
-use Rattle.mover.proofs.key.corners_refusal.Reads as corners-refusal-reads
-use Rattle.mover.proofs.key.keys_refusal.Reads as keys-refusal-reads
-use Rattle.mover.proofs.key.still_refusal.Reads as still-refusal-reads
-use Rattle.mover.proofs.step.steps_refusal.Reads as steps-refusal-reads
 
-pub mover-refusal-spec : {M : Type 1} → statement M
-mover-refusal-spec =
+pub mover_refusal_spec : {M : Type 1} → statement M
+mover_refusal_spec =
     tie.close
     (tie.spec
     (λ c κs. search mover_laws)

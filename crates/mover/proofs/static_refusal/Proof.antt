@@ -2,7 +2,6 @@
 use Rattle.mover.proofs.Answers.{axes_laws}
 use Rattle.mover.proofs.static_refusal.Statement.{statement}
 use Rattle.mover.proofs.static_refusal.Tie as tie
-use Rattle.csg.proofs.check_rows.Reads as check-rows-reads
 
-pub static-refusal-spec : {M : Type 1} → statement M
-static-refusal-spec = tie.close (tie.spec (λ c κs. search axes_laws) (λ c. search axes_laws) (λ c. search axes_laws) (λ c. search axes_laws))
+pub static_refusal_spec : {M : Type 1} → statement M
+static_refusal_spec = tie.close (tie.spec (λ c κs. search axes_laws) (λ c. search axes_laws) (λ c. search axes_laws) (λ c. search axes_laws))

@@ -1,75 +1,81 @@
 -- `verdict_of_mover` ends in a refusal by a check, in one for room, or in the verdict of all stretches. Each answer is a law of proofs/Answers.antt.
 use borrow.Author.Rules.{rules}
-use mathlib.Core.Logic.{⊎_elim}
+use mathlib.Core.Path.{ap}
+use mathlib.Core.Bool.{not}
 use Rattle.csg.specs.Surfaces.{surfaces_of}
 use Rattle.mover.specs.Keys.{mover_of}
 use Rattle.mover.proofs.Answers.{ends_refused, ends_short, ends_done, room_asks, room_needed, room_enough}
 use Rattle.mover.proofs.verdict_of_mover.Statement.{statement}
+use Rattle.mover.proofs.verdict_of_mover.Lts.{then-not-has_room+else-out-need, else-not-has_room}
 use Rattle.mover.proofs.verdict_of_mover.Tie as tie
 
-returns : tie.Need-returns
+returns : tie.Need-returns-then-refusal-ne0
 returns c =
-    let k = c.before.before in
-    let a = k.before.before.before.before.before.args in
+    let k = c in
+    let a = k.args in
     let m = mover_of a.size a.moments.now a.corners.now in
     ends_refused a.universe m (surfaces_of a.rows.now a.balls.now) a.words.now a.out.now
-    k.checked.ensures.0 c.before.if1.true c.refused.ensures
+    k.checked-refusal.ensures.0 c.if-refusal-ne0.true c.refused.ensures
 
-has-room-requires : tie.Need-has-room-requires
+has-room-requires : tie.Need-has_room-requires
 has-room-requires c κs =
-    let k = c.before in
-    let a = k.before.before.before.before.before.args in
+    let k = c in
+    let a = k.args in
     let m = mover_of a.size a.moments.now a.corners.now in
-    room_asks a.universe m (surfaces_of a.rows.now a.balls.now) a.words.now a.out.now (k.checked.ensures.1 c.if1.false)
+    room_asks a.universe m (surfaces_of a.rows.now a.balls.now) a.words.now a.out.now (k.checked-refusal.ensures.1 c.if-refusal-ne0.false)
 
-largest-need-requires : tie.Need-largest-need-requires
-largest-need-requires c κs = let e = c.before.before in e.before.checked.ensures.1 e.if1.false
+largest-need-requires : tie.Need-largest_need-need-requires
+largest-need-requires c κs = let e = c in e.checked-refusal.ensures.1 e.if-refusal-ne0.false
 
-returns-2 : tie.Need-returns-2
+returns-2 : tie.Need-returns-then-out-need
 returns-2 c =
-    let needed = c.before.before in
-    let e = needed.before.before.before in
-    let k = e.before in
-    let a = k.before.before.before.before.before.args in
+    let needed = c in
+    let e = needed in
+    let k = e in
+    let a = k.args in
     let m = mover_of a.size a.moments.now a.corners.now in
     ends_short a.universe m (surfaces_of a.rows.now a.balls.now) a.words.now a.out.now
-    k.checked.ensures.0 e.if1.false needed.largest-need.ensures c.before.if3.true c.refused2.ensures
+    k.checked-refusal.ensures.0 e.if-refusal-ne0.false needed.largest_need-need.ensures c.if-out-need.true c.refused-then-out-need.ensures
 
-judge-all-requires : tie.Need-judge-all-requires
+judge-all-requires : tie.Need-judge_all-requires
 judge-all-requires c κs =
-    let asked = c.before.before in
-    let e = asked.before in
-    let k = e.before in
-    let a = k.before.before.before.before.before.args in
+    let asked = c in
+    let e = asked in
+    let k = e in
+    let a = k.args in
     let m = mover_of a.size a.moments.now a.corners.now in
-    let r = k.checked.ensures.1 e.if1.false in
-    ⊎_elim
-    (λ w. room_needed a.universe m (surfaces_of a.rows.now a.balls.now) a.words.now a.out.now r w.1.ensures w.2.left)
-    (λ w. room_enough a.universe m (surfaces_of a.rows.now a.balls.now) a.words.now a.out.now r asked.has_room.ensures w.left)
-    c.before.if2.branch
+    let r = k.checked-refusal.ensures.1 e.if-refusal-ne0.false in
+    elim c.if-not-has_room.branch [
+      | then-not-has_room+else-out-need w ↦
+          room_needed a.universe m (surfaces_of a.rows.now a.balls.now) a.words.now a.out.now r w.largest_need-need.ensures w.if-out-need.false
+      | else-not-has_room w ↦
+          room_enough a.universe m (surfaces_of a.rows.now a.balls.now) a.words.now a.out.now r asked.has_room.ensures (ap not w.if-not-has_room.false)
+    ]
 
-returns-3 : tie.Need-returns-3
+returns-3 : tie.Need-returns
 returns-3 c =
-    let judged = c.before.before in
-    let joint = judged.before.before in
-    let asked = joint.before in
-    let e = asked.before in
-    let k = e.before in
-    let a = k.before.before.before.before.before.args in
+    let judged = c in
+    let joint = judged in
+    let asked = joint in
+    let e = asked in
+    let k = e in
+    let a = k.args in
     let m = mover_of a.size a.moments.now a.corners.now in
     let surfaces = surfaces_of a.rows.now a.balls.now in
-    let r = k.checked.ensures.1 e.if1.false in
-    ⊎_elim
-    (λ w. ends_done a.universe m surfaces a.words.now a.out.now k.checked.ensures.0 e.if1.false
-    (room_needed a.universe m surfaces a.words.now a.out.now r w.1.ensures w.2.left).room
-    judged.judge-all.ensures.0 judged.judge-all.ensures.1)
-    (λ w. ends_done a.universe m surfaces a.words.now a.out.now k.checked.ensures.0 e.if1.false
-    (room_enough a.universe m surfaces a.words.now a.out.now r asked.has_room.ensures w.left).room
-    judged.judge-all.ensures.0 judged.judge-all.ensures.1)
-    joint.if2.branch
+    let r = k.checked-refusal.ensures.1 e.if-refusal-ne0.false in
+    elim joint.if-not-has_room.branch [
+      | then-not-has_room+else-out-need w ↦
+          ends_done a.universe m surfaces a.words.now a.out.now k.checked-refusal.ensures.0 e.if-refusal-ne0.false
+          (room_needed a.universe m surfaces a.words.now a.out.now r w.largest_need-need.ensures w.if-out-need.false).room
+          judged.judge_all.ensures.0 judged.judge_all.ensures.1
+      | else-not-has_room w ↦
+          ends_done a.universe m surfaces a.words.now a.out.now k.checked-refusal.ensures.0 e.if-refusal-ne0.false
+          (room_enough a.universe m surfaces a.words.now a.out.now r asked.has_room.ensures (ap not w.if-not-has_room.false)).room
+          judged.judge_all.ensures.0 judged.judge_all.ensures.1
+    ]
 
-pub verdict-of-mover-spec : {M : Type 1} → statement M
-verdict-of-mover-spec =
+pub verdict_of_mover_spec : {M : Type 1} → statement M
+verdict_of_mover_spec =
     tie.close
     (tie.spec
     (λ c κs. search rules)

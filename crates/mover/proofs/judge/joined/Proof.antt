@@ -3,8 +3,8 @@ use Rattle.mover.proofs.Judging.{joined_laws}
 use Rattle.mover.proofs.judge.joined.Statement.{statement}
 use Rattle.mover.proofs.judge.joined.Tie as tie
 
-pub joined-spec : {M : Type 1} → statement M
-joined-spec =
+pub joined_spec : {M : Type 1} → statement M
+joined_spec =
     tie.close
     (tie.spec
     (λ c. search joined_laws)

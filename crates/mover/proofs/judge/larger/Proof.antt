@@ -3,5 +3,5 @@ use Rattle.mover.proofs.Judging.{larger_laws}
 use Rattle.mover.proofs.judge.larger.Statement.{statement}
 use Rattle.mover.proofs.judge.larger.Tie as tie
 
-pub larger-spec : {M : Type 1} → statement M
-larger-spec = tie.close (tie.spec (λ c. search larger_laws) (λ c. search larger_laws))
+pub larger_spec : {M : Type 1} → statement M
+larger_spec = tie.close (tie.spec (λ c. search larger_laws) (λ c. search larger_laws))

@@ -9,24 +9,24 @@ use Rattle.mover.proofs.Judging.{NeedsSofar, needs_start, needs_few, needs_ready
 use Rattle.mover.proofs.judge.largest_need.Statement.{statement}
 use Rattle.mover.proofs.judge.largest_need.Tie as tie
 
-abbrev invariant-loop : tie.invariant-loop
+abbrev invariant-loop : tie.invariant-loop-i
 invariant-loop universe size moments corners rows balls words need₀ i₀ need i =
     NeedsSofar universe (mover_of size moments corners) (surfaces_of rows balls) words i need
 
-abbrev decreases-loop : tie.decreases-loop
+abbrev decreases-loop : tie.decreases-loop-i
 decreases-loop universe size moments corners rows balls words need₀ i₀ need i = length moments - i
 
-pub largest-need-spec : {M : Type 1} → statement M
-largest-need-spec =
+pub largest_need_spec : {M : Type 1} → statement M
+largest_need_spec =
     tie.close
     (tie.spec
     invariant-loop
     decreases-loop
-    (λ c. needs_start c.before.before.before.requires)
-    (λ c. omega (arith, needs_few c.loop.invariant))
-    (λ c κs. needs_ready c.before.loop.invariant c.loop-test.true)
+    (λ c. needs_start c.requires)
+    (λ c. omega (arith, needs_few c.loop-i.invariant))
+    (λ c κs. needs_ready c.loop-i.invariant c.loop-i-test.true)
     (λ c κs. search rules)
-    (λ c. omega (arith, needs_few c.before.before.before.loop.invariant))
-    (λ c. omega (arith, needs_few c.before.before.before.loop.invariant, c.before.before.loop-test.true))
-    (λ c. needs_next c.before.before.before.loop.invariant c.before.before.loop-test.true c.before.need-of.ensures c.larger.ensures)
-    (λ c. needs_end c.before.loop.invariant c.loop-test.false))
+    (λ c. omega (arith, needs_few c.loop-i.invariant))
+    (λ c. omega (arith, needs_few c.loop-i.invariant, c.loop-i-test.true))
+    (λ c. needs_next c.loop-i.invariant c.loop-i-test.true c.need_of.ensures c.larger-need.ensures)
+    (λ c. needs_end c.loop-i.invariant c.loop-i-test.false))

@@ -4,16 +4,15 @@ use lib.ListN.{length}
 use Rattle.mover.proofs.Keys.{CornersPassed, key_laws}
 use Rattle.mover.proofs.key.corners_refusal.Statement.{statement}
 use Rattle.mover.proofs.key.corners_refusal.Tie as tie
-use Rattle.mover.proofs.key.is_taken.Reads as is-taken-reads
 
-abbrev invariant-loop : tie.invariant-loop
+abbrev invariant-loop : tie.invariant-loop-i
 invariant-loop corners i₀ i = CornersPassed corners i
 
-abbrev decreases-loop : tie.decreases-loop
+abbrev decreases-loop : tie.decreases-loop-i
 decreases-loop corners i₀ i = length corners - i
 
-pub corners-refusal-spec : {M : Type 1} → statement M
-corners-refusal-spec =
+pub corners_refusal_spec : {M : Type 1} → statement M
+corners_refusal_spec =
     tie.close
     (tie.spec
     invariant-loop

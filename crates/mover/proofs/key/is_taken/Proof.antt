@@ -2,7 +2,6 @@
 use Rattle.mover.proofs.Keys.{key_laws}
 use Rattle.mover.proofs.key.is_taken.Statement.{statement}
 use Rattle.mover.proofs.key.is_taken.Tie as tie
-use Rattle.standin.proofs.corner_sixteenths.Reads as corner-sixteenths-reads
 
-pub is-taken-spec : {M : Type 1} → statement M
-is-taken-spec = tie.close (tie.spec (λ c κs. search key_laws) (λ c. search key_laws))
+pub is_taken_spec : {M : Type 1} → statement M
+is_taken_spec = tie.close (tie.spec (λ c κs. search key_laws) (λ c. search key_laws))

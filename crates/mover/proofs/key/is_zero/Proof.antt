@@ -3,5 +3,5 @@ use Rattle.mover.proofs.Keys.{key_laws}
 use Rattle.mover.proofs.key.is_zero.Statement.{statement}
 use Rattle.mover.proofs.key.is_zero.Tie as tie
 
-pub is-zero-spec : {M : Type 1} → statement M
-is-zero-spec = tie.close (tie.spec (λ c. search key_laws))
+pub is_zero_spec : {M : Type 1} → statement M
+is_zero_spec = tie.close (tie.spec (λ c. search key_laws))

@@ -2,12 +2,9 @@
 use Rattle.mover.proofs.Keys.{key_laws}
 use Rattle.mover.proofs.key.keys_refusal.Statement.{statement}
 use Rattle.mover.proofs.key.keys_refusal.Tie as tie
-use Rattle.mover.proofs.key.are_within.Reads as are-within-reads
-use Rattle.mover.proofs.key.is_rising.Reads as is-rising-reads
-use Rattle.universe.proofs.Universe.side.Reads as side-reads
 
-pub keys-refusal-spec : {M : Type 1} → statement M
-keys-refusal-spec =
+pub keys_refusal_spec : {M : Type 1} → statement M
+keys_refusal_spec =
     tie.close
     (tie.spec
     (λ c. search key_laws)

@@ -4,9 +4,9 @@ use Rattle.mover.proofs.Scenes.{scene_laws}
 use Rattle.mover.proofs.scene.box_words.Statement.{statement}
 use Rattle.mover.proofs.scene.box_words.Tie as tie
 
-pub box-words-spec : {M : Type 1} → statement M
+pub box_words_spec : {M : Type 1} → statement M
 unfolding box_words
-box-words-spec =
+box_words_spec =
     tie.close
     (tie.spec
     (λ c. search scene_laws)

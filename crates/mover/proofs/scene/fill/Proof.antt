@@ -6,12 +6,11 @@ use Rattle.mover.specs.Ready.{SixRows}
 use Rattle.mover.proofs.Scenes.{Filling, scene_laws}
 use Rattle.mover.proofs.scene.fill.Statement.{statement}
 use Rattle.mover.proofs.scene.fill.Tie as tie
-use Rattle.mover.proofs.scene.number_at.Reads as number-at-reads
 
-abbrev invariant-loop : tie.invariant-loop
+abbrev invariant-loop : tie.invariant-loop-n
 invariant-loop rows six all₀ count n₀ all n = SixRows six × Filling (rows ++ flat six) all₀ n all
 
-abbrev decreases-loop : tie.decreases-loop
+abbrev decreases-loop : tie.decreases-loop-n
 decreases-loop rows six all₀ count n₀ all n = count - n
 
 pub fill_spec : {M : Type 1} → statement M

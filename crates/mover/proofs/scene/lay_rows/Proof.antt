@@ -7,17 +7,17 @@ use Rattle.mover.proofs.scene.lay_rows.Tie as tie
 
 fill-requires : tie.Need-fill-requires
 fill-requires c κs =
-    let s = c.before.before.before.before in
+    let s = c in
     let m = mover_of s.args.size s.args.moments.now s.args.corners.now in
-    (laid_six m s.args.i c.before.rows_of_lem.ensures, s.requires.1)
+    (laid_six m s.args.i c.rows_of-six.ensures, s.requires.1)
 
 returns : tie.Need-returns
 returns c =
-    let s = c.before.before.before.before.before.before in
+    let s = c in
     let m = mover_of s.args.size s.args.moments.now s.args.corners.now in
-    let six = c.before.before.before.rows_of_lem.ensures in
-    let filled = c.before.fill.ensures in
+    let six = c.rows_of-six.ensures in
+    let filled = c.fill.ensures in
     (laid_count_lem m s.args.i six s.args.rows.now filled.0, laid_all m s.args.i six s.args.rows.now s.args.all.now filled.1)
 
-pub lay-rows-spec : {M : Type 1} → statement M
-lay-rows-spec = tie.close (tie.spec (λ c κs. search rules) fill-requires (λ c. search rules) returns)
+pub lay_rows_spec : {M : Type 1} → statement M
+lay_rows_spec = tie.close (tie.spec (λ c κs. search rules) fill-requires (λ c. search rules) returns)

@@ -3,8 +3,8 @@ use Rattle.mover.proofs.Scenes.{scene_laws}
 use Rattle.mover.proofs.scene.number_at.Statement.{statement}
 use Rattle.mover.proofs.scene.number_at.Tie as tie
 
-pub number-at-spec : {M : Type 1} → statement M
-number-at-spec =
+pub number_at_spec : {M : Type 1} → statement M
+number_at_spec =
     tie.close
     (tie.spec
     (λ c. search scene_laws)

@@ -2,10 +2,8 @@
 use Rattle.mover.proofs.Steps.{change_laws}
 use Rattle.mover.proofs.step.change_of.Statement.{statement}
 use Rattle.mover.proofs.step.change_of.Tie as tie
-use Rattle.mover.proofs.step.corner_at.Reads as corner-at-reads
-use Rattle.mover.proofs.step.less.Reads as less-reads
 
-pub change-of-spec : {M : Type 1} → statement M
-change-of-spec =
+pub change_of_spec : {M : Type 1} → statement M
+change_of_spec =
     tie.close
     (tie.spec (λ c. search change_laws) (λ c κs. search change_laws) (λ c κs. search change_laws) (λ c κs. search change_laws) (λ c. search change_laws))

@@ -2,10 +2,9 @@
 use Rattle.mover.proofs.Steps.{change_laws}
 use Rattle.mover.proofs.step.corner_at.Statement.{statement}
 use Rattle.mover.proofs.step.corner_at.Tie as tie
-use Rattle.standin.proofs.corner_sixteenths.Reads as corner-sixteenths-reads
 
-pub corner-at-spec : {M : Type 1} → statement M
-corner-at-spec =
+pub corner_at_spec : {M : Type 1} → statement M
+corner_at_spec =
     tie.close
     (tie.spec
     (λ c. search change_laws)

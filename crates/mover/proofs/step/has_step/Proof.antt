@@ -2,10 +2,7 @@
 use Rattle.mover.proofs.Steps.{change_laws}
 use Rattle.mover.proofs.step.has_step.Statement.{statement}
 use Rattle.mover.proofs.step.has_step.Tie as tie
-use Rattle.mover.proofs.step.are_steps.Reads as are-steps-reads
-use Rattle.mover.proofs.step.change_of.Reads as change-of-reads
-use Rattle.mover.proofs.step.frames_of.Reads as frames-of-reads
 
-pub has-step-spec : {M : Type 1} → statement M
-has-step-spec =
+pub has_step_spec : {M : Type 1} → statement M
+has_step_spec =
     tie.close (tie.spec (λ c κs. search change_laws) (λ c κs. search change_laws) (λ c κs. search change_laws) (λ c. search change_laws))

@@ -2,7 +2,6 @@
 use Rattle.mover.proofs.Steps.{step_laws}
 use Rattle.mover.proofs.step.is_step.Statement.{statement}
 use Rattle.mover.proofs.step.is_step.Tie as tie
-use Rattle.mover.proofs.step.size_of.Reads as size-of-reads
 
-pub is-step-spec : {M : Type 1} → statement M
-is-step-spec = tie.close (tie.spec (λ c κs. search step_laws) (λ c. search step_laws) (λ c. search step_laws) (λ c. search step_laws) (λ c. search step_laws))
+pub is_step_spec : {M : Type 1} → statement M
+is_step_spec = tie.close (tie.spec (λ c κs. search step_laws) (λ c. search step_laws) (λ c. search step_laws) (λ c. search step_laws) (λ c. search step_laws))

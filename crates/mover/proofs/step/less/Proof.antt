@@ -3,5 +3,5 @@ use Rattle.mover.proofs.Steps.{less_laws}
 use Rattle.mover.proofs.step.less.Statement.{statement}
 use Rattle.mover.proofs.step.less.Tie as tie
 
-pub less-spec : {M : Type 1} → statement M
-less-spec = tie.close (tie.spec (λ c. search less_laws) (λ c. search less_laws) (λ c. search less_laws) (λ c. search less_laws))
+pub less_spec : {M : Type 1} → statement M
+less_spec = tie.close (tie.spec (λ c. search less_laws) (λ c. search less_laws) (λ c. search less_laws) (λ c. search less_laws))

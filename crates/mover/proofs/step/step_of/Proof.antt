@@ -2,10 +2,9 @@
 use Rattle.mover.proofs.Steps.{step_laws}
 use Rattle.mover.proofs.step.step_of.Statement.{statement}
 use Rattle.mover.proofs.step.step_of.Tie as tie
-use Rattle.mover.proofs.step.size_of.Reads as size-of-reads
 
-pub step-of-spec : {M : Type 1} → statement M
-step-of-spec =
+pub step_of_spec : {M : Type 1} → statement M
+step_of_spec =
     tie.close
     (tie.spec
     (λ c κs. search step_laws)

@@ -5,16 +5,15 @@ use Rattle.mover.specs.Ready.{HasStretches}
 use Rattle.mover.proofs.Steps.{StepsPassed, refusal_laws}
 use Rattle.mover.proofs.step.steps_refusal.Statement.{statement}
 use Rattle.mover.proofs.step.steps_refusal.Tie as tie
-use Rattle.mover.proofs.step.has_step.Reads as has-step-reads
 
-abbrev invariant-loop : tie.invariant-loop
+abbrev invariant-loop : tie.invariant-loop-i
 invariant-loop moments corners i₀ i = HasStretches moments corners × StepsPassed moments corners i
 
-abbrev decreases-loop : tie.decreases-loop
+abbrev decreases-loop : tie.decreases-loop-i
 decreases-loop moments corners i₀ i = length moments - i
 
-pub steps-refusal-spec : {M : Type 1} → statement M
-steps-refusal-spec =
+pub steps_refusal_spec : {M : Type 1} → statement M
+steps_refusal_spec =
     tie.close
     (tie.spec
     invariant-loop

@@ -3,5 +3,5 @@ use Rattle.mover.proofs.Stretches.{more_laws}
 use Rattle.mover.proofs.stretch.more.Statement.{statement}
 use Rattle.mover.proofs.stretch.more.Tie as tie
 
-pub more-spec : {M : Type 1} → statement M
-more-spec = tie.close (tie.spec (λ c. search more_laws) (λ c. search more_laws) (λ c. search more_laws) (λ c. search more_laws))
+pub more_spec : {M : Type 1} → statement M
+more_spec = tie.close (tie.spec (λ c. search more_laws) (λ c. search more_laws) (λ c. search more_laws) (λ c. search more_laws))

@@ -3,39 +3,39 @@ use Rattle.mover.proofs.Stretches.{rows_work, rows_more, rows_are, rows_laws}
 use Rattle.mover.proofs.stretch.rows_of.Statement.{statement}
 use Rattle.mover.proofs.stretch.rows_of.Tie as tie
 
-worked-back-requires : tie.Need-worked-back-requires
+worked-back-requires : tie.Need-worked_back-near-requires
 worked-back-requires c κs =
-    let corner = c.before in
-    let step = corner.before in
-    let frames = step.before in
-    let change = frames.before in
-    rows_work change.before.before.before.requires frames.frames-of.ensures change.change-of.ensures step.steps_of.ensures
-    corner.corner-at.ensures
+    let corner = c in
+    let step = corner in
+    let frames = step in
+    let change = frames in
+    rows_work change.requires frames.frames_of.ensures change.change_of-change.ensures step.steps_of-step.ensures
+    corner.corner_at-corner.ensures
 
-more-requires : tie.Need-more-requires
+more-requires : tie.Need-more-far-requires
 more-requires c κs =
-    let near = c.before in
-    let corner = near.before.before in
-    let step = corner.before in
-    let frames = step.before in
-    let change = frames.before in
-    rows_more change.before.before.before.requires frames.frames-of.ensures change.change-of.ensures step.steps_of.ensures
-    corner.corner-at.ensures near.worked-back.ensures c.type_size.ensures
+    let near = c in
+    let corner = near in
+    let step = corner in
+    let frames = step in
+    let change = frames in
+    rows_more change.requires frames.frames_of.ensures change.change_of-change.ensures step.steps_of-step.ensures
+    corner.corner_at-corner.ensures near.worked_back-near.ensures c.size_of-extent.ensures
 
 returns : tie.Need-returns
 returns c =
-    let far = c.before in
-    let extent = far.before in
-    let near = extent.before in
-    let corner = near.before.before in
-    let step = corner.before in
-    let frames = step.before in
-    let change = frames.before in
-    rows_are change.before.before.before.requires frames.frames-of.ensures change.change-of.ensures step.steps_of.ensures
-    corner.corner-at.ensures near.worked-back.ensures extent.type_size.ensures far.more.ensures c.rows-between.ensures
+    let far = c in
+    let extent = far in
+    let near = extent in
+    let corner = near in
+    let step = corner in
+    let frames = step in
+    let change = frames in
+    rows_are change.requires frames.frames_of.ensures change.change_of-change.ensures step.steps_of-step.ensures
+    corner.corner_at-corner.ensures near.worked_back-near.ensures extent.size_of-extent.ensures far.more-far.ensures c.rows_between.ensures
 
-pub rows-of-spec : {M : Type 1} → statement M
-rows-of-spec =
+pub rows_of_spec : {M : Type 1} → statement M
+rows_of_spec =
     tie.close
     (tie.spec
     (λ c κs. search rows_laws)

@@ -2,11 +2,9 @@
 use Rattle.mover.proofs.Stretches.{size_laws}
 use Rattle.mover.proofs.stretch.size_of.Statement.{statement}
 use Rattle.mover.proofs.stretch.size_of.Tie as tie
-use Rattle.mover.proofs.step.less.Reads as less-reads
-use Rattle.standin.proofs.corner_sixteenths.Reads as corner-sixteenths-reads
 
-pub size-of-spec : {M : Type 1} → statement M
-size-of-spec =
+pub size_of_spec : {M : Type 1} → statement M
+size_of_spec =
     tie.close
     (tie.spec
     (λ c. search size_laws)
