@@ -77,7 +77,8 @@ fn move_row(
     ensures { RowMoved up rows.now row axis times round values.old rounds.old
         values.new rounds.new }
 {
-    if rounds[row] == round {
+    let is_due = rounds[row] == round;
+    if is_due {
         let step = amount(rows[csg::ROW_LENGTH * row + 1 + axis], times);
         let value = values[row];
         values[row] = stepped(up, value, step);

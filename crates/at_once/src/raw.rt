@@ -15,6 +15,9 @@ use crate::prune::{MOST_SHAPES, prune};
 use crate::voxel::trees_digit;
 use universe::Universe;
 
+// No level is left of a block that is a voxel.
+const OF_A_VOXEL: u64 = 0;
+
 // Writes the raw shape of a block from `at` on, as far as there is room, and gives the place past it. The codes of what
 // is carried into it stay.
 #[cycle(raw_block_raw_halves)]
@@ -53,7 +56,7 @@ pub(crate) fn raw_block(
     ensures shelves_2 { Shelves starts.new marks.new }
     ensures unmoved { Unmoved values.old rounds.old values.new rounds.new }
 {
-    if left == 0 {
+    if left == OF_A_VOXEL {
         let digit = trees_digit(axes, rows, balls, low, codes, from, count, marks, values);
         bintree::note(out, at, symbol_of(digit));
         return at + 1;

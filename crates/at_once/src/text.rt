@@ -114,6 +114,9 @@ fn write_sixteen(word: u64, out: &mut [u8], at: usize) -> usize
     write_eight(word / 256, out, middle)
 }
 
+// Thirty-two digits that are all 1.
+const THIRTY_TWO_ONES: u64 = 0xffff_ffff;
+
 fn write_thirty_two(word: u64, out: &mut [u8], at: usize) -> usize
     requires { RoomyText word 5 out.old at }
     ensures { WrittenText word 5 out.old at result out.new }
@@ -122,7 +125,7 @@ fn write_thirty_two(word: u64, out: &mut [u8], at: usize) -> usize
         out[at] = b'W';
         return at + 1;
     }
-    if word == 0xffff_ffff {
+    if word == THIRTY_TWO_ONES {
         out[at] = b'B';
         return at + 1;
     }

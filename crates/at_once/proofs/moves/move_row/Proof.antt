@@ -13,7 +13,7 @@ mul-amount c = search rules
 add-amount : tie.Need-overflow_add-row
 add-amount c = search rules
 
-add-amount-2 : tie.Need-overflow_add-row-then-rounds-row
+add-amount-2 : tie.Need-overflow_add-row-then-is_due
 add-amount-2 c = search rules
 
 mul-amount-2 : tie.Need-offset_bounds-rows-row
@@ -32,27 +32,27 @@ element-copy-out-value : tie.Need-bounds-values-row
 element-copy-out-value c = search rules
 
 stepped-requires : tie.Need-stepped-requires
-stepped-requires c κs = step_asks c.requires c.amount-step.ensures c.if-rounds-row.true
+stepped-requires c κs = step_asks c.requires c.amount-step.ensures c.if-is_due.true
 
-mul-t18 : tie.Need-offset_bounds-values-row-then-rounds-row
+mul-t18 : tie.Need-offset_bounds-values-row-then-is_due
 mul-t18 c = search rules
 
-element-set-from-values : tie.Need-bounds-values-row-then-rounds-row
+element-set-from-values : tie.Need-bounds-values-row-then-is_due
 element-set-from-values c = search rules
 
 sub-rounds : tie.Need-overflow_sub-rounds
 sub-rounds c = search rules
 
-element-write-rounds : tie.Need-bounds-rounds-row-then-rounds-row
+element-write-rounds : tie.Need-bounds-rounds-row-then-is_due
 element-write-rounds c = search rules
 
-returns : tie.Need-returns-then-rounds-row
+returns : tie.Need-returns-then-is_due
 returns c =
     row_moved c.requires c.amount-step.ensures
-    c.if-rounds-row.true c.stepped.ensures
+    c.if-is_due.true c.stepped.ensures
 
-returns-2 : tie.Need-returns-else-rounds-row
-returns-2 c = row_stays c.requires c.if-rounds-row.false
+returns-2 : tie.Need-returns-else-is_due
+returns-2 c = row_stays c.requires c.if-is_due.false
 
 pub move_row_spec : {M : Type 1} → statement M
 move_row_spec =

@@ -73,7 +73,7 @@ module _ (t : ℕ) where
   raw_block_trees_digit_requires : raw-block-lts.Need-trees_digit-digit-requires raw_block_claims raw_block_at raw-block.Post
   raw_block_trees_digit_requires c κs =
       let k = c in
-      (voxel_trees k.args.left c.if-left-eq0.true k.requires.1.0, (k.requires.1.1.0.codes_long, k.requires.1.1.1.1.right))
+      (voxel_trees k.args.left c.if-left-eq-OF_A_VOXEL.true k.requires.1.0, (k.requires.1.1.0.codes_long, k.requires.1.1.1.1.right))
 
   raw_block_symbol_of_requires : raw-block-lts.Need-symbol_of-requires raw_block_claims raw_block_at raw-block.Post
   raw_block_symbol_of_requires c κs = tt
@@ -84,16 +84,16 @@ module _ (t : ℕ) where
   raw_block_add_result : raw-block-lts.Need-overflow_add-result raw_block_claims raw_block_at raw-block.Post
   raw_block_add_result c = let k = c in omega (arith, block_fits k.requires.1.0 k.requires.1.1.1.0)
 
-  raw_block_same_length : raw-block-lts.Need-shape_of-codes-then-left-eq0 raw_block_claims raw_block_at raw-block.Post
+  raw_block_same_length : raw-block-lts.Need-shape_of-codes-then-left-eq-OF_A_VOXEL raw_block_claims raw_block_at raw-block.Post
   raw_block_same_length c = refl
 
-  raw_block_same_length_2 : raw-block-lts.Need-shape_of-out-then-left-eq0 raw_block_claims raw_block_at raw-block.Post
+  raw_block_same_length_2 : raw-block-lts.Need-shape_of-out-then-left-eq-OF_A_VOXEL raw_block_claims raw_block_at raw-block.Post
   raw_block_same_length_2 c = c.note.auto.out
 
-  raw_block_returns : raw-block-lts.Need-returns-then-left-eq0 raw_block_claims raw_block_at raw-block.Post
+  raw_block_returns : raw-block-lts.Need-returns-then-left-eq-OF_A_VOXEL raw_block_claims raw_block_at raw-block.Post
   raw_block_returns c =
       let k = c in
-      let z = c.if-left-eq0.true in
+      let z = c.if-left-eq-OF_A_VOXEL.true in
       let d = c.trees_digit-digit.ensures in (
         λ job. voxel_written job z (voxel_are k.args.left z job d.0) _ c.symbol_of.ensures c.note.ensures,
         (put_same, (record { starts_long = k.requires.1.1.0.starts_long; codes_long = d.1 }, unmoved)),
@@ -102,7 +102,7 @@ module _ (t : ℕ) where
   raw_block_prune_requires : raw-block-lts.Need-prune-kept-requires raw_block_claims raw_block_at raw-block.Post
   raw_block_prune_requires c κs =
       let k = c in
-      let two : 2 ≤ k.args.left + 1 = omega (arith, c.if-left-eq0.false) in
+      let two : 2 ≤ k.args.left + 1 = omega (arith, c.if-left-eq-OF_A_VOXEL.false) in
       (prune_job k.requires.1.0 two, (k.requires.1.1.0, k.requires.1.1.1.1.right))
 
   raw_block_symbol_of_requires_2 : raw-block-lts.Need-symbol_of-requires-then-mark-ne0 raw_block_claims raw_block_at raw-block.Post
@@ -125,7 +125,7 @@ module _ (t : ℕ) where
       let k = c in
       let some : 1 ≤ k.args.left = omega (
         arith,
-        c.if-left-eq0.false,
+        c.if-left-eq-OF_A_VOXEL.false,
       ) in
       let two : 2 ≤ k.args.left + 1 = omega (arith, some) in
       let p = c.prune-kept.ensures in (
@@ -142,7 +142,7 @@ module _ (t : ℕ) where
       let j = k.requires.1.0 in
       let some : 1 ≤ k.args.left = omega (
         arith,
-        c.if-left-eq0.false,
+        c.if-left-eq-OF_A_VOXEL.false,
       ) in
       let two : 2 ≤ k.args.left + 1 = omega (arith, some) in
       let p = c.prune-kept.ensures in
@@ -163,7 +163,7 @@ module _ (t : ℕ) where
       let j = k.requires.1.0 in
       let some : 1 ≤ k.args.left = omega (
         arith,
-        c.if-left-eq0.false,
+        c.if-left-eq-OF_A_VOXEL.false,
       ) in
       let two : 2 ≤ k.args.left + 1 = omega (arith, some) in
       let p = c.prune-kept.ensures

@@ -23,17 +23,17 @@ same_length c = search rules
 returns : tie.Need-returns-then-word-eq0
 returns c = white_stored c.requires c.if-word-eq0.true
 
-slice-write-out-2 : tie.Need-bounds-out-at-then-word-eq4294967295
+slice-write-out-2 : tie.Need-bounds-out-at-then-word-eq-THIRTY_TWO_ONES
 slice-write-out-2 c = search rules
 
-add-result-2 : tie.Need-overflow_add-result-then-word-eq4294967295
+add-result-2 : tie.Need-overflow_add-result-then-word-eq-THIRTY_TWO_ONES
 add-result-2 c = search rules
 
-same-length-2 : tie.Need-shape_of-out-then-word-eq4294967295
+same-length-2 : tie.Need-shape_of-out-then-word-eq-THIRTY_TWO_ONES
 same-length-2 c = search rules
 
-returns-2 : tie.Need-returns-then-word-eq4294967295
-returns-2 c = black_stored c.requires c.if-word-eq0.false refl c.if-word-eq4294967295.true
+returns-2 : tie.Need-returns-then-word-eq-THIRTY_TWO_ONES
+returns-2 c = black_stored c.requires c.if-word-eq0.false refl c.if-word-eq-THIRTY_TWO_ONES.true
 
 slice-write-out-3 : tie.Need-bounds-out-at-2
 slice-write-out-3 c = search rules
@@ -42,12 +42,12 @@ add-write-sixteen : tie.Need-overflow_add-at
 add-write-sixteen c = search rules
 
 write-sixteen-requires : tie.Need-write_sixteen-middle-requires
-write-sixteen-requires c κs = low_roomy c.requires c.if-word-eq0.false refl c.if-word-eq4294967295.false refl refl
+write-sixteen-requires c κs = low_roomy c.requires c.if-word-eq0.false refl c.if-word-eq-THIRTY_TWO_ONES.false refl refl
 
 write-sixteen-requires-2 : tie.Need-write_sixteen-requires
 write-sixteen-requires-2 c κs =
     high_roomy c.requires c.if-word-eq0.false refl
-    c.if-word-eq4294967295.false refl refl c.write_sixteen-middle.ensures
+    c.if-word-eq-THIRTY_TWO_ONES.false refl refl c.write_sixteen-middle.ensures
 
 same-length-3 : tie.Need-shape_of-out
 same-length-3 c =
@@ -59,7 +59,7 @@ returns-3 : tie.Need-returns
 returns-3 c =
     both_stored c.requires
     c.if-word-eq0.false refl
-    c.if-word-eq4294967295.false refl refl
+    c.if-word-eq-THIRTY_TWO_ONES.false refl refl
     c.write_sixteen-middle.ensures c.write_sixteen.ensures
 
 pub write_thirty_two_spec : {M : Type 1} → statement M
