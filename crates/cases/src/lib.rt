@@ -1,1 +1,2 @@
 // No code: worked cases of the definitions that the contracts cite, in specs/, and their theorem, in proofs/.
+#![tactic(auto)]
