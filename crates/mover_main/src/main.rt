@@ -1,9 +1,12 @@
 // Keyed movers run at both sides of every edge: a line for each, with the refusal first, the verdict (hit, first frame,
 // last frame, voxels), the length, and the front of the lent room, so that what was not to be written shows as `.`.
+#![tactic(auto)]
+
 use bintree::Verdict;
 use convert::Clearance;
-use libc::STDOUT_FILENO;
 use standin::{Corners, Proxy, Solid, Triple};
+use std::io;
+use std::io::Write;
 use universe::Universe;
 
 const LENT: usize = 64;
@@ -48,37 +51,43 @@ fn cube(v: f64) -> Proxy {
     }
 }
 
-fn say(text: &[u8]) {
-    io::write_all(STDOUT_FILENO, text);
+fn say(to: &mut impl Write, text: &[u8]) -> io::Result<()> {
+    to.write_all(text)
 }
 
-fn number(n: u64) {
-    io::print_decimal(STDOUT_FILENO, n);
-    say(b" ");
+fn number(to: &mut impl Write, n: u64) -> io::Result<()> {
+    write!(to, "{n} ")
 }
 
 // An answer, and the room as it is left.
-fn told(name: &[u8], answer: Clearance, room: &[u8]) {
-    say(name);
-    say(b": ");
-    number(answer.refusal);
+fn told(to: &mut impl Write, name: &[u8], answer: Clearance, room: &[u8]) -> io::Result<()> {
+    say(to, name)?;
+    say(to, b": ")?;
+    number(to, answer.refusal)?;
     let verdict = answer.verdict;
     match verdict {
-        Verdict::Clear => say(b"clear "),
+        Verdict::Clear => say(to, b"clear ")?,
         Verdict::Hit(contact) => {
-            say(b"hit ");
-            number(contact.first);
-            number(contact.last);
-            number(contact.voxels);
+            say(to, b"hit ")?;
+            number(to, contact.first)?;
+            number(to, contact.last)?;
+            number(to, contact.voxels)?;
         }
     }
-    number(answer.length);
-    say(room);
-    say(b"\n");
+    number(to, answer.length)?;
+    say(to, room)?;
+    say(to, b"\n")
 }
 
 // A cube against everything.
-fn against_all(name: &[u8], universe: Universe, v: f64, moments: &[u64], corners: &[f64]) {
+fn against_all(
+    to: &mut impl Write,
+    name: &[u8],
+    universe: Universe,
+    v: f64,
+    moments: &[u64],
+    corners: &[f64],
+) -> io::Result<()> {
     let mut room = [b'.'; LENT];
     let answer = mover::verdict_of_mover(
         universe,
@@ -90,11 +99,17 @@ fn against_all(name: &[u8], universe: Universe, v: f64, moments: &[u64], corners
         &[1],
         &mut room,
     );
-    told(name, answer, &room);
+    told(to, name, answer, &room)
 }
 
 // A cube that comes along x, one unit a frame, against rows, balls and words.
-fn against(name: &[u8], rows: &[i64], balls: &[i64], words: &[u16]) {
+fn against(
+    to: &mut impl Write,
+    name: &[u8],
+    rows: &[i64],
+    balls: &[i64],
+    words: &[u16],
+) -> io::Result<()> {
     let mut room = [b'.'; LENT];
     let answer = mover::verdict_of_mover(
         universe_of(4, 1, 1),
@@ -106,28 +121,50 @@ fn against(name: &[u8], rows: &[i64], balls: &[i64], words: &[u16]) {
         words,
         &mut room,
     );
-    told(name, answer, &room);
+    told(to, name, answer, &room)
 }
 
 // The universe and the Box.
-fn boxes() {
+fn boxes(to: &mut impl Write) -> io::Result<()> {
     let moments: &[u64] = &[0, 2];
     let keys: &[f64] = &[0.0; 6];
-    against_all(b"three axes", universe_of(3, 1, 1), 0.0, moments, keys);
-    against_all(b"too many bits", universe_of(4, 11, 1), 0.0, moments, keys);
-    against_all(b"stands still", universe_of(4, 1, 1), 0.0, moments, keys);
-    against_all(b"displaced", universe_of(4, 1, 1), 0.0625, moments, keys);
+    against_all(to, b"three axes", universe_of(3, 1, 1), 0.0, moments, keys)?;
     against_all(
+        to,
+        b"too many bits",
+        universe_of(4, 11, 1),
+        0.0,
+        moments,
+        keys,
+    )?;
+    against_all(
+        to,
+        b"stands still",
+        universe_of(4, 1, 1),
+        0.0,
+        moments,
+        keys,
+    )?;
+    against_all(
+        to,
+        b"displaced",
+        universe_of(4, 1, 1),
+        0.0625,
+        moments,
+        keys,
+    )?;
+    against_all(
+        to,
         b"displaced by no number",
         universe_of(4, 1, 1),
         0.03125,
         moments,
         keys,
-    );
+    )
 }
 
 // Keys: how many there are.
-fn counts() {
+fn counts(to: &mut impl Write) -> io::Result<()> {
     let universe = universe_of(4, 0, 8);
     let moments = [
         100, 101, 102, 103, 104, 105, 106, 107, 108, 109, 110, 111, 112, 113, 114, 115, 116, 117,
@@ -136,173 +173,206 @@ fn counts() {
         154, 155, 156, 157, 158, 159, 160, 161, 162, 163, 164,
     ];
     let corners = [0.0; 195];
-    against_all(b"1 key", universe, 0.0, &moments[..1], &corners[..3]);
-    against_all(b"2 keys", universe, 0.0, &moments[..2], &corners[..6]);
-    against_all(b"64 keys", universe, 0.0, &moments[..64], &corners[..192]);
-    against_all(b"65 keys", universe, 0.0, &moments, &corners);
+    against_all(to, b"1 key", universe, 0.0, &moments[..1], &corners[..3])?;
+    against_all(to, b"2 keys", universe, 0.0, &moments[..2], &corners[..6])?;
+    against_all(
+        to,
+        b"64 keys",
+        universe,
+        0.0,
+        &moments[..64],
+        &corners[..192],
+    )?;
+    against_all(to, b"65 keys", universe, 0.0, &moments, &corners)
 }
 
 // A cube of two keys against everything.
-fn two_keys(name: &[u8], universe: Universe, moments: [u64; 2], corners: [f64; 6]) {
-    against_all(name, universe, 0.0, &moments, &corners);
+fn two_keys(
+    to: &mut impl Write,
+    name: &[u8],
+    universe: Universe,
+    moments: [u64; 2],
+    corners: [f64; 6],
+) -> io::Result<()> {
+    against_all(to, name, universe, 0.0, &moments, &corners)
 }
 
 // Their corners.
-fn corners() {
+fn corners(to: &mut impl Write) -> io::Result<()> {
     let universe = universe_of(4, 0, 6);
     let moments: &[u64] = &[0, 1];
     against_all(
+        to,
         b"a corner lacks a number",
         universe,
         0.0,
         moments,
         &[0.0; 5],
-    );
-    against_all(b"a number too many", universe, 0.0, moments, &[0.0; 7]);
+    )?;
+    against_all(to, b"a number too many", universe, 0.0, moments, &[0.0; 7])?;
     two_keys(
+        to,
         b"a number that is not taken",
         universe,
         [0, 1],
         [0.0, 0.0, 0.0, 0.0, 0.0, 0.03125],
-    );
+    )?;
     two_keys(
+        to,
         b"a number past the limit",
         universe,
         [0, 1],
         [0.0, 0.0, 0.0, 0.0, 0.0, 4096.0625],
-    );
+    )
 }
 
 // Their moments, behind their corners.
-fn moments() {
+fn moments(to: &mut impl Write) -> io::Result<()> {
     let universe = universe_of(4, 0, 6);
-    two_keys(b"equal moments", universe, [1, 1], [0.0; 6]);
-    two_keys(b"to the end of the last frame", universe, [0, 64], [0.0; 6]);
-    two_keys(b"past it", universe, [0, 65], [0.0; 6]);
+    two_keys(to, b"equal moments", universe, [1, 1], [0.0; 6])?;
     two_keys(
+        to,
+        b"to the end of the last frame",
+        universe,
+        [0, 64],
+        [0.0; 6],
+    )?;
+    two_keys(to, b"past it", universe, [0, 65], [0.0; 6])?;
+    two_keys(
+        to,
         b"10 before 11",
         universe,
         [1, 1],
         [0.0, 0.0, 0.0, 0.0, 0.0, 0.03125],
-    );
+    )
 }
 
 // Steps at both sides of the most.
-fn far_steps() {
+fn far_steps(to: &mut impl Write) -> io::Result<()> {
     let universe = universe_of(4, 1, 2);
     two_keys(
+        to,
         b"a step of 64",
         universe,
         [3, 4],
         [0.0, 0.0, 0.0, 64.0, 0.0, 0.0],
-    );
+    )?;
     two_keys(
+        to,
         b"a step of 64 1/16",
         universe,
         [3, 4],
         [0.0, 0.0, 0.0, 64.0625, 0.0, 0.0],
-    );
+    )?;
     two_keys(
+        to,
         b"a step of -64 along z",
         universe,
         [3, 4],
         [0.0, 0.0, 64.0, 0.0, 0.0, 0.0],
-    );
+    )?;
     two_keys(
+        to,
         b"a step of -64 1/16 along z",
         universe,
         [3, 4],
         [0.0, 0.0, 64.0625, 0.0, 0.0, 0.0],
-    );
+    )
 }
 
 // Steps that are taken and not, and a corner that is worked back.
-fn steps() {
+fn steps(to: &mut impl Write) -> io::Result<()> {
     let universe = universe_of(4, 1, 2);
     two_keys(
+        to,
         b"a step of 1/16",
         universe,
         [0, 2],
         [0.0, 0.0, 0.0, 0.0, -0.125, 0.0],
-    );
+    )?;
     two_keys(
+        to,
         b"a step of 1/32",
         universe,
         [0, 2],
         [0.0, 0.0, 0.0, 0.0, 0.0, -0.0625],
-    );
+    )?;
     two_keys(
+        to,
         b"11 before 12",
         universe,
         [2, 2],
         [0.0, 0.0, 0.0, 0.0, 0.0, -0.0625],
-    );
+    )?;
     two_keys(
+        to,
         b"a corner of 4096",
         universe_of(4, 1, 7),
         [64, 128],
         [4096.0, 0.0, 0.0, 0.0, 0.0, 0.0],
-    );
+    )
 }
 
 // Stretches: the first frame of a stretch is its own, and the last key's is no one's.
-fn stretches() {
+fn stretches(to: &mut impl Write) -> io::Result<()> {
     let universe = universe_of(4, 1, 2);
     let there = [1.0, 0.0, 0.0, 1.0, 0.0, 0.0, -3.0, 0.0, 0.0];
     against_all(
+        to,
         b"there, and away in one frame",
         universe,
         0.0,
         &[0, 2, 3],
         &there,
-    );
+    )?;
     let away = [-3.0, 0.0, 0.0, 1.0, 0.0, 0.0, 1.0, 0.0, 0.0];
-    against_all(b"away, and there", universe, 0.0, &[0, 1, 3], &away);
+    against_all(to, b"away, and there", universe, 0.0, &[0, 1, 3], &away)?;
     two_keys(
+        to,
         b"the last key's moment",
         universe,
         [1, 2],
         [-3.0, 0.0, 0.0, 1.0, 0.0, 0.0],
-    );
+    )
 }
 
 // A static tree of one word over rows.
-fn against_word(name: &[u8], rows: &[i64], word: u16) {
-    against(name, rows, &[], &[word]);
+fn against_word(to: &mut impl Write, name: &[u8], rows: &[i64], word: u16) -> io::Result<()> {
+    against(to, name, rows, &[], &[word])
 }
 
 // A static tree of the first ball.
-fn against_ball(name: &[u8], rows: &[i64], balls: &[i64]) {
-    against(name, rows, balls, &[512]);
+fn against_ball(to: &mut impl Write, name: &[u8], rows: &[i64], balls: &[i64]) -> io::Result<()> {
+    against(to, name, rows, balls, &[512])
 }
 
 // The static tree: its rows.
-fn rows() {
+fn rows(to: &mut impl Write) -> io::Result<()> {
     let most: &[i64] = &[0; 1250];
-    against_word(b"250 rows", most, 256);
-    against_word(b"251 rows", &[0; 1255], 256);
-    against_word(b"row 249", most, 505);
-    against_word(b"the mover's first row", most, 506);
+    against_word(to, b"250 rows", most, 256)?;
+    against_word(to, b"251 rows", &[0; 1255], 256)?;
+    against_word(to, b"row 249", most, 505)?;
+    against_word(to, b"the mover's first row", most, 506)
 }
 
 // What refuses it first, and its words.
-fn trees() {
+fn trees(to: &mut impl Write) -> io::Result<()> {
     let none: &[i64] = &[];
-    against_ball(b"a torn row", &[0; 4], &[0, 0, 0, 1]);
-    against_ball(b"a torn ball", none, &[0, 0, 0]);
-    against(b"no words", &[0; 5], none, &[]);
-    against(b"33 pending", none, none, &[1; 33]);
+    against_ball(to, b"a torn row", &[0; 4], &[0, 0, 0, 1])?;
+    against_ball(to, b"a torn ball", none, &[0, 0, 0])?;
+    against(to, b"no words", &[0; 5], none, &[])?;
+    against(to, b"33 pending", none, none, &[1; 33])
 }
 
 // Its balls, and a plane.
-fn leaves() {
-    against_word(b"a ball that is not there", &[0; 5], 512);
-    against_ball(b"a ball", &[], &[0, 0, 0, 1]);
-    against_word(b"half of space", &[-1, 1, 0, 0, 0], 256);
+fn leaves(to: &mut impl Write) -> io::Result<()> {
+    against_word(to, b"a ball that is not there", &[0; 5], 512)?;
+    against_ball(to, b"a ball", &[], &[0, 0, 0, 1])?;
+    against_word(to, b"half of space", &[-1, 1, 0, 0, 0], 256)
 }
 
 // A room for the longest stretch, which is the first, and one symbol less.
-fn long_first(name: &[u8], room: &mut [u8]) {
+fn long_first(to: &mut impl Write, name: &[u8], room: &mut [u8]) -> io::Result<()> {
     let answer = mover::verdict_of_mover(
         universe_of(4, 1, 2),
         cube(0.0),
@@ -313,30 +383,31 @@ fn long_first(name: &[u8], room: &mut [u8]) {
         &[1],
         room,
     );
-    told(name, answer, room);
+    told(to, name, answer, room)
 }
 
-fn rooms() {
+fn rooms(to: &mut impl Write) -> io::Result<()> {
     let mut none = [b'.'; 0];
-    long_first(b"no room", &mut none);
+    long_first(to, b"no room", &mut none)?;
     let mut short = [b'.'; SHORT];
-    long_first(b"one short", &mut short);
+    long_first(to, b"one short", &mut short)?;
     let mut exact = [b'.'; EXACT];
-    long_first(b"exact", &mut exact);
+    long_first(to, b"exact", &mut exact)?;
     let mut more = [b'.'; LENT];
-    long_first(b"more", &mut more);
+    long_first(to, b"more", &mut more)
 }
 
-fn main() {
-    boxes();
-    counts();
-    corners();
-    moments();
-    far_steps();
-    steps();
-    stretches();
-    rows();
-    trees();
-    leaves();
-    rooms();
+fn main(rt: HostRuntime) -> io::Result<()> {
+    let to = &mut rt.stdout();
+    boxes(to)?;
+    counts(to)?;
+    corners(to)?;
+    moments(to)?;
+    far_steps(to)?;
+    steps(to)?;
+    stretches(to)?;
+    rows(to)?;
+    trees(to)?;
+    leaves(to)?;
+    rooms(to)
 }
