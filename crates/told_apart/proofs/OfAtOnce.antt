@@ -1,7 +1,7 @@
 -- Of each public function of `at_once`: its contract asks nothing, and two answers that it allows are equal, and so is what the lent buffer holds.
 use mathlib.Core.Path.{refl}
 use borrow.Fn.World.{World}
-use Rattle.at_once.proofs as questions
+use Rattle.at_once.specs.contracts as questions
 use Rattle.told_apart.specs.Answers.{TellsApart}
 use Rattle.told_apart.proofs.Alike.{same, one, two, behind}
 

@@ -1,7 +1,7 @@
 -- Of each public function of `bintree`: its contract asks nothing, and two answers that it allows are equal; two slices are alike.
 use mathlib.Core.Path.{refl}
 use borrow.Fn.World.{World}
-use Rattle.bintree.proofs as bintree
+use Rattle.bintree.specs.contracts as bintree
 use Rattle.told_apart.specs.Answers.{TellsApart, Fixes, SameSlice}
 use Rattle.told_apart.proofs.Alike.{same, one, two, behind}
 

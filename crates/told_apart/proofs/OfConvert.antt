@@ -1,7 +1,7 @@
 -- Of each public function of `convert`: its contract asks nothing, and two answers that it allows are equal, and so is what the lent buffer holds.
 use mathlib.Core.Path.{refl}
 use borrow.Fn.World.{World}
-use Rattle.convert.proofs as convert
+use Rattle.convert.specs.contracts as convert
 use Rattle.told_apart.specs.Answers.{TellsApart}
 use Rattle.told_apart.proofs.Alike.{same, one, two, behind}
 

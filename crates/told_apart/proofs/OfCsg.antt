@@ -1,7 +1,7 @@
 -- Of each public function of `csg`: its contract asks nothing, and two answers that it allows are equal.
 use mathlib.Core.Path.{refl}
 use borrow.Fn.World.{World}
-use Rattle.csg.proofs as csg
+use Rattle.csg.specs.contracts as csg
 use Rattle.told_apart.specs.Answers.{TellsApart}
 use Rattle.told_apart.proofs.Alike.{same, one}
 

@@ -4,7 +4,7 @@ use borrow.Fn.World.{World}
 use Rattle.csg.specs.Surfaces.{surfaces_of}
 use Rattle.pruned.specs.Answers.{work_of_one, work_of_two}
 use Rattle.export.specs.Arrays.{universe_of}
-use Rattle.export.proofs as export
+use Rattle.export.specs.contracts as export
 use Rattle.told_apart.specs.Answers.{TellsApart, TellsApartBut, KeptBy}
 use Rattle.told_apart.proofs.Alike.{same, one, two, three, four, six, behind}
 

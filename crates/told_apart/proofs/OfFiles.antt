@@ -1,7 +1,7 @@
 -- Of each public function of `files`: its contract asks nothing, and two answers that it allows are equal, and so is what every lent buffer holds.
 use mathlib.Core.Path.{refl}
 use borrow.Fn.World.{World}
-use Rattle.files.proofs as files
+use Rattle.files.specs.contracts as files
 use Rattle.told_apart.specs.Answers.{TellsApart}
 use Rattle.told_apart.proofs.Alike.{same, two, five, behind}
 

@@ -1,7 +1,7 @@
 -- Of the public function of `lines`: its contract asks nothing, and two answers that it allows are equal, and so is what the lent array holds.
 use mathlib.Core.Path.{refl}
 use borrow.Fn.World.{World}
-use Rattle.lines.proofs as lines
+use Rattle.lines.specs.contracts as lines
 use Rattle.told_apart.specs.Answers.{TellsApart}
 use Rattle.told_apart.proofs.Alike.{same, two, behind}
 

@@ -1,7 +1,7 @@
 -- Of each public function of `local`: its contract asks nothing, and two answers that it allows are equal, and so is what the lent buffer holds.
 use mathlib.Core.Path.{refl}
 use borrow.Fn.World.{World}
-use Rattle.local.proofs as local
+use Rattle.local.specs.contracts as local
 use Rattle.told_apart.specs.Answers.{TellsApart}
 use Rattle.told_apart.proofs.Alike.{same, two, behind}
 

@@ -1,7 +1,7 @@
 -- Of the public function of `mover`: its contract asks nothing, and two answers that it allows are equal, and so is what the lent room holds.
 use mathlib.Core.Path.{refl}
 use borrow.Fn.World.{World}
-use Rattle.mover.proofs as mover
+use Rattle.mover.specs.contracts as mover
 use Rattle.told_apart.specs.Answers.{TellsApart}
 use Rattle.told_apart.proofs.Alike.{same, two, behind}
 

@@ -1,7 +1,7 @@
 -- Of the public functions of `octree`: their contracts ask nothing, and two answers that they allow are equal, and so is what the lent room holds.
 use mathlib.Core.Path.{refl}
 use borrow.Fn.World.{World}
-use Rattle.octree.proofs as octree
+use Rattle.octree.specs.contracts as octree
 use Rattle.told_apart.specs.Answers.{TellsApart}
 use Rattle.told_apart.proofs.Alike.{same, two, behind}
 

@@ -4,7 +4,7 @@ use mathlib.Core.Path.{◌≡◌, refl}
 use borrow.Fn.World.{World}
 use Rattle.csg.specs.Surfaces.{surfaces_of}
 use Rattle.pruned.specs.Answers.{work_of_one, work_of_two}
-use Rattle.pruned.proofs as pruned
+use Rattle.pruned.specs.contracts as pruned
 use Rattle.told_apart.specs.Answers.{TellsApartBut, KeptBy}
 use Rattle.told_apart.proofs.Alike.{same, three}
 

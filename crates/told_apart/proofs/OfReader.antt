@@ -1,7 +1,7 @@
 -- Of each public function of `reader`: its contract asks nothing, and two answers that it allows are equal; slices, and readers that are opened, are alike.
 use mathlib.Core.Path.{refl}
 use borrow.Fn.World.{World}
-use Rattle.reader.proofs as reader
+use Rattle.reader.specs.contracts as reader
 use Rattle.told_apart.specs.Answers.{TellsApart, Fixes, SameSlice, SameReader}
 use Rattle.told_apart.proofs.Alike.{same, one}
 

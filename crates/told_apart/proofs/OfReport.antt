@@ -1,7 +1,7 @@
 -- Of the public function of `report`: its contract asks nothing, and two answers that it allows are equal, and so is what the row holds.
 use mathlib.Core.Path.{refl}
 use borrow.Fn.World.{World}
-use Rattle.report.proofs as report
+use Rattle.report.specs.contracts as report
 use Rattle.told_apart.specs.Answers.{TellsApart}
 use Rattle.told_apart.proofs.Alike.{same, two, behind}
 

@@ -1,7 +1,7 @@
 -- Of each public function of `standin`: its contract asks nothing, and two answers that it allows are equal.
 use mathlib.Core.Path.{refl}
 use borrow.Fn.World.{World}
-use Rattle.standin.proofs as standin
+use Rattle.standin.specs.contracts as standin
 use Rattle.told_apart.specs.Answers.{TellsApart}
 use Rattle.told_apart.proofs.Alike.{same, one}
 

@@ -1,7 +1,7 @@
 -- Of the public function of `sweep`: its contract asks nothing, and two answers that it allows are equal, and so is what the lent room holds.
 use mathlib.Core.Path.{refl}
 use borrow.Fn.World.{World}
-use Rattle.sweep.proofs as sweep
+use Rattle.sweep.specs.contracts as sweep
 use Rattle.told_apart.specs.Answers.{TellsApart}
 use Rattle.told_apart.proofs.Alike.{same, two, behind}
 

@@ -1,7 +1,7 @@
 -- Of each public function of `universe`: its contract asks nothing, and two answers that it allows are equal.
 use mathlib.Core.Path.{refl}
 use borrow.Fn.World.{World}
-use Rattle.universe.proofs as universe
+use Rattle.universe.specs.contracts as universe
 use Rattle.told_apart.specs.Answers.{TellsApart}
 use Rattle.told_apart.proofs.Alike.{same, one}
 

@@ -17,7 +17,7 @@ use Rattle.reader.specs.declared.Reader.{Reader}
 -- a function's contract as the toolchain reads it off the code: clauses that are assertions of its logic, in a model w
 abbrev pub Contract : World → Ended → Type 2
 Contract w ended =
-    (𝓤 : Ura w.M) (𝓛 : Logic 𝓤) → (Memory → SProp 𝓤) → (Routine → Fun 𝓤) → Clauses 𝓤 ended
+    Logic w.𝓤 → (Memory → SProp w.𝓤) → (Routine → Fun w.𝓤) → Clauses w.𝓤 ended
 
 -- what it is for two values that a function gives back to be alike
 abbrev pub Likeness : Ended → Type 1
@@ -52,7 +52,7 @@ module _ (w : World) (ended : Ended) (lifetimes : Lfts ended.signature.lifetimes
 abbrev pub FixesBut : (w : World) (ended : Ended) → Likeness ended → BufferLikeness ended → Contract w ended → Type 2
 FixesBut w ended Alike Left contract =
     (lifetimes : Lfts ended.signature.lifetimes) (arguments : Args ended.signature lifetimes) →
-    let clauses = contract w.𝓛 w.𝓜.mem w.𝓡.run lifetimes arguments in
+    let clauses = contract w.𝓛 w.𝓜.mem w.𝓡.returns lifetimes arguments in
     AsksNothing w ended lifetimes clauses × AnswersAlike w ended lifetimes Alike Left arguments clauses
 
 -- the same, where every lent buffer holds the same
