@@ -8,7 +8,6 @@ use borrow.Author.Tests.{eq-eqb, ne_eqb}
 use Rattle.universe.specs.declared.Universe.{Universe}
 use Rattle.universe.specs.Refusals.{no_room}
 use Rattle.bintree.specs.declared.Verdict.{Verdict}
-use Rattle.bintree.specs.declared.Verdict.TheVariants.{Clear}
 use Rattle.bintree.specs.Verdicts.{verdict}
 use Rattle.csg.specs.Surfaces.{Surfaces, named}
 use Rattle.csg.specs.Words.{tree_of}
@@ -23,7 +22,7 @@ use Rattle.at_once.specs.Answers.{refused_judged, done_judged, verdict_at_once, 
 use Rattle.promises.specs.Contacts.{shared_colour}
 use Rattle.promises.specs.AtOnce.{AtOnce}
 use Rattle.promises.proofs.Contacts.{never}
-use Rattle.promises.proofs.Promises.{accepts, window_accepted, verdict_passed, verdict_is_lem, verdict_refused, verdict_number}
+use Rattle.promises.proofs.Promises.{accepts, window_accepted, verdict_is_lem, verdict_refused, verdict_number}
 
 module _ (u : Universe) (surfaces : Surfaces) (first second : List ℕ) (from to : ℕ) where
   abbrev before : ℕ

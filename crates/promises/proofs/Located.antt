@@ -12,7 +12,7 @@ use lib.Dec.{eqb, ltb}
 use Rattle.lemmas.specs.Grid.{listed}
 use Rattle.lemmas.proofs.Grid.{listed_at}
 use Rattle.universe.specs.declared.Universe.{Universe}
-use Rattle.universe.specs.Universe.{most_axes, universe_refusal, levels, side_along, frame_axis, frame_count, block_side}
+use Rattle.universe.specs.Universe.{most_axes, universe_refusal, levels, side_along, frame_axis, block_side}
 use Rattle.universe.specs.Voxel.{place_along, window_refusal}
 use Rattle.universe.proofs.Universes.{Accepted, accepted, side_positive, side_first, side_last}
 use Rattle.universe.proofs.Voxel.{taken_voxel}

@@ -1,11 +1,10 @@
 -- OCTREES, of the calls themselves. What export writes is the only reduced octree with the colours of what it was given, and what import writes has the
 -- octree's colours (`Exported`, `Imported`, specs/Octrees.antt). Lent what export left, import leaves the merged expression of what was given; lent what import
 -- left, export leaves the reduced octree of what was given.
-use Prim.Native.Nat.{ℕ, ◌+◌, ◌*◌, ◌≤◌, ◌<◌}
+use Prim.Native.Nat.{ℕ, ◌≤◌}
 use mathlib.Core.Path.{◌≡◌, refl, sym, ap, ◌∙◌}
-use mathlib.Core.List.{List, [], ◌∷◌, ◌++◌}
+use mathlib.Core.List.{List, [], ◌∷◌}
 use native.Mathlib.Omega.{arith}
-use borrow.Author.Tests.{eq-eqb}
 use lib.ListN.{length, take, drop}
 use lib.Seq.{take-append_seam, drop-append_seam}
 use Rattle.universe.specs.declared.Universe.{Universe}
@@ -13,14 +12,12 @@ use Rattle.universe.specs.Refusals.{first_refusal}
 use Rattle.universe.specs.Universe.{universe_refusal, levels}
 use Rattle.universe.specs.Voxel.{voxel_refusal}
 use Rattle.universe.proofs.Universes.{accepted}
-use Rattle.bintree.specs.declared.Colour.{Colour}
-use Rattle.bintree.specs.declared.Written.{Written}
 use Rattle.bintree.specs.Shape.{Shape, symbols, depth}
 use Rattle.bintree.specs.Reading.{read, expression, expression_refusal}
 use Rattle.bintree.specs.Merging.{merged, merged_symbols}
 use Rattle.bintree.specs.declared.Colour.TheVariants.{White}
 use Rattle.bintree.specs.Parts.{colour_at, done_colour}
-use Rattle.bintree.specs.Answers.{of_shape, refused_writing, short_writing, done_writing, written_answer, written_buffer}
+use Rattle.bintree.specs.Answers.{of_shape, written_answer, written_buffer}
 use Rattle.bintree.proofs.Reading.{read_is, reads_back, accepted_shape, shape_accepted}
 use Rattle.bintree.proofs.Merging.{merged_is, merged_depth}
 use Rattle.bintree.proofs.Answers.{checks_read}
@@ -31,7 +28,7 @@ use Rattle.octree.specs.Answers.{cube_refusal, octree_refusal, export_refusal, i
 use Rattle.octree.specs.Answers.{export_answer, export_buffer, import_answer, import_buffer, Exportable, Importable}
 use Rattle.octree.proofs.Octrees as octrees
 use Rattle.octree.proofs.Partings.{octree_most, shape_deep, import_export, export_import, reduced_octree}
-use Rattle.octree.proofs.Colours.{Cubic, cubic, cube_levels, octree_colour_lem, import_colour, export_colour}
+use Rattle.octree.proofs.Colours.{Cubic, cubic, cube_levels, import_colour, export_colour}
 use Rattle.octree.proofs.Answers.{export_suffices, import_suffices, refused_as, fine_as}
 use Rattle.promises.specs.Shortest.{colours_of, Says}
 use Rattle.promises.specs.Octrees.{octree_colours, reduced_symbols, ReducedOctree, Exported, Imported}

@@ -2,7 +2,6 @@
 -- looked at are bounded. All by the laws of crate `pruned`.
 use Prim.Native.Nat.{ℕ, ◌+◌, ◌*◌, ◌≤◌, ◌<◌}
 use mathlib.Core.Path.{◌≡◌, refl, sym, ap, subst, ◌∙◌}
-use mathlib.Core.Bool.{true, false}
 use mathlib.Core.List.{List, [], ◌∷◌}
 use native.Mathlib.Decide.{ℕ_discrete, dec_le}
 use native.Mathlib.Omega.{arith}
@@ -11,14 +10,12 @@ use lib.ListN.{length}
 use Rattle.universe.specs.declared.Universe.{Universe}
 use Rattle.universe.specs.Universe.{levels}
 use Rattle.universe.specs.Block.{whole_block}
-use Rattle.universe.specs.Refusals.{no_room}
-use Rattle.universe.specs.Lent.{overwritten, room_refusal}
 use Rattle.universe.proofs.Lent.{room_enough, room_short}
 use Rattle.bintree.specs.declared.Written.{Written}
 use Rattle.bintree.specs.Answers.{written_answer, written_buffer}
 use Rattle.csg.specs.Surfaces.{Surfaces, named}
 use Rattle.csg.specs.Tree.{Tree, Plain}
-use Rattle.csg.specs.Words.{tree_refusal, tree_of}
+use Rattle.csg.specs.Words.{tree_of}
 use Rattle.csg.specs.Raw.{blocks_examined}
 use Rattle.convert.specs.Blocks.{trees_of}
 use Rattle.convert.specs.Answers.{one_tree_refusal, two_trees_refusal, raw_of_one, merged_of_one, raw_of_two, merged_of_two}
@@ -30,7 +27,7 @@ use Rattle.pruned.specs.Answers.{one_tree, two_trees, nodes_lent, nodes_needed, 
 use Rattle.pruned.specs.Answers.{conversion_answer, conversion_room}
 use Rattle.pruned.specs.Answers as pruned
 use Rattle.pruned.proofs.Answers.{is_refused, is_short, is_written, Same, same}
-use Rattle.pruned.proofs.Looked.{StandsFor, one_stands, two_stand, looked_most}
+use Rattle.pruned.proofs.Looked.{one_stands, two_stand, looked_most}
 use Rattle.pruned.proofs.Loads.{words_nodes}
 use Rattle.pruned.proofs.Conversions.{all_accepted, one_refusal}
 use Rattle.promises.specs.Pruned.{Alike}

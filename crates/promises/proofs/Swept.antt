@@ -3,7 +3,7 @@
 -- fits where as much room is lent as that is long (`SweptSpace`, specs/Swept.antt). Of the conversion of a mover's tree, swept along the frame axis, these
 -- are the
 -- places at whose centre the mover is at some frame; and the sweep of a union is the union of the sweeps.
-use Prim.Native.Nat.{ℕ, ◌+◌, ◌-◌, ◌≤◌, ◌<◌}
+use Prim.Native.Nat.{ℕ, ◌-◌, ◌≤◌, ◌<◌}
 use mathlib.Core.Path.{◌≡◌, refl, sym, ap, ◌∙◌}
 use mathlib.Core.List.{List, [], ◌∷◌, ◌++◌}
 use native.Mathlib.Omega.{arith}

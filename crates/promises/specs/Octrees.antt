@@ -1,6 +1,6 @@
 -- Section 13 of the rules: what layout is promised of octrees, in terms of what the two calls answer and leave in the
 -- room, and of what the colour question answers of expressions.
-use Rattle.std.specs.Prelude.{ℕ, ◌+◌, ◌*◌, ◌≤◌, ◌<◌, ◌≡◌, List, [], length, take, drop}
+use Rattle.std.specs.Prelude.{ℕ, ◌+◌, ◌*◌, ◌≤◌, ◌≡◌, List, [], length, take, drop}
 use Rattle.universe.specs.declared.Universe.{Universe}
 use Rattle.universe.specs.Voxel.{voxel_refusal}
 use Rattle.bintree.specs.declared.Colour.{Colour}

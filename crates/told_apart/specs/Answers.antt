@@ -1,7 +1,6 @@
 -- Rule 10.4: what it is for a contract to fix its answer. It asks nothing, and any two answers that it allows to the
 -- same arguments are equal. An answer is what comes back and what every lent buffer holds afterwards.
 use Rattle.std.specs.Prelude.{ℕ, ◌≡◌, List, ℤ}
-use seplogic.Ra.Ura.{Ura}
 use base.Logic.{SProp, ent, sep, emp}
 use prog.Memory.{Memory}
 use prog.Routine.{Routine}
