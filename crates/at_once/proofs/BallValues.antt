@@ -3,12 +3,11 @@
 use mathlib.Core.Path.{◌≡◌, refl, sym, ap, ◌∙◌}
 use mathlib.Core.Bool.{Bool, true, false, cond}
 use mathlib.Core.List.{List, [], ◌∷◌}
-use Prim.Native.Nat.{ℕ, zero, suc, ◌+◌, ◌-◌, ◌*◌, ◌≤◌, ◌<◌}
+use Prim.Native.Nat.{ℕ, zero, suc, ◌+◌, ◌*◌, ◌≤◌, ◌<◌}
 use native.Mathlib.Omega.{arith}
 use lib.Dec.{ltb, lit<}
-use lib.ListN.{length, get_or}
+use lib.ListN.{get_or}
 use lib.IntN.{ℤ, pos, negsuc, nat_abs, ◌+ℤ◌, ◌-ℤ◌, ◌*ℤ◌}
-use borrow.Author.Tests.{lt-ltb, le-ltb}
 use mir.Syntax.{w64}
 use mir.Val.{SFits, to_z}
 use Rattle.lemmas.proofs.Machine.{Near, near, near_lit, near_nat, near_cast, near_add, near_sub, near_mul, near_back, near_call, near_fits, near_size}
@@ -59,21 +58,12 @@ module _ {x : ℤ} (s : SmallOff x) where
   square_near : Near (held x *ℤ held x) (x *ℤ x) square_most
   square_near = near_mul {x = x} {y = x} (near (record { most = s.most }) tt) (near (record { most = s.most }) tt)
 
-  pub square_fits : SFits w64 (held x *ℤ held x)
-  square_fits = near_fits {x = x *ℤ x} square_near tt
-
-  pub square_here : {axis places : ℕ} → axis < places → held (held x *ℤ held x) ≡ square_along axis places x
-  square_here {axis} {places} l = rw (lt-ltb axis places l) (near_back {x = x *ℤ x} square_near tt).same
-
   square_size : (axis places : ℕ) → nat_abs (square_along axis places x) ≤ square_most
   square_size axis places = go (ltb axis places)
     where
       go : (t : Bool) → nat_abs (cond t (x *ℤ x) (pos 0)) ≤ square_most
       go true = square_near.size
       go false = omega arith
-
-pub square_none : {axis places : ℕ} (x : ℤ) → places ≤ axis → pos 0 ≡ square_along axis places x
-square_none {axis} {places} x l = rw (le-ltb axis places l)
 
 -- ---- their sum
 module _ {offs : List ℤ} (s : SmallOffs offs) where

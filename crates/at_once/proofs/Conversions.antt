@@ -10,6 +10,13 @@ use lib.IntN.{ℤ, pos}
 use lib.ListN.{length, replicate, length-replicate}
 use lib.Pow.{pow_mono}
 use lib.Seq.{sets}
+use borrow.Author.Tests.{eq-eqb}
+use Rattle.std.specs.Prelude.{Result, Ok, Err}
+use Rattle.std.specs.Result.{result_unwrap_or}
+use Rattle.universe.specs.declared.refusal.Refusal.{Refusal}
+use Rattle.universe.specs.Room.{room, room_answer}
+use Rattle.universe.specs.Told.{RoomAnswer, room_told}
+use Rattle.universe.proofs.Telling.{number-not_zero}
 use Rattle.universe.specs.declared.Universe.{Universe}
 use Rattle.universe.specs.declared.Block.{Block}
 use Rattle.universe.specs.Universe.{most_axes, most_levels, universe_refusal, levels}
@@ -53,6 +60,16 @@ use Rattle.at_once.specs.Conversions.{written_over, CodesReady, FewReady}
 use Rattle.at_once.specs.Moves.{ValuesAt}
 use Rattle.at_once.proofs.Moving.{begun_values}
 use Rattle.at_once.proofs.Layings.{shape_agree}
+
+-- the room question's answer, or 0 where it refuses
+pub room_answered : (u : Universe) (leaves balls : ℕ) → universe_refusal u ≡ 0 → (a : Result ℕ Refusal) → room_told a ≡ room_answer u leaves balls →
+    result_unwrap_or a 0 ≡ room u leaves balls
+unfolding room_answer
+room_answered u leaves balls z a e = by a (e ∙ rw (eq-eqb (universe_refusal u) 0 z))
+  where
+    by : (a : Result ℕ Refusal) → room_told a ≡ record { refusal = 0; symbols = room u leaves balls } → result_unwrap_or a 0 ≡ room u leaves balls
+    by (Ok k) e = ap (λ (x : RoomAnswer). x.symbols) e
+    by (Err r) e = absurd (number-not_zero r (ap (λ (x : RoomAnswer). x.refusal) e))
 
 -- ---- the checks, and local room for codes
 module _ {u : Universe} {surfaces : Surfaces} {words₁ words₂ : List ℕ} where

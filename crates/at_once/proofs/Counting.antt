@@ -1,21 +1,18 @@
 -- What counting meets at a block: nothing where none of its frames are the window's, or the trees are WHITE over it; its frames in the window where they are
 -- BLACK; the ends and the ones of its word; and else what both halves come to, by what is left of the trees.
-use Prim.Native.Nat.{ℕ, suc, ◌+◌, ◌*◌, ◌-◌, ◌/◌, ◌%◌, ◌^◌, ◌≤◌, ◌<◌, min, max}
+use Prim.Native.Nat.{ℕ, suc, ◌+◌, ◌-◌, ◌/◌, ◌^◌, ◌≤◌, ◌<◌, min, max}
 use mathlib.Core.Path.{◌≡◌, refl, sym, ap, ap₂, ◌∙◌, subst}
 use mathlib.Core.Bool.{Bool, true, false, cond}
 use mathlib.Core.List.{List}
 use native.Mathlib.Omega.{arith}
-use native.Mathlib.Nat.{mul-le-mul, le_trans, div-le_self, mod-eq_of_lt}
 use borrow.Author.Tests.{le-leb}
 use lib.Bits.{bit_and, and_zero_l}
 use lib.Count.{ones, ones-le}
 use lib.ListN.{get_or, set}
-use lib.Pow.{pow_mono}
 use Rattle.lemmas.proofs.Stores.{restored}
 use Rattle.universe.specs.declared.Universe.{Universe}
 use Rattle.universe.specs.declared.Block.{Block}
-use Rattle.universe.specs.Universe.{most_levels, longest_side, frame_axis}
-use Rattle.universe.specs.Block as blocks
+use Rattle.universe.specs.Universe.{frame_axis}
 use Rattle.universe.specs.Block.{low_along, length_along}
 use Rattle.universe.proofs.Blocks.{given_placed}
 use Rattle.bintree.specs.declared.Colour.{Colour}
@@ -43,7 +40,7 @@ use Rattle.at_once.specs.Pruning.{PrunedCodes}
 use Rattle.at_once.specs.Codes.{block_at}
 use Rattle.at_once.specs.Words.{word_levels}
 use Rattle.at_once.specs.Counting.{BlockJob, colours_of, contact_over, CountJob, WordOver, CountWord, PutBack, joined_contact}
-use Rattle.at_once.specs.Counting.{BlackFrames, black_voxels}
+use Rattle.at_once.specs.Counting.{black_voxels}
 use Rattle.at_once.proofs.Jobs.{frame_is, wide_is, frames_end, leftover, each_is, begin_is, end_is, prune_job, decided_white, decided_black, left_job}
 use Rattle.at_once.proofs.Jobs.{left_colours, left_suc, lower_block, upper_block_lem, lower_job, lower_at}
 use Rattle.at_once.proofs.Rooms.{same_itself}
@@ -115,26 +112,6 @@ unfolding contact_in
 voxels_few first last colours n b k l =
     let seen = windowed b.universe first last colours in
     omega (arith, ones_black seen n b l, ones-le (2 ^ n) (block_mask seen n b) (mask_fits seen n b))
-
--- ---- the voxels of a black block, in code
-shifted : (left : ℕ) → left ≤ most_levels → (1 * 2 ^ left) % 2 ^ 64 ≡ 2 ^ left
-shifted left h =
-    let p = pow_mono {i = left} {j = most_levels} h in
-    let e : 1 * 2 ^ left ≡ 2 ^ left = omega arith in
-    rw e (mod-eq_of_lt (omega arith))
-
-module _ {left wide begin end : ℕ} (f : BlackFrames left wide begin end) where
-  pub voxels_fit : (end - begin + 1) * ((1 * 2 ^ left) % 2 ^ 64 / wide) < 2 ^ 64
-  voxels_fit =
-      let few : end - begin + 1 ≤ longest_side = omega (arith, f.order, f.within, f.short) in
-      let each : (1 * 2 ^ left) % 2 ^ 64 / wide ≤ 2 ^ most_levels =
-      le_trans (div-le_self _ wide) (rw (shifted left f.few) (pow_mono {i = left} {j = most_levels} f.few)) in
-      omega (arith, mul-le-mul few each)
-
-  pub voxels_are : {r : ℕ} → r ≡ (end - begin + 1) * ((1 * 2 ^ left) % 2 ^ 64 / wide) → r ≡ black_voxels left wide begin end
-  voxels_are e =
-      let q : end - begin + 1 ≡ suc end - begin = omega (arith, f.order) in
-      e ∙ rw (shifted left f.few, q)
 
 -- ---- a block
 module _ {surfaces : Surfaces} {axes : ℕ} {table lengths low side : List ℕ} {left : ℕ} {codes : List ℕ} {from count times : ℕ}

@@ -4,14 +4,15 @@
 use mathlib.Core.Path.{◌≡◌, refl, sym, ap, ◌∙◌, subst}
 use mathlib.Core.Bool.{Bool, true, false, cond}
 use mathlib.Core.List.{List}
-use Prim.Native.Nat.{ℕ, ◌+◌, ◌-◌, ◌*◌, ◌^◌, ◌≤◌, ◌<◌}
+use Prim.Native.Nat.{ℕ, zero, suc, ◌+◌, ◌-◌, ◌*◌, ◌^◌, ◌≤◌, ◌<◌}
 use native.Mathlib.Omega.{arith}
 use native.Mathlib.Nat.{mul-le-mul_right}
-use lib.IntN.{ℤ, pos, nat_abs, ◌+ℤ◌, ◌-ℤ◌, ◌*ℤ◌}
+use Rattle.std.specs.Int.{int_min}
+use lib.IntN.{ℤ, pos, negsuc, nat_abs, ◌+ℤ◌, ◌-ℤ◌, ◌*ℤ◌}
 use lib.Signed.{le_z, lt_z, ◌≤ℤ◌, ◌<ℤ◌}
+use borrow.Author.Tests.{lt-ltb, le-leb}
 use mir.Syntax.{w64}
-use mir.Val.{SFits, to_z, of_z}
-use mir.ValLaws.{to_z-of_z}
+use mir.Val.{SFits}
 use Rattle.lemmas.specs.Sums.{sum, total}
 use Rattle.lemmas.proofs.Sums.{sum_cong, sum_mono, sum_add, sum_zero, sum_same}
 use Rattle.lemmas.proofs.Totals.{total_is}
@@ -19,7 +20,7 @@ use Rattle.lemmas.proofs.Whole.{up, dn, Is, one_part, is_nat, is_self, is_add, i
 use Rattle.lemmas.proofs.Whole.{le_z_true, le_z_false, lt_z_true, lt_z_false, le_le_z, lt_le_z, ι, ν, ◌⊕◌, eq_by}
 use Rattle.lemmas.proofs.Machine.{nat_abs_parts, Near, near, near_add, near_sub, near_back, near_call, near_fits}
 use Rattle.pruned.proofs.Moving.{held}
-use Rattle.masks.specs.Mask.{digit_of, mask_of, all_ones}
+use Rattle.masks.specs.Mask.{digit_of, all_ones}
 use Rattle.masks.specs.Leaves.{value_limit, step_limit, with_steps, row_mask}
 use Rattle.masks.proofs.Mask.{mask_cong, nowhere_mask, everywhere_mask}
 use Rattle.masks.proofs.Digits.{digit_few}
@@ -117,15 +118,10 @@ module _ (n : ℕ) (step : ℕ → ℤ) where
       (λ z. omega (arith, a, b, d, nat_abs_parts v, sizes_are))
 
 -- ---- in code
-module _ {s : ℤ} (fits : SFits w64 s) where
-  test_is : {t : Bool} → le_z (pos 0) (held s) ≡ t → le_z (pos 0) s ≡ t
-  test_is e = ap (le_z (pos 0)) (sym (to_z-of_z w64 s fits)) ∙ e
-
-  pub falls_nothing : le_z (pos 0) (held s) ≡ true → pos 0 ≡ fall_of s
-  falls_nothing e = sym (ap (λ (t : Bool). cond t (pos 0) s) (test_is e))
-
-  pub falls_whole : le_z (pos 0) (held s) ≡ false → held s ≡ fall_of s
-  falls_whole e = to_z-of_z w64 s fits ∙ sym (ap (λ (t : Bool). cond t (pos 0) s) (test_is e))
+pub min_falls : (s : ℤ) → int_min s (pos 0) ≡ fall_of s
+min_falls (pos zero) = refl
+min_falls (pos (suc n)) = rw (lt-ltb 0 (suc n) (omega arith), le-leb 0 (suc n) (omega arith))
+min_falls (negsuc n) = refl
 
 -- a part of each of six steps, added up
 pub record PartOf (g : ℤ → ℤ) : Type 0 where

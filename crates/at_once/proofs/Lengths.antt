@@ -18,7 +18,6 @@ use Rattle.universe.proofs.Questions.{levels_told, axes_left_at}
 use Rattle.convert.specs.Small.{SmallPlace}
 use Rattle.pruned.proofs.Doublings.{times_few, power_is}
 use Rattle.masks.specs.Steps.{axis_left, side_left}
-use Rattle.at_once.specs.declared.answer.Span as spans
 use Rattle.at_once.specs.Words.{word_levels, doublings_of, Tabled}
 
 side_short : (u : Universe) → Accepted u → (l i : ℕ) → block_side u l i ≤ longest_side
@@ -59,22 +58,23 @@ one_power : ◌≡◌ {A = ℕ} 1 (2 ^ doublings_of 1)
 unfolding count_trailing_zeros
 one_power = refl
 
--- of any universe with that table
-abbrev pub SoFarOfAny : List ℕ → List ℕ → List ℕ → ℕ → ℕ → Type 0
-SoFarOfAny table lengths side stop left =
-    (u : Universe) → universe_refusal u ≡ 0 → table ≡ axes_left u → stop ≡ min (levels u) word_levels → SoFar u table lengths side stop left
+-- what the code asks of a place on the way
+pub record InPlace (table lengths side : List ℕ) (left : ℕ) : Type 0 where
+  pub in_table : left < most_levels
+  pub in_word : left < word_levels
+  pub on_axis : get_or table left 0 < most_axes
+  pub doubled : 2 * get_or side (get_or table left 0) 0 < 2 ^ 64
+  pub places : length lengths ≡ word_levels
+  pub sides : length side ≡ most_axes
 
-pub stop_told : (u : Universe) {stop told : ℕ} → universe_refusal u ≡ 0 → told ≡ levels_answer u → stop ≡ min told word_levels →
-    stop ≡ min (levels u) word_levels
-stop_told u e l s = s ∙ ap (λ (n : ℕ). min n word_levels) (levels_told u refl e l)
-
-pub lengths_begin : (table : List ℕ) (stop : ℕ) → SoFarOfAny table (replicate word_levels 1) (replicate most_axes 1) stop 0
-lengths_begin table stop u e t s =
+pub lengths_begin : (u : Universe) {table : List ℕ} {stop told : ℕ} → universe_refusal u ≡ 0 → table ≡ axes_left u → told ≡ levels_answer u →
+    stop ≡ min told word_levels → SoFar u table (replicate word_levels 1) (replicate most_axes 1) stop 0
+lengths_begin u e t l s =
     let a = accepted u e in
     record {
       accepted = e;
       table_is = t;
-      stop_is = s;
+      stop_is = s ∙ ap (λ (n : ℕ). min n word_levels) (levels_told u refl e l);
       reached = omega arith;
       places = refl;
       sides = refl;
@@ -116,20 +116,31 @@ module _ {u : Universe} {table lengths side : List ℕ} {stop left : ℕ} (s : S
     axis_in : axis < u.axes
     axis_in = rw axis_is (axis_below u a.some_axes level)
 
-    pub place_fits : left < most_levels
+    place_fits : left < most_levels
     place_fits = omega (arith, inside, levels_few u a)
 
-    pub word_place : left < word_levels
+    word_place : left < word_levels
     word_place = omega (arith, s.stop_is)
 
-    pub axis_fits : axis < most_axes
+    axis_fits : axis < most_axes
     axis_fits = omega (arith, axis_in, a.few_axes)
 
     length_is : get_or side axis 0 ≡ side_left u left
     length_is = s.along axis axis_in ∙ ap (block_side u (levels u - left)) axis_is
 
-    pub length_fits : 2 * get_or side axis 0 < 2 ^ 64
+    length_fits : 2 * get_or side axis 0 < 2 ^ 64
     length_fits = omega (arith, length_is, side_short u a (levels u - left) (axis_left u left))
+
+    pub in_place : InPlace table lengths side left
+    in_place =
+        record {
+          in_table = place_fits;
+          in_word = word_place;
+          on_axis = axis_fits;
+          doubled = length_fits;
+          places = s.places;
+          sides = s.sides;
+        }
 
     done_next : (j : ℕ) → j < left + 1 → Dec (j ≡ left) → get_or (set lengths left (get_or side axis 0)) j 0 ≡ side_left u j
     done_next j k (yes e) = rw e (get_or-set_same lengths left (get_or side axis 0) 0 (omega (arith, s.places, word_place)) ∙ length_is)

@@ -1,58 +1,29 @@
 -- The numbers of sure and possible contact, as the machine computes them: sizes, a row's reach and its value moved by it, and for a ball twice the nearest or
 -- the farthest distances along the axes, with their squares. None of them overflows.
-use mathlib.Core.Path.{◌≡◌, refl, sym, ap, ap₂, ◌∙◌, subst}
-use mathlib.Core.Bool.{Bool, true, false, cond}
+use mathlib.Core.Path.{◌≡◌, refl, ap, ◌∙◌}
+use mathlib.Core.Bool.{Bool, true, false}
 use mathlib.Core.List.{List}
-use Prim.Native.Nat.{ℕ, zero, suc, ◌+◌, ◌-◌, ◌*◌, ◌^◌, ◌≤◌, ◌<◌}
+use Prim.Native.Nat.{ℕ, suc, ◌+◌, ◌-◌, ◌*◌, ◌^◌, ◌≤◌, ◌<◌}
 use native.Mathlib.Omega.{arith}
 use native.Mathlib.Nat.{mul-le-mul}
 use native.Mathlib.Decide.{dec_lt}
-use lib.Dec.{T, ltb, lit<}
+use lib.Dec.{lit<}
 use lib.ListN.{get_or}
-use lib.IntN.{ℤ, pos, neg_ℤ, nat_abs, ◌+ℤ◌, ◌-ℤ◌}
-use lib.Signed.{◌<ℤ◌, lt_z, non_neg}
+use lib.IntN.{ℤ, pos, neg_ℤ, nat_abs, ◌-ℤ◌}
 use borrow.Author.Tests.{lt-ltb, le-ltb}
 use mir.Syntax.{w64}
-use mir.Val.{Fits, SFits, to_z}
+use mir.Val.{to_z}
 use Rattle.lemmas.specs.Sums.{sum}
-use Rattle.lemmas.proofs.Machine.{Near, near, near_lit, near_cast, near_add, near_sub, near_back, near_call, near_fits, near_size, near_unsigned, size_neg}
-use Rattle.lemmas.proofs.Whole.{ι, ν, ◌⊖◌, ⊝, eq_by, le_by, lt_of, lt_z_true, lt_z_false}
+use Rattle.lemmas.proofs.Machine.{Near, near, near_lit, near_cast, near_sub, near_back, near_size, size_neg}
+use Rattle.lemmas.proofs.Whole.{ν, ◌⊖◌, ⊝, eq_by}
 use Rattle.universe.specs.Universe.{most_axes, coefficient_limit}
 use Rattle.csg.specs.Halfspace.{Halfspace, row_at}
-use Rattle.csg.specs.Ball.{most_places, square}
+use Rattle.csg.specs.Ball.{most_places}
 use Rattle.pruned.proofs.Moving.{held}
 use Rattle.masks.specs.Leaves.{off_limit}
 use Rattle.masks.specs.Own.{reach, reached, spread}
 use Rattle.at_once.specs.Words.{step_at, RowNamed, SmallOff}
-use Rattle.at_once.specs.Own.{SmallNumber, SmallReach, SpreadReady, SpreadsReady, spread_square, spread_squares}
-
--- ---- sizes
-abbrev most_number : ℕ
-most_number = 2 ^ 62
-
-module _ {x : ℤ} (s : SmallNumber x) where
-  number_near : Near (held x) x most_number
-  number_near = near (record { most = s.most }) tt
-
-  turned_near : Near (pos 0 -ℤ held x) (pos 0 -ℤ x) most_number
-  turned_near = near_sub {x = pos 0} {y = x} (near_lit (pos 0)) number_near
-
-  pub turned_fits : SFits w64 (pos 0 -ℤ held x)
-  turned_fits = near_fits {x = pos 0 -ℤ x} turned_near tt
-
-  pub turned_cast : lt_z (held x) (pos 0) ≡ true → T (non_neg (held (pos 0 -ℤ held x))) × Fits w64 (nat_abs (held (pos 0 -ℤ held x)))
-  turned_cast t =
-      let below : x <ℤ pos 0 = lt_z_true x (pos 0) (subst (λ (z : ℤ). lt_z z (pos 0) ≡ true) number_near.same t) in
-      near_unsigned {x = pos 0 -ℤ x} (near_back {x = pos 0 -ℤ x} turned_near tt) tt (le_by (ν 0) (ν 0 ⊖ ι x) (omega (arith, lt_of (ι x) (ν 0) below)))
-
-  pub turned_is : nat_abs (held (pos 0 -ℤ held x)) ≡ nat_abs x
-  turned_is = ap nat_abs ((near_back {x = pos 0 -ℤ x} turned_near tt).same ∙ eq_by (ν 0 ⊖ ι x) (⊝ (ι x)) (omega arith)) ∙ size_neg x
-
-  pub straight_cast : lt_z (held x) (pos 0) ≡ false → T (non_neg (held x)) × Fits w64 (nat_abs (held x))
-  straight_cast t = near_unsigned {x = x} number_near tt (lt_z_false x (pos 0) (subst (λ (z : ℤ). lt_z z (pos 0) ≡ false) number_near.same t))
-
-  pub straight_is : nat_abs (held x) ≡ nat_abs x
-  straight_is = ap nat_abs number_near.same
+use Rattle.at_once.specs.Own.{SmallReach, SpreadReady, SpreadsReady, spread_square, spread_squares}
 
 -- ---- a row's reach
 module _ {rows : List ℤ} {i : ℕ} (row : RowNamed rows i) where
@@ -65,9 +36,6 @@ module _ {rows : List ℤ} {i : ℕ} (row : RowNamed rows i) where
   coefficient_near : (k at : ℕ) → k < most_axes → at ≡ 5 * i + 1 + k → Near (held (get_or rows at (pos 0))) (h.coefficient k) coefficient_limit
   coefficient_near k at l e = rw (read k at e) (near (record { most = (row.small.coefficient k l).most }) tt)
 
-  pub coefficient_asks : (k at : ℕ) → k < most_axes → at ≡ 5 * i + 1 + k → SmallNumber (held (get_or rows at (pos 0)))
-  coefficient_asks k at l e = record { most = omega (arith, (near_size (coefficient_near k at l e)).most) }
-
   coefficient_size : (k at : ℕ) → k < most_axes → at ≡ 5 * i + 1 + k → {a : ℕ} → a ≡ nat_abs (held (get_or rows at (pos 0))) →
       (a ≡ nat_abs (h.coefficient k)) × (a ≤ coefficient_limit)
   coefficient_size k at l e p =
@@ -76,16 +44,6 @@ module _ {rows : List ℤ} {i : ℕ} (row : RowNamed rows i) where
 
   module _ {a b c d : ℕ} (p : a ≡ nat_abs (held (get_or rows (5 * i + 1) (pos 0)))) (q : b ≡ nat_abs (held (get_or rows (5 * i + 1 + 1) (pos 0))))
       (r : c ≡ nat_abs (held (get_or rows (5 * i + 1 + 2) (pos 0)))) (s : d ≡ nat_abs (held (get_or rows (5 * i + 1 + 3) (pos 0)))) where
-    pub reach_few : a + b + c + d ≤ most_axes * coefficient_limit
-    reach_few =
-        omega (
-          arith,
-          (coefficient_size 0 (5 * i + 1) (lit< tt) (omega arith) p).1,
-          (coefficient_size 1 (5 * i + 1 + 1) (lit< tt) refl q).1,
-          (coefficient_size 2 (5 * i + 1 + 2) (lit< tt) refl r).1,
-          (coefficient_size 3 (5 * i + 1 + 3) (lit< tt) refl s).1,
-        )
-
     pub reach_is : a + b + c + d ≡ reach most_axes h
     unfolding reach sum
     reach_is =
@@ -115,9 +73,6 @@ module _ {n : ℕ} (s : SmallReach n) where
   abbrev reach_most : ℕ
   reach_most = most_axes * coefficient_limit
 
-  pub none_reached : {possible : Bool} → possible ≡ true → n ≡ 0 → pos 0 ≡ reached possible n
-  none_reached e z = rw (e, z)
-
   pub above_reached : {possible : Bool} → possible ≡ true → held (pos (n - 1)) ≡ reached possible n
   above_reached e =
       let few : n - 1 ≤ reach_most = omega (arith, s.most) in
@@ -127,9 +82,6 @@ module _ {n : ℕ} (s : SmallReach n) where
   below_near =
       let m = near_sub {x = pos 0} {y = pos n} (near_lit (pos 0)) (near_cast n reach_most s.most tt) in
       record { same = m.same ∙ eq_by (ν 0 ⊖ ν n) (⊝ (ν n)) (omega arith); size = omega (arith, size_neg (pos n), s.most) }
-
-  pub below_fits : SFits w64 (pos 0 -ℤ to_z w64 n)
-  below_fits = near_fits {x = neg_ℤ (pos n)} below_near tt
 
   pub below_reached : {possible : Bool} → possible ≡ false → held (pos 0 -ℤ to_z w64 n) ≡ reached possible n
   below_reached e = rw e (near_back {x = neg_ℤ (pos n)} below_near tt).same
@@ -145,9 +97,6 @@ module _ {x : ℤ} (s : SmallOff x) where
   off_near : Near (held x) x off_most
   off_near = near (record { most = s.most }) tt
 
-  pub off_number : SmallNumber (held x)
-  off_number = record { most = omega (arith, (near_size off_near).most) }
-
   pub off_again : SmallOff (held x)
   off_again = record { most = (near_size off_near).most }
 
@@ -157,9 +106,6 @@ module _ {x : ℤ} (s : SmallOff x) where
 
     pub size_few : n + 1 < 2 ^ 64
     size_few = omega (arith, size_is, s.most)
-
-    pub spread_none : {possible : Bool} → possible ≡ true → n ≡ 0 → 0 ≡ spread possible x
-    spread_none p z = rw p (omega (arith, size_is))
 
     pub spread_near : {possible : Bool} → possible ≡ true → n - 1 ≡ spread possible x
     spread_near p = rw p (omega (arith, size_is))

@@ -12,10 +12,8 @@ use lib.Dec.{eqb}
 use lib.IntN.{ℤ, pos, nat_abs, ◌+ℤ◌, ◌-ℤ◌, ◌*ℤ◌}
 use lib.ListN.{length, get_or, set, length-set}
 use lib.Seq.{get_or-set_same, get_or-set_other}
-use mir.Syntax.{w64}
-use mir.Val.{SFits}
 use Rattle.lemmas.proofs.Sums.{and_left, and_right}
-use Rattle.lemmas.proofs.Machine.{Near, near, near_add, near_sub, near_back, near_fits, size_mul}
+use Rattle.lemmas.proofs.Machine.{Near, near, near_add, near_sub, size_mul}
 use Rattle.universe.specs.Universe.{longest_side, offset_limit, coefficient_limit}
 use Rattle.csg.specs.Halfspace.{most_rows, row_at}
 use Rattle.convert.specs.Small.{SmallCoefficient, SmallPlace}
@@ -38,18 +36,6 @@ module _ {value step : ℤ} (s : SmallStep value step) where
 
   less_near : Near (held value -ℤ held step) (value -ℤ step) (low_limit + coefficient_limit * longest_side)
   less_near = near_sub {x = value} {y = step} value_near step_near
-
-  pub more_fits : SFits w64 (held value +ℤ held step)
-  more_fits = near_fits {x = value +ℤ step} more_near tt
-
-  pub less_fits : SFits w64 (held value -ℤ held step)
-  less_fits = near_fits {x = value -ℤ step} less_near tt
-
-  pub more_is : {up : Bool} → up ≡ true → held (held value +ℤ held step) ≡ stepped up value step
-  more_is e = rw e (near_back {x = value +ℤ step} more_near tt).same
-
-  pub less_is : {up : Bool} → up ≡ false → held (held value -ℤ held step) ≡ stepped up value step
-  less_is e = rw e (near_back {x = value -ℤ step} less_near tt).same
 
   stepped_few : (up : Bool) → nat_abs (stepped up value step) ≤ low_limit + coefficient_limit * longest_side
   stepped_few true = more_near.size

@@ -1,6 +1,5 @@
 -- The word of a halfspace, as the machine computes it. The values on the way are those of the first voxel and some steps more, so that no sum overflows.
-use mathlib.Core.Path.{◌≡◌, refl, sym, ap, ap₂, ◌∙◌}
-use mathlib.Core.Bool.{Bool, true, false}
+use mathlib.Core.Path.{◌≡◌, sym, ap, ap₂, ◌∙◌}
 use mathlib.Core.List.{List}
 use Prim.Native.Nat.{ℕ, suc, ◌+◌, ◌-◌, ◌*◌, ◌%◌, ◌^◌, ◌≤◌, ◌<◌}
 use native.Mathlib.Omega.{arith}
@@ -9,7 +8,7 @@ use lib.Bits.{bit_and, bit_or, and_mask}
 use lib.IntN.{ℤ, pos, ◌+ℤ◌}
 use lib.Signed.{le_z}
 use mir.Syntax.{w64}
-use mir.Val.{SFits, to_z, of_z, bool_byte}
+use mir.Val.{SFits}
 use mir.ValLaws.{to_z-of_z}
 use Rattle.lemmas.specs.Grid.{count}
 use Rattle.lemmas.proofs.Machine.{size_add, Near, near, near_add, near_back, near_fits}
@@ -19,12 +18,8 @@ use Rattle.masks.specs.Leaves.{value_limit, step_limit, row_mask}
 use Rattle.masks.proofs.Digits.{side_by_side}
 use Rattle.masks.proofs.Leaves.{row_mask_halves, row_mask_fits, row_mask_part, row_mask_voxel}
 use Rattle.at_once.specs.Words.{word_levels, step_at, RowReady}
-use Rattle.at_once.proofs.Windows.{byte_count}
 
 -- of one voxel
-pub one_digit : (v : ℤ) → SFits w64 v → bool_byte (le_z (pos 0) (held v)) ≡ count (le_z (pos 0) v)
-one_digit v f = byte_count (le_z (pos 0) (held v)) ∙ ap (λ (z : ℤ). count (le_z (pos 0) z)) (to_z-of_z w64 v f)
-
 -- of twice as many
 module _ (n : ℕ) (few : n < word_levels) {v : ℤ} {steps : List ℤ} (ready : RowReady (suc n) v steps) where
   value_near : Near (held v) v (value_limit + word_levels * step_limit)

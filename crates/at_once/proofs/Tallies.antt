@@ -44,7 +44,7 @@ use Rattle.masks.proofs.Block.{Left, mask_agree, mask_digit, voxel_within}
 use Rattle.masks.proofs.Trees.{white_mask_lem}
 use Rattle.masks.proofs.Windows.{window_mask_lem}
 use Rattle.masks.proofs.Seen.{seen_halves, seen_ones, seen_few, seen_white, seen_black, seen_missed, seen_agree}
-use Rattle.at_once.specs.declared.tally.Tally.{Tally}
+use Rattle.at_once.specs.declared.answer.Contacts.{Contacts}
 use Rattle.at_once.specs.Codes.{SameCodes}
 use Rattle.at_once.specs.Words.{word_levels, WordBlock, word_block, TreesWord}
 use Rattle.at_once.specs.declared.three.Three.{Three}
@@ -57,7 +57,7 @@ use Rattle.at_once.proofs.Jobs.{trees_of_lem}
 use Rattle.at_once.proofs.Jobs.{prune_job, mark_is, open_over, decided_white, decided_black, left_job, left_colours}
 use Rattle.at_once.proofs.Jobs.{left_suc, lower_block, upper_block_lem, lower_job, lower_at, upper_job, upper_at, carrying_same, same_then}
 
-pub tally_eq : (x y : Tally) → x.sure ≡ y.sure → x.centre ≡ y.centre → x.possible ≡ y.possible → x ≡ y
+pub tally_eq : (x y : Contacts) → x.sure ≡ y.sure → x.centre ≡ y.centre → x.possible ≡ y.possible → x ≡ y
 tally_eq x y e f g = λ i. record { sure = e i; centre = f i; possible = g i }
 
 -- ---- a voxel's three colours: one, or doubt
@@ -121,7 +121,7 @@ module _ {surfaces : Surfaces} {axes : ℕ} {table lengths low side : List ℕ} 
   abbrev wide : ℕ
   wide = get_or side (axes - 1) 0
 
-  pub tally_small : {t : Tally} → t ≡ tally_over first last job → SmallTally t
+  pub tally_small : {t : Contacts} → t ≡ tally_over first last job → SmallTally t
   tally_small e =
       let p : 2 ^ left ≤ 2 ^ most_levels = pow_mono {i = left} {j = most_levels} (few_levels job) in
       rw e (record {
@@ -130,7 +130,7 @@ module _ {surfaces : Surfaces} {axes : ℕ} {table lengths low side : List ℕ} 
         possible = le_trans (seen_few first last (all_own true surfaces u trees) left b (leftover job)) p;
       })
 
-  pub tally_missed : {begin end : ℕ} → begin ≡ max frame first → end ≡ min (frame + (wide - 1)) last → end < begin → {r : Tally} → r ≡ tally_of 0 →
+  pub tally_missed : {begin end : ℕ} → begin ≡ max frame first → end ≡ min (frame + (wide - 1)) last → end < begin → {r : Contacts} → r ≡ tally_of 0 →
       r ≡ tally_over first last job
   tally_missed e f h q =
       let m : best_seen true first last b < best_seen false first last b = omega (arith, begin_is job first last e, end_is job first last f) in
@@ -161,7 +161,7 @@ module _ {surfaces : Surfaces} {axes : ℕ} {table lengths low side : List ℕ} 
 
     module _ {words : Three} (three : AllThree surfaces u trees left b words) where
       -- no voxel is possible
-      pub tally_none : words.possible ≡ 0 → {r : Tally} → r ≡ tally_of 0 → r ≡ tally_over first last job
+      pub tally_none : words.possible ≡ 0 → {r : Contacts} → r ≡ tally_of 0 → r ≡ tally_over first last job
       unfolding ones
       tally_none z q =
           q
@@ -211,7 +211,7 @@ module _ {surfaces : Surfaces} {axes : ℕ} {table lengths low side : List ℕ} 
     all_colour_lem : (c : Colour) → all_mark surfaces trees b ≡ decided c → (possible : Bool) (v : List ℕ) → Within b v → all_own possible surfaces u trees v ≡ c
     all_colour_lem c e possible v w = own_decided surfaces b v w possible trees c e
 
-    pub tally_white : mark ≡ 2 → {r : Tally} → r ≡ tally_of 0 → r ≡ tally_over first last job
+    pub tally_white : mark ≡ 2 → {r : Contacts} → r ≡ tally_of 0 → r ≡ tally_over first last job
     tally_white e q =
         let m = bits_white (all_mark surfaces trees b) (sym (mark_is job h pruned) ∙ e) in
         q
@@ -221,7 +221,7 @@ module _ {surfaces : Surfaces} {axes : ℕ} {table lengths low side : List ℕ} 
         (sym (seen_white first last (all_own true surfaces u trees) left b (leftover job) (all_colour_lem White m true)))
 
     pub tally_black : {begin end : ℕ} → begin ≡ max frame first → end ≡ min (frame + (wide - 1)) last → begin ≤ end → mark ≡ 1 →
-        {n : ℕ} → n ≡ black_voxels left wide begin end → {r : Tally} → r ≡ tally_of n → r ≡ tally_over first last job
+        {n : ℕ} → n ≡ black_voxels left wide begin end → {r : Contacts} → r ≡ tally_of n → r ≡ tally_over first last job
     tally_black {begin} {end} e f k black {n} a q =
         q
         ∙ tally_eq _ _
@@ -249,7 +249,7 @@ module _ {surfaces : Surfaces} {axes : ℕ} {table lengths low side : List ℕ} 
       own_leftover possible i =
           own_left surfaces b (voxel_at left b i) (voxel_within left b i (leftover job)) possible trees (open_over job h pruned not_white not_black)
 
-      pub tally_opened : {r : Tally} → r ≡ tally_over first last (left_job job h pruned not_white not_black n e) → r ≡ tally_over first last job
+      pub tally_opened : {r : Contacts} → r ≡ tally_over first last (left_job job h pruned not_white not_black n e) → r ≡ tally_over first last job
       unfolding left_job
       tally_opened q =
           q
@@ -290,7 +290,7 @@ module _ {surfaces : Surfaces} {axes : ℕ} {table lengths low side : List ℕ} 
   halves_tally =
       tally_eq _ _ (seen_both (all_own false surfaces v carried)) (seen_both (all_colour surfaces v carried)) (seen_both (all_own true surfaces v carried))
 
-  module _ {below : Tally} {low₁ side₁ codes₁ : List ℕ} (q : below ≡ tally_over first last (lower_job job some))
+  module _ {below : Contacts} {low₁ side₁ codes₁ : List ℕ} (q : below ≡ tally_over first last (lower_job job some))
       (p : PutBack (from + count) low (set side axis half) codes low₁ side₁ codes₁) where
     below_is : below ≡ tally_from first last surfaces v carried (block_left v (left - 1) low)
     unfolding lower_job lower_at
@@ -305,7 +305,7 @@ module _ {surfaces : Surfaces} {axes : ℕ} {table lengths low side : List ℕ} 
     pub tally_upper : UpperJob (set low₁ axis (get_or low axis 0 + half)) side₁
     tally_upper = rw (low_is, p.sides) (upper_job job some p.below)
 
-    module _ {above : Tally} {low₂ side₂ codes₂ : List ℕ}
+    module _ {above : Contacts} {low₂ side₂ codes₂ : List ℕ}
         (f : (j : UpperJob (set low₁ axis (get_or low axis 0 + half)) side₁) → above ≡ tally_over first last j)
         (r : PutBack (from + count) (set low₁ axis (get_or low axis 0 + half)) side₁ codes₁ low₂ side₂ codes₂) where
       above_job : above ≡ tally_over first last (upper_job job some p.below)
@@ -324,7 +324,7 @@ module _ {surfaces : Surfaces} {axes : ℕ} {table lengths low side : List ℕ} 
       pub small_above : SmallTally above
       small_above = tally_small (upper_job job some p.below) first last above_job
 
-      pub tally_both : {t : Tally} → t ≡ tallied below above → t ≡ tally_over first last job
+      pub tally_both : {t : Contacts} → t ≡ tallied below above → t ≡ tally_over first last job
       tally_both e = e ∙ ap₂ tallied below_is above_is ∙ halves_tally
 
       pub both_back : PutBack (from + count) low side codes (set low₂ axis (get_or low axis 0)) (set side₂ axis (get_or side axis 0)) codes₂

@@ -11,21 +11,19 @@ use lib.Dec.{eqb}
 use lib.ListN.{length, set, length-set}
 use lib.Seq.{sets, length-sets, set_out}
 use lib.Pow.{pow_pos, pow-add}
-use lib.Bits.{bit_and, bit_or, bit_xor, and_le_r, or_zero_l}
-use lib.Count.{ones, ones-le}
+use lib.Bits.{bit_and, bit_or, bit_xor, or_zero_l}
+use lib.Count.{ones}
 use Rattle.lemmas.proofs.Stores.{sets_append}
-use Rattle.bintree.specs.declared.Colour.{Colour}
 use Rattle.bintree.specs.declared.Colour.TheVariants.{White, Black}
-use Rattle.bintree.specs.Shape.{Shape, leaf, halved, open_symbol, symbol_of, symbols, size}
+use Rattle.bintree.specs.Shape.{Shape, leaf, halved, open_symbol, symbols, size}
 use Rattle.bintree.specs.Walks.{leaf_symbol, noted, laid}
-use Rattle.bintree.proofs.Shape.{length_symbols, size_positive}
+use Rattle.bintree.proofs.Shape.{length_symbols}
 use Rattle.bintree.proofs.Lays.{noted_some, laid_noted}
 use Rattle.lemmas.specs.Sums.{sum}
 use Rattle.masks.specs.Mask.{all_ones, mask_of}
 use Rattle.masks.specs.Shapes.{mask_shape, mixed_mask, starts_mask, mask_size}
 use Rattle.masks.proofs.Sizes.{mask_size_lem}
 use Rattle.convert.specs.Shapes.{end_limit}
-use Rattle.pruned.specs.Laying.{packed_shape}
 use Rattle.at_once.specs.Words.{word_levels}
 use Rattle.at_once.specs.Merged.{LaidShape, TextJob, WrittenText, RoomyText}
 
@@ -183,9 +181,6 @@ module _ {word left at : ℕ} {out : List ℕ} (job : RoomyText word left out at
   abbrev text : TextJob word left at
   text = job.text
 
-  pub place_in : at < length out
-  place_in = omega (arith, job.roomy, pow-suc 2 left, pow_pos left)
-
   pub white_stored : word ≡ 0 → WrittenText word left out at (at + 1) (set out at 87)
   white_stored e = white_text text e out (noted_some out at 87 (λ z. omega arith))
 
@@ -247,9 +242,6 @@ module _ {word left at : ℕ} (job : TextJob word left at) where
 one_mixed : (m : ℕ) → mixed_mask 1 m ≡ bit_xor m (m / 2)
 unfolding mixed_mask
 one_mixed m = or_zero_l (bit_xor m (m / 2))
-
-pub ones_few : (x c : ℕ) → c < 2 ^ 64 → ones (bit_and x c) ≤ 64
-ones_few x c h = ones-le 64 (bit_and x c) (omega (arith, and_le_r x c))
 
 pub size_counted : (m : ℕ) → m < 2 ^ 64 →
     1 + 2 * (ones (bit_and (mixed_mask 1 m) 0x5555555555555555) + ones (bit_and (mixed_mask 2 m) 0x1111111111111111)

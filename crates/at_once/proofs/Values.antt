@@ -24,26 +24,18 @@ use Rattle.universe.specs.Block.{low_along}
 use Rattle.csg.specs.Halfspace.{Halfspace, lesser, row_at}
 use Rattle.csg.proofs.Halfspace.{axes_of, end_along, added, taken, rise, fall, least_is, greatest_is}
 use Rattle.convert.specs.Small.{SmallCoefficient, SmallPlace, SmallPlaces}
-use Rattle.pruned.specs.Nodes.{falls, SmallExtreme}
-use Rattle.pruned.proofs.Moving.{held, extreme_near, fall_is, rises_all, falls_all}
+use Rattle.pruned.specs.Nodes.{falls}
+use Rattle.pruned.proofs.Moving.{held, fall_is, rises_all, falls_all}
 use Rattle.pruned.proofs.Steps.{is_size}
 use Rattle.at_once.specs.Words.{RowNamed}
 use Rattle.at_once.specs.Values.{along_of, fall_along, RowOver, RowFound}
 use Rattle.at_once.specs.Moves.{lengths_by, low_value, SmallTimes, RowStands}
 use Rattle.at_once.proofs.Powers.{length_at, times_at, small_times}
+use Rattle.std.specs.Int.{int_min}
+use Rattle.at_once.proofs.Falling.{min_falls}
 use Rattle.at_once.proofs.RowValues.{term_limit, coefficient_near, FourSmall, total_near}
 
--- ---- what falls, as the machine tells it
-module _ {x : ℤ} (s : SmallExtreme x) where
-  test_is : {t : Bool} → le_z (pos 0) (held x) ≡ t → le_z (pos 0) x ≡ t
-  test_is e = rw (extreme_near s).same at e
-
-  pub falls_nothing : le_z (pos 0) (held x) ≡ true → pos 0 ≡ lesser (pos 0) x
-  falls_nothing t = rw (test_is t)
-
-  pub falls_whole : le_z (pos 0) (held x) ≡ false → held x ≡ lesser (pos 0) x
-  falls_whole t = rw (test_is t) (extreme_near s).same
-
+-- ---- what falls
 lesser_falls : (a : ℤ) (side : ℕ) → lesser (pos 0) (a *ℤ pos side) ≡ falls a side
 lesser_falls a side = by (le_z (pos 0) (a *ℤ pos side)) refl
   where
@@ -69,11 +61,8 @@ module _ {rows : List ℤ} {i : ℕ} (row : RowNamed rows i) {places : List ℕ}
       along_held : Near (held t) (along_of line places axis) share
       along_held = near_call {x = along_of line places axis} e (record { same = refl; size = along_size }) tt
 
-      pub along_asks : SmallExtreme (held t)
-      along_asks = rw along_held.same (record { most = omega (arith, along_held.size) })
-
-      pub falls_along : {f : ℤ} → f ≡ lesser (pos 0) (held t) → f ≡ fall_along line places axis
-      falls_along g = g ∙ ap (lesser (pos 0)) along_held.same ∙ lesser_falls (line.coefficient axis) (get_or places axis 0)
+      pub falls_along : {f : ℤ} → f ≡ int_min (held t) (pos 0) → f ≡ fall_along line places axis
+      falls_along g = g ∙ min_falls (held t) ∙ ap (lesser (pos 0)) along_held.same ∙ lesser_falls (line.coefficient axis) (get_or places axis 0)
 
   pub along_small : FourSmall (along_of line places)
   along_small = record { few = λ j l. omega (arith, along_size j l) }

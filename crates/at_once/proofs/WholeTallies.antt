@@ -1,5 +1,5 @@
 -- The tally of the whole universe's block is the three counts of the window's voxels, since both trees that are carried into it have the marks and the colours
--- of their intersection; and what the question answers with it.
+-- of their intersection.
 use Prim.Native.Nat.{ℕ}
 use mathlib.Core.Path.{◌≡◌, ap, ap₂, ◌∙◌}
 use mathlib.Core.Bool.{true, false}
@@ -30,7 +30,6 @@ use Rattle.masks.specs.Seen.{seen_in}
 use Rattle.masks.proofs.Block.{left_whole}
 use Rattle.masks.proofs.Seen.{seen_agree, seen_whole}
 use Rattle.at_once.specs.declared.answer.Contacts.{Contacts}
-use Rattle.at_once.specs.declared.tally.Tally.{Tally}
 use Rattle.at_once.specs.Words.{Tabled}
 use Rattle.at_once.specs.Own.{all_own}
 use Rattle.at_once.specs.Tallies.{tally_from, tally_over}
@@ -54,7 +53,7 @@ module _ {u : Universe} {surfaces : Surfaces} {words₁ words₂ : List ℕ} {fr
   marks : (v : List ℕ) → all_mark surfaces trees (block_of u v) ≡ tree_mark surfaces t (block_of u v)
   marks v = (two_stand surfaces (tree_of (named surfaces) words₁) (tree_of (named surfaces) words₂)).marks (block_of u v)
 
-  all_tally : {k : Tally} → k ≡ tally_from from to surfaces u trees (whole_block u) → WholeTally u surfaces words₁ words₂ from to k
+  all_tally : {k : Contacts} → k ≡ tally_from from to surfaces u trees (whole_block u) → WholeTally u surfaces words₁ words₂ from to k
   unfolding all_own sure_colour possible_colour
   all_tally e = rw e (record {
     sure = seen_as (all_own false surfaces u trees) (sure_colour surfaces u t) (λ v. ap (settled (doubt_of false)) (marks v));
@@ -65,7 +64,7 @@ module _ {u : Universe} {surfaces : Surfaces} {words₁ words₂ : List ℕ} {fr
 
   pub whole_tally : {left : ℕ} (l : left ≡ levels_answer u) {table lengths side codes codes₁ starts starts₁ : List ℕ} {values₁ : List ℤ}
       (long : length codes ≡ most_codes) (shelf : length starts ≡ most_shapes) (tabled : Tabled u table lengths) (sides : side ≡ whole_sides u)
-      (loaded : BothLoaded {codes = codes} {starts = starts} (both_job r {codes = codes} {starts = starts} long shelf) codes₁ starts₁ values₁) {k : Tally} →
+      (loaded : BothLoaded {codes = codes} {starts = starts} (both_job r {codes = codes} {starts = starts} long shelf) codes₁ starts₁ values₁) {k : Contacts} →
       k ≡ tally_over from to (whole_job r l long shelf tabled sides loaded) → WholeTally u surfaces words₁ words₂ from to k
   whole_tally {left} l long shelf tabled sides loaded e =
       let is = whole_is_of r l long shelf tabled sides loaded in
@@ -73,15 +72,3 @@ module _ {u : Universe} {surfaces : Surfaces} {words₁ words₂ : List ℕ} {fr
       (e
       ∙ ap₂ (λ (x : Universe) (ps : List Plain). tally_from from to surfaces x ps (block_left x left (replicate most_axes 0))) is.0 is.1
       ∙ ap (tally_from from to surfaces u trees) (block_is r l))
-
--- ---- what is answered
-module _ (u : Universe) (surfaces : Surfaces) (words₁ words₂ : List ℕ) (from to : ℕ) {n : ℕ}
-    (e : n ≡ clearance_refusal u surfaces words₁ words₂ from to) where
-  pub contacts_refused : (n ≡ 0 → ⊥) → {r : Contacts} → r ≡ refused_contacts n → r ≡ contacts_answer u surfaces words₁ words₂ from to
-  unfolding contacts_answer
-  contacts_refused h q = q ∙ rw (← e, ne_eqb n 0 h)
-
-  pub contacts_done : n ≡ 0 → {k : Tally} → WholeTally u surfaces words₁ words₂ from to k → {r : Contacts} →
-      r ≡ done_contacts k.sure k.centre k.possible → r ≡ contacts_answer u surfaces words₁ words₂ from to
-  unfolding contacts_answer
-  contacts_done z w q = q ∙ rw (w.sure, w.centre, w.possible, ← e, eq-eqb n 0 z)

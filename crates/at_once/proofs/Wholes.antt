@@ -9,6 +9,7 @@ use native.Mathlib.Nat.{mul-le-mul}
 use lib.IntN.{ℤ, pos}
 use lib.ListN.{length, get_or, replicate, length-replicate, length-append}
 use lib.Pow.{pow_mono}
+use Rattle.std.specs.Prelude.{Some, None}
 use Rattle.universe.specs.declared.Universe.{Universe}
 use Rattle.universe.specs.declared.Block.{Block}
 use Rattle.universe.specs.Universe.{most_axes, most_levels, universe_refusal, levels, frame_axis}
@@ -47,7 +48,6 @@ use Rattle.pruned.proofs.Looked.{two_stand}
 use Rattle.pruned.proofs.Loads.{words_carried}
 use Rattle.pruned.proofs.Steps.{rows_few, rows_small, balls_few}
 use Rattle.at_once.specs.Both.{BothShelves}
-use Rattle.at_once.specs.declared.answer.Span as spans
 use Rattle.at_once.specs.Codes.{HoldsCodes, no_code, code}
 use Rattle.at_once.specs.Words.{Tabled}
 use Rattle.at_once.specs.Loading.{LoadJob, LoadedCodes}
@@ -282,18 +282,18 @@ module _ {u : Universe} {surfaces : Surfaces} {words₁ words₂ : List ℕ} {fr
         sooner_hit c q =
             f ∙ whole_end false past ∙ trees_first u e surfaces s t from to r.window c q past (omega (arith, (bounds c q).0))
 
-        pub span_clear : sooner ≡ past → spans.TheVariants.Clear ≡ span_of x
+        pub span_clear : sooner ≡ past → None ≡ span_of x
         span_clear z = go x refl
           where
-            go : (y : Verdict) → x ≡ y → spans.TheVariants.Clear ≡ span_of x
+            go : (y : Verdict) → x ≡ y → None ≡ span_of x
             go Clear q = rw q
             go (Hit c) q = absurd (omega (arith, sooner_hit c q, (bounds c q).0))
 
         pub span_hit : (sooner ≡ past → ⊥) → {later : ℕ} → later ≡ end_in true (windowed u from to colours) (levels u) (whole_block u) sooner →
-            spans.TheVariants.Hit sooner later ≡ span_of x
+            Some (record { first = sooner; last = later }) ≡ span_of x
         span_hit n {later} g = go x refl
           where
-            go : (y : Verdict) → x ≡ y → spans.TheVariants.Hit sooner later ≡ span_of x
+            go : (y : Verdict) → x ≡ y → Some (record { first = sooner; last = later }) ≡ span_of x
             go Clear q = absurd (n (f ∙ whole_end false past ∙ trees_none u e surfaces s t from to r.window q false past))
             go (Hit c) q =
                 let a = sooner_hit c q in

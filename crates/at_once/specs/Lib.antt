@@ -11,6 +11,7 @@ pub mod Both
 pub mod Counting
 pub mod Tallies
 pub mod Whole
+pub mod Told
 pub mod Answers
 pub mod Merged
 pub mod Voxel

@@ -1,6 +1,6 @@
 -- What the words of sure and possible contact ask, of the marks over the voxels' own blocks: as words of colours, for
 -- balls the numbers along each axis; and the three words of a block, sure, black at the centre, and possible.
-use Rattle.std.specs.Prelude.{ℕ, ◌+◌, ◌-◌, ◌*◌, ◌^◌, ◌≤◌, ◌<◌, ◌≡◌, Bool, true, false, cond, List, ltb, ℤ, nat_abs, length, ◌≤ℤ◌}
+use Rattle.std.specs.Prelude.{ℕ, ◌+◌, ◌-◌, ◌*◌, ◌≤◌, ◌<◌, ◌≡◌, Bool, true, false, cond, List, ltb, ℤ, length, ◌≤ℤ◌}
 use Rattle.universe.specs.declared.Universe.{Universe}
 use Rattle.universe.specs.declared.Block.{Block}
 use Rattle.universe.specs.Universe.{most_axes, coefficient_limit}
@@ -22,10 +22,7 @@ use Rattle.at_once.specs.Words.{word_levels, step_at, RowReady, SmallOff, BallOv
 unfoldable pub all_own : Bool → Surfaces → Universe → List Plain → Colouring
 all_own possible surfaces u ps v = settled (doubt_of possible) (all_mark surfaces ps (block_of u v))
 
--- a number whose size is one too, and a reach
-pub record SmallNumber (x : ℤ) : Type 0 where
-  pub most : nat_abs x ≤ 2 ^ 62
-
+-- a reach
 pub record SmallReach (n : ℕ) : Type 0 where
   pub most : n ≤ most_axes * coefficient_limit
 

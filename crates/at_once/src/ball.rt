@@ -14,14 +14,11 @@ fn apart(place: u64, centre: i64) -> u64
     requires doubled_centre { DoubledCentre centre }
     ensures { result ≡ gap place centre }
 {
-    let difference = place as i64 - centre;
-    if difference < 0 {
-        return (0 - difference) as u64;
-    }
-    difference as u64
+    (place as i64 - centre).unsigned_abs()
 }
 
 // How far the nearest point between two places is.
+#[tactic(auto, unfolding(csg::specs::Ball::nearest))]
 fn nearest(low: u64, high: u64, centre: i64) -> u64
     requires ball_place { BallPlace low }
     requires ball_place_2 { BallPlace high }
@@ -38,21 +35,18 @@ fn nearest(low: u64, high: u64, centre: i64) -> u64
 }
 
 // How far the farther of two places is.
+#[tactic(auto, unfolding(csg::specs::Ball::farthest))]
 fn farthest(low: u64, high: u64, centre: i64) -> u64
     requires ball_place { BallPlace low }
     requires ball_place_2 { BallPlace high }
     requires doubled_centre { DoubledCentre centre }
     ensures { result ≡ farthest low high centre }
 {
-    let below = apart(low, centre);
-    let above = apart(high, centre);
-    if below <= above {
-        return above;
-    }
-    below
+    apart(low, centre).max(apart(high, centre))
 }
 
 // The radius of ball i, squared.
+#[tactic(auto, unfolding(csg::specs::Ball::radius_squared))]
 fn radius_squared(balls: &[i64], i: usize) -> u64
     requires i_bound { i < ball_count balls.now }
     requires small_ball { SmallBall (ball_at balls.now i) }
@@ -78,8 +72,7 @@ pub(crate) fn code_of_ball(
     let first = csg::BALL_LENGTH * i;
     let mut near: u64 = 0;
     let mut far: u64 = 0;
-    let mut axis: usize = 0;
-    while axis < places {
+    for axis in 0..places {
         let begin = low[axis];
         let end = begin + side[axis];
         let centre = balls[first + axis];
@@ -87,7 +80,6 @@ pub(crate) fn code_of_ball(
         let farther = farthest(begin, end, centre);
         near += nearer * nearer;
         far += farther * farther;
-        axis += 1;
     }
     let most = radius_squared(balls, i);
     tested_code(far <= most, most < near)

@@ -98,8 +98,8 @@ fn places_along(
     requires half_bound { get_or low.now axis 0 + half < 2 ^ 64 }
     ensures { result ≡ places_along low.now axis half }
 {
-    let mut places = [low[0], low[1], low[2], low[3]];
-    places[axis] = low[axis] + half;
+    let mut places = *low;
+    places[axis] += half;
     places
 }
 
@@ -285,8 +285,7 @@ pub(crate) fn both_words(
 {
     let stop = from + count;
     let mut pending: usize = 0;
-    let mut i = from;
-    while i < stop {
+    for i in from..stop {
         let code = codes[i];
         if is_join(code) {
             let meet = INTERSECTION_NODE <= code;
@@ -303,7 +302,6 @@ pub(crate) fn both_words(
             aboves[pending] = leaf.above;
             pending += 1;
         }
-        i += 1;
     }
     Both {
         below: whole_word(belows, pending),

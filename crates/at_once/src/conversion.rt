@@ -4,6 +4,7 @@ ghost use Rattle.std.specs.Prelude.{◌≡◌, ◌+◌, length};
 ghost use Rattle.std.proofs.lemmas.List.Edits.{sets};
 ghost use Rattle.universe.specs.Room.{room};
 ghost use Rattle.bintree.specs.Answers.{written_answer, written_buffer};
+ghost use Rattle.bintree.specs.Told.{writing_told};
 ghost use Rattle.csg.specs.Surfaces.{surfaces_of};
 ghost use Rattle.csg.specs.Words.{halfspace_words, ball_words};
 ghost use Rattle.convert.specs.Blocks.{Ready, RoomReady};
@@ -32,8 +33,7 @@ use crate::prune::MOST_SHAPES;
 use crate::raw::raw_block;
 use crate::text::HELD_UNIT;
 use crate::whole::{MOST_CODES, lengths_of, load_both, whole_sides};
-use bintree::Written;
-use universe::Universe;
+use universe::{Universe, Unwritten};
 
 // Codes that are soon cleared, for where few words are carried.
 const FEW_CODES: usize = 1_000;
@@ -56,8 +56,7 @@ fn room_of(universe: Universe, first: &[u16], second: &[u16]) -> u64
 {
     let leaves = csg::halfspace_words(first) + csg::halfspace_words(second);
     let balls = csg::ball_words(first) + csg::ball_words(second);
-    let answer = universe.room(leaves, balls);
-    answer.symbols
+    universe.room(leaves, balls).unwrap_or(0)
 }
 
 // Writes the shape of a block, merged or raw, from the front of the room on, as far as there is room, and gives its
@@ -184,12 +183,12 @@ fn through(
     codes: &mut [u16],
     scratch: &mut [u8],
     out: &mut [u8],
-) -> Written
+) -> Result<u64, Unwritten>
     requires { let surfaces = surfaces_of rows.now balls.now in
         CodesReady universe surfaces first.now second.now codes.old }
     ensures result_value { let surfaces = surfaces_of rows.now balls.now in
         let written = written_of_two merging universe surfaces first.now second.now in
-        result ≡ written_answer 0 out.old written }
+        writing_told result ≡ written_answer 0 out.old written }
     ensures out_after { let surfaces = surfaces_of rows.now balls.now in
         let written = written_of_two merging universe surfaces first.now second.now in
         out.new ≡ written_buffer 0 out.old written }
@@ -198,14 +197,14 @@ fn through(
         universe, rows, balls, first, second, merging, codes, scratch,
     );
     if out.len() < length {
-        return Written::short(length as u64);
+        return Err(Unwritten::NoRoom(length as u64));
     }
     if length <= scratch.len() {
         bintree::copy(&scratch[..length], out, 0);
-        return Written::done(length as u64);
+        return Ok(length as u64);
     }
     write_whole(universe, rows, balls, first, second, merging, codes, out);
-    Written::done(length as u64)
+    Ok(length as u64)
 }
 
 // The expression of two trees that no check refuses by way of scratch room, no shorter than the room lent, or of none
@@ -219,12 +218,12 @@ fn in_scratch(
     merging: bool,
     codes: &mut [u16],
     out: &mut [u8],
-) -> Written
+) -> Result<u64, Unwritten>
     requires { let surfaces = surfaces_of rows.now balls.now in
         CodesReady universe surfaces first.now second.now codes.old }
     ensures result_value { let surfaces = surfaces_of rows.now balls.now in
         let written = written_of_two merging universe surfaces first.now second.now in
-        result ≡ written_answer 0 out.old written }
+        writing_told result ≡ written_answer 0 out.old written }
     ensures out_after { let surfaces = surfaces_of rows.now balls.now in
         let written = written_of_two merging universe surfaces first.now second.now in
         out.new ≡ written_buffer 0 out.old written }
@@ -274,12 +273,12 @@ fn in_codes(
     merging: bool,
     codes: &mut [u16],
     out: &mut [u8],
-) -> Written
+) -> Result<u64, Unwritten>
     requires { let surfaces = surfaces_of rows.now balls.now in
         CodesReady universe surfaces first.now second.now codes.old }
     ensures result_value { let surfaces = surfaces_of rows.now balls.now in
         let written = written_of_two merging universe surfaces first.now second.now in
-        result ≡ written_answer 0 out.old written }
+        writing_told result ≡ written_answer 0 out.old written }
     ensures out_after { let surfaces = surfaces_of rows.now balls.now in
         let written = written_of_two merging universe surfaces first.now second.now in
         out.new ≡ written_buffer 0 out.old written }
@@ -289,7 +288,7 @@ fn in_codes(
     }
     if room_of(universe, first, second) <= out.len() as u64 {
         let length = write_whole(universe, rows, balls, first, second, merging, codes, out);
-        return Written::done(length as u64);
+        return Ok(length as u64);
     }
     in_scratch(universe, rows, balls, first, second, merging, codes, out)
 }
@@ -303,12 +302,12 @@ fn in_least(
     second: &[u16],
     merging: bool,
     out: &mut [u8],
-) -> Written
+) -> Result<u64, Unwritten>
     requires { let surfaces = surfaces_of rows.now balls.now in
         FewReady least_codes universe surfaces first.now second.now }
     ensures result_value { let surfaces = surfaces_of rows.now balls.now in
         let written = written_of_two merging universe surfaces first.now second.now in
-        result ≡ written_answer 0 out.old written }
+        writing_told result ≡ written_answer 0 out.old written }
     ensures out_after { let surfaces = surfaces_of rows.now balls.now in
         let written = written_of_two merging universe surfaces first.now second.now in
         out.new ≡ written_buffer 0 out.old written }
@@ -328,12 +327,12 @@ fn in_few(
     second: &[u16],
     merging: bool,
     out: &mut [u8],
-) -> Written
+) -> Result<u64, Unwritten>
     requires { let surfaces = surfaces_of rows.now balls.now in
         FewReady few_codes universe surfaces first.now second.now }
     ensures result_value { let surfaces = surfaces_of rows.now balls.now in
         let written = written_of_two merging universe surfaces first.now second.now in
-        result ≡ written_answer 0 out.old written }
+        writing_told result ≡ written_answer 0 out.old written }
     ensures out_after { let surfaces = surfaces_of rows.now balls.now in
         let written = written_of_two merging universe surfaces first.now second.now in
         out.new ≡ written_buffer 0 out.old written }
@@ -353,11 +352,11 @@ fn in_most(
     second: &[u16],
     merging: bool,
     out: &mut [u8],
-) -> Written
+) -> Result<u64, Unwritten>
     requires { Ready universe (surfaces_of rows.now balls.now) first.now second.now }
     ensures result_value { let surfaces = surfaces_of rows.now balls.now in
         let written = written_of_two merging universe surfaces first.now second.now in
-        result ≡ written_answer 0 out.old written }
+        writing_told result ≡ written_answer 0 out.old written }
     ensures out_after { let surfaces = surfaces_of rows.now balls.now in
         let written = written_of_two merging universe surfaces first.now second.now in
         out.new ≡ written_buffer 0 out.old written }
@@ -377,12 +376,12 @@ fn of_two(
     second: &[u16],
     merging: bool,
     out: &mut [u8],
-) -> Written
+) -> Result<u64, Unwritten>
     ensures result_value { let surfaces = surfaces_of rows.now balls.now in
         let first = first.entry.now in
         let second = second.entry.now in
         let written = written_of_two merging universe surfaces first second in
-        result ≡ written_answer (two_trees_refusal universe surfaces first second) out.old written }
+        writing_told result ≡ written_answer (two_trees_refusal universe surfaces first second) out.old written }
     ensures out_after { let surfaces = surfaces_of rows.now balls.now in
         let first = first.entry.now in
         let second = second.entry.now in
@@ -390,10 +389,7 @@ fn of_two(
         out.new
         ≡ written_buffer (two_trees_refusal universe surfaces first second) out.old written }
 {
-    let refusal = convert::scene_refusal(universe, rows, balls, first, second);
-    if refusal != 0 {
-        return Written::refused(refusal);
-    }
+    convert::check_scene(universe, rows, balls, first, second)?;
     let words = (first.len() + second.len()) as u64;
     let needed = (universe.levels() + 1) * words;
     if needed <= LEAST_CODES as u64 {
@@ -413,9 +409,9 @@ pub fn merged_of_two(
     first: &[u16],
     second: &[u16],
     out: &mut [u8],
-) -> Written
+) -> Result<u64, Unwritten>
     ensures result_value { let surfaces = surfaces_of rows.now balls.now in
-        result ≡ merged_of_two_answer universe surfaces first.now second.now out.old }
+        writing_told result ≡ merged_of_two_answer universe surfaces first.now second.now out.old }
     ensures out_after { let surfaces = surfaces_of rows.now balls.now in
         out.new
         ≡ merged_of_two_buffer universe surfaces first.now second.now out.old }
@@ -430,9 +426,9 @@ pub fn merged_of_one(
     balls: &[i64],
     words: &[u16],
     out: &mut [u8],
-) -> Written
+) -> Result<u64, Unwritten>
     ensures result_value { let surfaces = surfaces_of rows.now balls.now in
-        result ≡ merged_of_one_answer universe surfaces words.now out.old }
+        writing_told result ≡ merged_of_one_answer universe surfaces words.now out.old }
     ensures out_after { let surfaces = surfaces_of rows.now balls.now in
         out.new ≡ merged_of_one_buffer universe surfaces words.now out.old }
 {
@@ -448,9 +444,9 @@ pub fn raw_of_two(
     first: &[u16],
     second: &[u16],
     out: &mut [u8],
-) -> Written
+) -> Result<u64, Unwritten>
     ensures result_value { let surfaces = surfaces_of rows.now balls.now in
-        result ≡ raw_of_two_answer universe surfaces first.now second.now out.old }
+        writing_told result ≡ raw_of_two_answer universe surfaces first.now second.now out.old }
     ensures out_after { let surfaces = surfaces_of rows.now balls.now in
         out.new
         ≡ raw_of_two_buffer universe surfaces first.now second.now out.old }
@@ -465,9 +461,9 @@ pub fn raw_of_one(
     balls: &[i64],
     words: &[u16],
     out: &mut [u8],
-) -> Written
+) -> Result<u64, Unwritten>
     ensures result_value { let surfaces = surfaces_of rows.now balls.now in
-        result ≡ raw_of_one_answer universe surfaces words.now out.old }
+        writing_told result ≡ raw_of_one_answer universe surfaces words.now out.old }
     ensures out_after { let surfaces = surfaces_of rows.now balls.now in
         out.new ≡ raw_of_one_buffer universe surfaces words.now out.old }
 {

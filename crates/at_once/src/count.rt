@@ -10,7 +10,7 @@ ghost use Rattle.at_once.specs.Words.{word_levels};
 use crate::both::both_words;
 use crate::digits::{WORD_LEVELS, ones_of};
 use crate::ends::word_end;
-use crate::frames::{greater, joined, lesser, voxels_of};
+use crate::frames::{joined, voxels_of};
 use crate::marks::{BLACK_BIT, WHITE_BIT};
 use crate::moves::move_values;
 use crate::prune::{MOST_SHAPES, prune};
@@ -51,10 +51,8 @@ fn join_word(
     }
     let voxels = ones_of(word);
     let stop = frame + (wide - 1);
-    if contact.first <= frame {
-        if stop <= contact.last {
-            return joined(contact, frame, stop, voxels);
-        }
+    if contact.first <= frame && stop <= contact.last {
+        return joined(contact, frame, stop, voxels);
     }
     let begin = word_end(false, frame_axis, table, lengths, left, word);
     let end = word_end(true, frame_axis, table, lengths, left, word);
@@ -216,8 +214,8 @@ pub(crate) fn count_block(
     let frame_axis = axes - 1;
     let frame = low[frame_axis];
     let wide = side[frame_axis];
-    let begin = greater(frame, first);
-    let end = lesser(frame + (wide - 1), last);
+    let begin = frame.max(first);
+    let end = (frame + (wide - 1)).min(last);
     if end < begin {
         return contact;
     }

@@ -12,7 +12,6 @@ ghost use Rattle.at_once.specs.Words.{word_levels};
 use crate::both::both_words;
 use crate::digits::WORD_LEVELS;
 use crate::ends::word_end;
-use crate::frames::{greater, lesser};
 use crate::marks::{BLACK_BIT, WHITE_BIT};
 use crate::moves::{move_values, move_where, turned};
 use crate::prune::{MOST_SHAPES, prune};
@@ -32,9 +31,9 @@ fn better(backward: bool, one: u64, other: u64) -> u64
     ensures { result ≡ better backward one other }
 {
     if backward {
-        return greater(one, other);
+        return one.max(other);
     }
-    lesser(one, other)
+    one.min(other)
 }
 
 // Betters a frame by a word of a block, off which its end within the window is read.
@@ -232,8 +231,8 @@ pub(crate) fn end_block(
     let frame_axis = axes - 1;
     let frame = low[frame_axis];
     let wide = side[frame_axis];
-    let begin = greater(frame, first);
-    let end = lesser(frame + (wide - 1), last);
+    let begin = frame.max(first);
+    let end = (frame + (wide - 1)).min(last);
     if end < begin {
         return known;
     }

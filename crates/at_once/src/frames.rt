@@ -1,22 +1,8 @@
 // Frames joined to a contact, and the voxels in them.
-ghost use Rattle.std.specs.Prelude.{◌≡◌, ◌+◌, ◌^◌, ◌<◌, min, max};
+ghost use Rattle.std.specs.Prelude.{◌≡◌, ◌+◌, ◌^◌, ◌<◌};
 ghost use Rattle.at_once.specs.Counting.{joined_contact, BlackFrames, black_voxels};
 
 use bintree::Contact;
-
-// The lesser of two numbers.
-pub(crate) fn lesser(a: u64, b: u64) -> u64
-    ensures { result ≡ min a b }
-{
-    if a < b { a } else { b }
-}
-
-// The greater of two numbers.
-pub(crate) fn greater(a: u64, b: u64) -> u64
-    ensures { result ≡ max a b }
-{
-    if a < b { b } else { a }
-}
 
 // A contact with frames joined that have so many black voxels.
 pub(crate) fn joined(contact: Contact, begin: u64, end: u64, voxels: u64) -> Contact
@@ -24,8 +10,8 @@ pub(crate) fn joined(contact: Contact, begin: u64, end: u64, voxels: u64) -> Con
     ensures { result ≡ joined_contact contact begin end voxels }
 {
     Contact {
-        first: lesser(contact.first, begin),
-        last: greater(contact.last, end),
+        first: contact.first.min(begin),
+        last: contact.last.max(end),
         voxels: contact.voxels + voxels,
     }
 }

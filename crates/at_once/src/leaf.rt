@@ -3,9 +3,8 @@
 ghost use Rattle.std.specs.Prelude.{◌≡◌, true, ◌%◌, ◌<◌, eqb, pos};
 ghost use Rattle.lemmas.specs.Sums.{total};
 ghost use Rattle.universe.specs.Universe.{most_axes};
-ghost use Rattle.csg.specs.Halfspace.{lesser, row_at};
+ghost use Rattle.csg.specs.Halfspace.{row_at};
 ghost use Rattle.csg.specs.Surfaces.{surfaces_of};
-ghost use Rattle.pruned.specs.Nodes.{SmallExtreme};
 ghost use Rattle.at_once.specs.Words.{RowNamed};
 ghost use Rattle.at_once.specs.Values.{along_of, fall_along, is_row_side, RowFound};
 ghost use Rattle.at_once.specs.Moves.{lengths_by, times_of, row_of, SmallTimes, RowStands, ValueOf};
@@ -21,17 +20,6 @@ use universe::Universe;
 struct Extremes {
     least: i64,
     greatest: i64,
-}
-
-// What falls along an axis by this amount: all of it where it is negative, else nothing.
-fn falling(amount: i64) -> i64
-    requires { SmallExtreme amount }
-    ensures { result ≡ lesser (pos 0) amount }
-{
-    if 0 <= amount {
-        return 0;
-    }
-    amount
 }
 
 // What an axis gives over a length to which 1 is doubled so often: the coefficient of row i, doubled so often.
@@ -57,16 +45,16 @@ fn sum_along(rows: &[i64], i: usize, times: &[u64; Universe::MOST_AXES as usize]
     first + second + third + fourth
 }
 
-// What falls of it.
+// What falls of it: along each axis all that it gives where that is negative, else nothing.
 fn fall_along(rows: &[i64], i: usize, times: &[u64; Universe::MOST_AXES as usize]) -> i64
     requires row_named { RowNamed rows.now i }
     requires small_times { SmallTimes times.now }
     ensures { result ≡ total most_axes (fall_along (row_at rows.now i) (lengths_by times.now)) }
 {
-    let first = falling(along(rows, i, times, 0));
-    let second = falling(along(rows, i, times, 1));
-    let third = falling(along(rows, i, times, 2));
-    let fourth = falling(along(rows, i, times, 3));
+    let first = along(rows, i, times, 0).min(0);
+    let second = along(rows, i, times, 1).min(0);
+    let third = along(rows, i, times, 2).min(0);
+    let fourth = along(rows, i, times, 3).min(0);
     first + second + third + fourth
 }
 
@@ -107,10 +95,7 @@ fn is_turned(code: u16) -> bool
 pub(crate) fn is_row_side(code: u16) -> bool
     ensures { result ≡ is_row_side code }
 {
-    if code < FIRST_SIDE {
-        return false;
-    }
-    code < FIRST_BALL_SIDE
+    FIRST_SIDE <= code && code < FIRST_BALL_SIDE
 }
 
 // The row of a halfspace's side, by its code.

@@ -31,7 +31,7 @@ mod whole;
 mod window;
 mod word;
 
-pub use answer::{Contacts, Judged, Span, Spanned};
+pub use answer::{Contacts, Ends};
 pub use conversion::{merged_of_one, merged_of_two, raw_of_one, raw_of_two};
 pub use shared::contacts_of_two;
 pub use verdict::{ends_at_once, verdict_at_once};

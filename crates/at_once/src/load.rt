@@ -28,11 +28,8 @@ fn turn(codes: &mut [u16], from: usize, to: usize)
     requires { TurnJob codes.old from to }
     ensures { (job : TurnJob codes.old from to) → TurnedCodes job codes.new }
 {
-    let mut place = from;
-    while place < to {
-        let code = codes[place];
-        codes[place] = turned_number(code);
-        place += 1;
+    for place in from..to {
+        codes[place] = turned_number(codes[place]);
     }
 }
 
@@ -56,9 +53,7 @@ pub(crate) fn load(words: &[u16], codes: &mut [u16], from: usize, starts: &mut [
         → LoadedCodes job codes.new starts.new }
 {
     let mut pending: usize = 0;
-    let mut i: usize = 0;
-    while i < words.len() {
-        let word = words[i];
+    for (i, &word) in words.iter().enumerate() {
         let at = from + i;
         if csg::is_operator(word) {
             let start = starts[pending - 1];
@@ -69,6 +64,5 @@ pub(crate) fn load(words: &[u16], codes: &mut [u16], from: usize, starts: &mut [
             starts[pending] = at;
             pending += 1;
         }
-        i += 1;
     }
 }

@@ -60,10 +60,7 @@ pub(crate) fn end_after(code: u8, a: u8, b: u8, start: usize, end: usize) -> usi
     if code != 0 {
         return start;
     }
-    if a != 0 {
-        return end;
-    }
-    if b != 0 {
+    if a != 0 || b != 0 {
         return end;
     }
     end + 1

@@ -106,13 +106,11 @@ pub(crate) fn move_values(
 {
     let times = doublings(half);
     let to = from + count;
-    let mut i = from;
-    while i < to {
+    for i in from..to {
         let code = codes[i];
         if is_row_side(code) {
             move_row(up, rows, row_of(code), axis, times, values, rounds, round);
         }
-        i += 1;
     }
 }
 
@@ -159,13 +157,11 @@ pub(crate) fn begin(rows: &[i64], codes: &[u16], count: usize, values: &mut [i64
     requires { BeginJob rows.now codes.now count values.old }
     ensures { Begun rows.now codes.now count values.new }
 {
-    let mut i: usize = 0;
-    while i < count {
+    for i in 0..count {
         let code = codes[i];
         if is_row_side(code) {
             let row = row_of(code);
             values[row] = rows[csg::ROW_LENGTH * row];
         }
-        i += 1;
     }
 }

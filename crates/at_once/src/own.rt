@@ -1,6 +1,6 @@
 // The numbers of sure and possible contact: a row's reach, and the words of a ball, a digit for each voxel of a block
 // by the mark over the voxel's own block. Doubt is contact where `possible`, and else it is none.
-ghost use Rattle.std.specs.Prelude.{◌≡◌, ◌+◌, ◌<◌, nat_abs};
+ghost use Rattle.std.specs.Prelude.{◌≡◌, ◌+◌, ◌<◌};
 ghost use Rattle.universe.specs.Universe.{most_axes};
 ghost use Rattle.csg.specs.Halfspace.{row_at};
 ghost use Rattle.csg.specs.Ball.{ball_count};
@@ -9,7 +9,6 @@ ghost use Rattle.masks.specs.Block.{block_mask};
 ghost use Rattle.masks.specs.Own.{own_surface, own_ball, reach, reached, spread};
 ghost use Rattle.at_once.specs.Words.{RowNamed, SmallOff, WordBlock, word_block};
 ghost use Rattle.at_once.specs.Own.{
-  SmallNumber,
   SmallReach,
   SpreadReady,
   SpreadsReady,
@@ -22,27 +21,16 @@ use crate::digits::{WORD_LEVELS, side_by_side};
 use crate::word::{most_of_ball, offs_of_ball};
 use universe::Universe;
 
-// The size of a number.
-fn size_of(x: i64) -> u64
-    requires { SmallNumber x }
-    ensures { result ≡ nat_abs x }
-{
-    if x < 0 {
-        return (0 - x) as u64;
-    }
-    x as u64
-}
-
 // How far the value of row i lies, over a voxel, below and above that at its centre, doubled.
 pub(crate) fn reach_of_row(rows: &[i64], i: usize) -> u64
     requires { RowNamed rows.now i }
     ensures { result ≡ reach most_axes (row_at rows.now i) }
 {
     let first = csg::ROW_LENGTH * i + 1;
-    let one = size_of(rows[first]);
-    let two = size_of(rows[first + 1]);
-    let three = size_of(rows[first + 2]);
-    let four = size_of(rows[first + 3]);
+    let one = rows[first].unsigned_abs();
+    let two = rows[first + 1].unsigned_abs();
+    let three = rows[first + 2].unsigned_abs();
+    let four = rows[first + 3].unsigned_abs();
     one + two + three + four
 }
 
@@ -52,12 +40,9 @@ pub(crate) fn reached(possible: bool, reach: u64) -> i64
     ensures { result ≡ reached possible reach }
 {
     if possible {
-        if reach == 0 {
-            return 0;
-        }
-        return (reach - 1) as i64;
+        return reach.saturating_sub(1) as i64;
     }
-    0 - (reach as i64)
+    -(reach as i64)
 }
 
 // Twice how far the nearest or the farthest point of a voxel is along an axis, by how far its centre is, doubled.
@@ -65,12 +50,9 @@ fn spread(possible: bool, off: i64) -> u64
     requires { SmallOff off }
     ensures { result ≡ spread possible off }
 {
-    let size = size_of(off);
+    let size = off.unsigned_abs();
     if possible {
-        if size == 0 {
-            return 0;
-        }
-        return size - 1;
+        return size.saturating_sub(1);
     }
     size + 1
 }

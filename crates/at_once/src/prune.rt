@@ -24,10 +24,7 @@ const PAST_JOINS: u16 = 8;
 pub(crate) fn is_join(code: u16) -> bool
     ensures { result ≡ is_join code }
 {
-    if code < UNION_NODE {
-        return false;
-    }
-    code < PAST_JOINS
+    UNION_NODE <= code && code < PAST_JOINS
 }
 
 // The mark of one tree, or of two intersected, by their codes.
@@ -77,8 +74,7 @@ pub(crate) fn prune(
     let times = times_of(side);
     let mut pending: usize = 0;
     let mut end = to;
-    let mut i = from;
-    while i < to {
+    for i in from..to {
         let code = codes[i];
         codes[end] = code;
         if is_join(code) {
@@ -96,12 +92,9 @@ pub(crate) fn prune(
             end = end_after(bits, 0, 0, end, end);
             pending += 1;
         }
-        i += 1;
     }
-    let mark = whole_mark(marks, pending);
-    let nodes = end - to;
     Kept {
-        mark: mark,
-        nodes: nodes,
+        mark: whole_mark(marks, pending),
+        nodes: end - to,
     }
 }

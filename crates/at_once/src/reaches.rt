@@ -1,31 +1,21 @@
 // How far a row's value falls and rises over a block's voxels, from that at the first one on: by its steps.
 ghost use Rattle.std.specs.Prelude.{◌≡◌};
 ghost use Rattle.lemmas.specs.Sums.{total};
-ghost use Rattle.at_once.specs.Words.{word_levels, fall_of, SmallSteps, fall_at, rise_at};
+ghost use Rattle.at_once.specs.Words.{word_levels, SmallSteps, fall_at, rise_at};
 
 use crate::digits::WORD_LEVELS;
 
-// What falls by a step: all of it where it is negative, else nothing.
-fn fall(step: i64) -> i64
-    ensures { result ≡ fall_of step }
-{
-    if 0 <= step {
-        return 0;
-    }
-    step
-}
-
-// What falls by all steps.
+// What falls by all steps: each that is negative.
 pub(crate) fn fall_of(steps: &[i64; WORD_LEVELS]) -> i64
     requires { SmallSteps steps.now }
     ensures { result ≡ total word_levels (fall_at steps.now) }
 {
-    let one = fall(steps[0]);
-    let two = fall(steps[1]);
-    let three = fall(steps[2]);
-    let four = fall(steps[3]);
-    let five = fall(steps[4]);
-    let six = fall(steps[5]);
+    let one = steps[0].min(0);
+    let two = steps[1].min(0);
+    let three = steps[2].min(0);
+    let four = steps[3].min(0);
+    let five = steps[4].min(0);
+    let six = steps[5].min(0);
     one + two + three + four + five + six
 }
 

@@ -3,14 +3,15 @@
 ghost use Rattle.std.specs.Prelude.{◌≡◌};
 ghost use Rattle.csg.specs.Surfaces.{surfaces_of};
 ghost use Rattle.at_once.specs.Contacts.{contacts_answer, WholeTally};
+ghost use Rattle.at_once.specs.Told.{contacts_told};
 ghost use Rattle.at_once.specs.Whole.{WholeReady};
 
 use crate::answer::Contacts;
 use crate::prune::MOST_SHAPES;
-use crate::tally::{Tally, tally_block};
-use crate::verdict::refusal_of;
+use crate::tally::tally_block;
+use crate::verdict::check_clearance;
 use crate::whole::{MOST_CODES, lengths_of, load_both, whole_sides};
-use universe::Universe;
+use universe::{Refusal, Universe};
 
 // The counts of two trees that no check refuses, over a window.
 fn whole_tally(
@@ -21,7 +22,7 @@ fn whole_tally(
     second: &[u16],
     first_frame: u64,
     last_frame: u64,
-) -> Tally
+) -> Contacts
     requires { let surfaces = surfaces_of rows.now balls.now in
         WholeReady universe surfaces first.now second.now first_frame last_frame }
     ensures { let surfaces = surfaces_of rows.now balls.now in
@@ -77,13 +78,13 @@ pub fn contacts_of_two(
     second: &[u16],
     first_frame: u64,
     last_frame: u64,
-) -> Contacts
+) -> Result<Contacts, Refusal>
     ensures { let surfaces = surfaces_of rows.now balls.now in
         let first = first.entry.now in
         let second = second.entry.now in
-        result ≡ contacts_answer universe surfaces first second first_frame last_frame }
+        contacts_told result ≡ contacts_answer universe surfaces first second first_frame last_frame }
 {
-    let refusal = refusal_of(
+    check_clearance(
         universe,
         rows,
         balls,
@@ -91,11 +92,8 @@ pub fn contacts_of_two(
         second,
         first_frame,
         last_frame,
-    );
-    if refusal != 0 {
-        return Contacts::refused(refusal);
-    }
-    let tally = whole_tally(
+    )?;
+    Ok(whole_tally(
         universe,
         rows,
         balls,
@@ -103,6 +101,5 @@ pub fn contacts_of_two(
         second,
         first_frame,
         last_frame,
-    );
-    Contacts::done(tally.sure, tally.centre, tally.possible)
+    ))
 }

@@ -7,8 +7,9 @@ ghost use Rattle.at_once.specs.Counting.{BlockJob, PutBack};
 ghost use Rattle.at_once.specs.Moves.{RightValues, ValuesAt, Unmoved};
 ghost use Rattle.at_once.specs.Tallies.{tally_over, tally_of, tallied, SmallTally, TallyShelves};
 
+use crate::answer::Contacts;
 use crate::digits::{WORD_LEVELS, ones_of};
-use crate::frames::{greater, lesser, voxels_of};
+use crate::frames::voxels_of;
 use crate::marks::{BLACK_BIT, WHITE_BIT};
 use crate::moves::move_values;
 use crate::prune::{MOST_SHAPES, prune};
@@ -16,19 +17,11 @@ use crate::three::three_words;
 use crate::window::frames_word;
 use universe::Universe;
 
-// How many voxels are sure, black at their centre, and possible.
-#[derive(Clone, Copy)]
-pub(crate) struct Tally {
-    pub sure: u64,
-    pub centre: u64,
-    pub possible: u64,
-}
-
 // So many voxels of one colour, with no doubt: BLACK ones, or none.
-fn tally_of(voxels: u64) -> Tally
+fn tally_of(voxels: u64) -> Contacts
     ensures { result ≡ tally_of voxels }
 {
-    Tally {
+    Contacts {
         sure: voxels,
         centre: voxels,
         possible: voxels,
@@ -36,12 +29,12 @@ fn tally_of(voxels: u64) -> Tally
 }
 
 // Two tallies together.
-fn tallied(below: Tally, above: Tally) -> Tally
+fn tallied(below: Contacts, above: Contacts) -> Contacts
     requires small_tally { SmallTally below }
     requires small_tally_2 { SmallTally above }
     ensures { result ≡ tallied below above }
 {
-    Tally {
+    Contacts {
         sure: below.sure + above.sure,
         centre: below.centre + above.centre,
         possible: below.possible + above.possible,
@@ -67,7 +60,7 @@ fn tally_word(
     first: u64,
     last: u64,
     values: &[i64; csg::MOST_ROWS],
-) -> Tally
+) -> Contacts
     requires fact { let surfaces = surfaces_of rows.now balls.now in
         BlockJob surfaces axes table.now lengths.now low.now side.now left codes.now from count
         (left + 1) }
@@ -93,7 +86,7 @@ fn tally_word(
     let frame = low[frame_axis];
     let wide = side[frame_axis];
     let window = frames_word(first, last, frame_axis, table, lengths, left, frame, wide);
-    Tally {
+    Contacts {
         sure: ones_of(sure & window),
         centre: ones_of(centre & window),
         possible: ones_of(possible & window),
@@ -125,7 +118,7 @@ pub(crate) fn tally_block(
     values: &mut [i64; csg::MOST_ROWS],
     rounds: &mut [u8; csg::MOST_ROWS],
     round: u8,
-) -> Tally
+) -> Contacts
     requires fact { let surfaces = surfaces_of rows.now balls.now in
         BlockJob surfaces axes table.now lengths.now low.old side.old left codes.old from count
         (left + 1) }
@@ -143,8 +136,8 @@ pub(crate) fn tally_block(
     let frame_axis = axes - 1;
     let frame = low[frame_axis];
     let wide = side[frame_axis];
-    let begin = greater(frame, first);
-    let end = lesser(frame + (wide - 1), last);
+    let begin = frame.max(first);
+    let end = (frame + (wide - 1)).min(last);
     if end < begin {
         return tally_of(0);
     }
@@ -214,7 +207,7 @@ fn tally_halves(
     values: &mut [i64; csg::MOST_ROWS],
     rounds: &mut [u8; csg::MOST_ROWS],
     round: u8,
-) -> Tally
+) -> Contacts
     requires fact { let surfaces = surfaces_of rows.now balls.now in
         BlockJob surfaces axes table.now lengths.now low.old side.old left codes.old from count left }
     requires le_left { 1 ≤ left }

@@ -272,8 +272,7 @@ pub(crate) fn three_words(
 {
     let stop = from + count;
     let mut pending: usize = 0;
-    let mut i = from;
-    while i < stop {
+    for i in from..stop {
         let code = codes[i];
         if is_join(code) {
             let meet = INTERSECTION_NODE <= code;
@@ -291,7 +290,6 @@ pub(crate) fn three_words(
             possibles[pending] = leaf.possible;
             pending += 1;
         }
-        i += 1;
     }
     Three {
         sure: whole_word(sures, pending),

@@ -1,15 +1,18 @@
 // The answers at once: the checks in their order, and then the whole universe.
 ghost use Rattle.std.specs.Prelude.{◌≡◌};
+ghost use Rattle.universe.specs.Told.{number_told};
 ghost use Rattle.csg.specs.Surfaces.{surfaces_of};
 ghost use Rattle.convert.specs.Answers.{clearance_refusal};
 ghost use Rattle.at_once.specs.Answers.{verdict_at_once, ends_at_once};
+ghost use Rattle.at_once.specs.Told.{judged_told, spanned_told};
 
-use crate::answer::{Judged, Spanned};
+use crate::answer::Ends;
 use crate::whole::{whole_span, whole_verdict};
-use universe::Universe;
+use bintree::Verdict;
+use universe::{Refusal, Universe};
 
-// 0, or the number that refuses a verdict of two trees over a window: that of their conversion, or 9.
-pub(crate) fn refusal_of(
+// Refused where a verdict of two trees over a window is: as their conversion, or with 9.
+pub(crate) fn check_clearance(
     universe: Universe,
     rows: &[i64],
     balls: &[i64],
@@ -17,17 +20,14 @@ pub(crate) fn refusal_of(
     second: &[u16],
     first_frame: u64,
     last_frame: u64,
-) -> u64
+) -> Result<(), Refusal>
     ensures { let surfaces = surfaces_of rows.now balls.now in
         let first = first.entry.now in
         let second = second.entry.now in
-        result ≡ clearance_refusal universe surfaces first second first_frame last_frame }
+        number_told result ≡ clearance_refusal universe surfaces first second first_frame last_frame }
 {
-    let refusal = convert::scene_refusal(universe, rows, balls, first, second);
-    if refusal != 0 {
-        return refusal;
-    }
-    universe.window_refusal(first_frame, last_frame)
+    convert::check_scene(universe, rows, balls, first, second)?;
+    universe.check_window(first_frame, last_frame)
 }
 
 // Whether two trees share space in a window, first to last frame, both ends in: Clear, or Hit with the first and the
@@ -40,13 +40,13 @@ pub fn verdict_at_once(
     second: &[u16],
     first_frame: u64,
     last_frame: u64,
-) -> Judged
+) -> Result<Verdict, Refusal>
     ensures { let surfaces = surfaces_of rows.now balls.now in
         let first = first.entry.now in
         let second = second.entry.now in
-        result ≡ verdict_at_once universe surfaces first second first_frame last_frame }
+        judged_told result ≡ verdict_at_once universe surfaces first second first_frame last_frame }
 {
-    let refusal = refusal_of(
+    check_clearance(
         universe,
         rows,
         balls,
@@ -54,11 +54,8 @@ pub fn verdict_at_once(
         second,
         first_frame,
         last_frame,
-    );
-    if refusal != 0 {
-        return Judged::refused(refusal);
-    }
-    let verdict = whole_verdict(
+    )?;
+    Ok(whole_verdict(
         universe,
         rows,
         balls,
@@ -66,11 +63,10 @@ pub fn verdict_at_once(
         second,
         first_frame,
         last_frame,
-    );
-    Judged::done(verdict)
+    ))
 }
 
-// The first and the last frame of that verdict alone.
+// The first and the last frame of that verdict alone, where it is Hit.
 pub fn ends_at_once(
     universe: Universe,
     rows: &[i64],
@@ -79,13 +75,13 @@ pub fn ends_at_once(
     second: &[u16],
     first_frame: u64,
     last_frame: u64,
-) -> Spanned
+) -> Result<Option<Ends>, Refusal>
     ensures { let surfaces = surfaces_of rows.now balls.now in
         let first = first.entry.now in
         let second = second.entry.now in
-        result ≡ ends_at_once universe surfaces first second first_frame last_frame }
+        spanned_told result ≡ ends_at_once universe surfaces first second first_frame last_frame }
 {
-    let refusal = refusal_of(
+    check_clearance(
         universe,
         rows,
         balls,
@@ -93,11 +89,8 @@ pub fn ends_at_once(
         second,
         first_frame,
         last_frame,
-    );
-    if refusal != 0 {
-        return Spanned::refused(refusal);
-    }
-    let span = whole_span(
+    )?;
+    Ok(whole_span(
         universe,
         rows,
         balls,
@@ -105,6 +98,5 @@ pub fn ends_at_once(
         second,
         first_frame,
         last_frame,
-    );
-    Spanned::done(span)
+    ))
 }

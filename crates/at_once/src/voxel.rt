@@ -124,8 +124,7 @@ pub(crate) fn trees_digit(
 {
     let stop = from + count;
     let mut pending: usize = 0;
-    let mut i = from;
-    while i < stop {
+    for i in from..stop {
         let code = codes[i];
         if is_join(code) {
             let joined = joined_digit(
@@ -139,7 +138,6 @@ pub(crate) fn trees_digit(
             digits[pending] = leaf_digit(axes, rows, balls, low, code, values);
             pending += 1;
         }
-        i += 1;
     }
     whole_digit(digits, pending)
 }

@@ -10,11 +10,10 @@ ghost use Rattle.at_once.specs.Words.{Tabled};
 ghost use Rattle.at_once.specs.Answers.{span_of};
 ghost use Rattle.at_once.specs.Whole.{BothJob, BothLoaded, WholeReady};
 
-use crate::answer::{Span, verdict_from};
+use crate::answer::{Ends, verdict_from};
 use crate::count::count_block;
 use crate::digits::WORD_LEVELS;
 use crate::end::end_block;
-use crate::frames::lesser;
 use crate::load::load;
 use crate::moves::begin;
 use crate::prune::MOST_SHAPES;
@@ -46,16 +45,14 @@ pub(crate) fn lengths_of(
     requires table_value { table.now ≡ axes_left universe }
     ensures { Tabled universe table.now result }
 {
-    let stop = lesser(universe.levels(), WORD_LEVELS as u64) as usize;
+    let stop = universe.levels().min(WORD_LEVELS as u64) as usize;
     let mut lengths = [1u64; WORD_LEVELS];
     let mut side = [1u64; Universe::MOST_AXES as usize];
-    let mut left: usize = 0;
-    while left < stop {
+    for left in 0..stop {
         let axis = table[left];
         let length = side[axis];
         lengths[left] = length;
         side[axis] = 2 * length;
-        left += 1;
     }
     lengths
 }
@@ -149,7 +146,7 @@ pub(crate) fn whole_span(
     second: &[u16],
     first_frame: u64,
     last_frame: u64,
-) -> Span
+) -> Option<Ends>
     requires { let surfaces = surfaces_of rows.now balls.now in
         WholeReady universe surfaces first.now second.now first_frame last_frame }
     ensures { let surfaces = surfaces_of rows.now balls.now in
@@ -197,7 +194,7 @@ pub(crate) fn whole_span(
         0,
     );
     if sooner == past {
-        return Span::Clear;
+        return None;
     }
     let later = end_block(
         true,
@@ -223,5 +220,8 @@ pub(crate) fn whole_span(
         &mut rounds,
         0,
     );
-    Span::Hit(sooner, later)
+    Some(Ends {
+        first: sooner,
+        last: later,
+    })
 }

@@ -11,10 +11,7 @@ use universe::Universe;
 fn is_between(first: u64, last: u64, frame: u64) -> bool
     ensures { result ≡ is_between first last frame }
 {
-    if frame < first {
-        return false;
-    }
-    frame <= last
+    first <= frame && frame <= last
 }
 
 // The word of those voxels of a block whose frames are the window's, where the block's frames begin at `frame`.
@@ -68,10 +65,8 @@ pub(crate) fn frames_word(
     ensures { (framed : Framed frame_axis table.now lengths.now left frame wide)
         → result ≡ window_mask first last framed.halvings.universe left frame }
 {
-    if first <= frame {
-        if frame + (wide - 1) <= last {
-            return all_ones(left);
-        }
+    if first <= frame && frame + (wide - 1) <= last {
+        return all_ones(left);
     }
     window_word(first, last, frame_axis, table, lengths, left, frame)
 }

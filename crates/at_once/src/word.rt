@@ -507,8 +507,7 @@ pub(crate) fn trees_word(
     let stop = from + count;
     let mut words = [0u64; MOST_SHAPES];
     let mut pending: usize = 0;
-    let mut i = from;
-    while i < stop {
+    for i in from..stop {
         let code = codes[i];
         if is_join(code) {
             let joined = joined_word(
@@ -522,7 +521,6 @@ pub(crate) fn trees_word(
             words[pending] = leaf_word(axes, rows, balls, table, lengths, low, left, code, values);
             pending += 1;
         }
-        i += 1;
     }
     whole_word(&words, pending)
 }

@@ -5,11 +5,11 @@
 
 mod rooms;
 
-use at_once::Span;
-use bintree::{Verdict, Written};
+use at_once::Ends;
+use bintree::Verdict;
 use std::io;
 use std::io::Write;
-use universe::Universe;
+use universe::{Refusal, Universe, Unwritten};
 
 const LENT: usize = 2_048;
 
@@ -20,44 +20,33 @@ const MOVER_AND_WALL: [i64; 20] = [
 
 fn universe(axes: u64, bits: u64, frame_bits: u64) -> Universe {
     Universe {
-        axes: axes,
-        bits: bits,
-        frame_bits: frame_bits,
+        axes,
+        bits,
+        frame_bits,
     }
 }
 
-fn say(to: &mut impl Write, text: &[u8]) -> io::Result<()> {
-    to.write_all(text)
-}
-
-// A number behind a space.
-fn next_number(to: &mut impl Write, n: u64) -> io::Result<()> {
-    write!(to, " {n}")
-}
-
-// A verdict behind its number.
-fn tell(to: &mut impl Write, refusal: u64, verdict: Verdict) -> io::Result<()> {
-    next_number(to, refusal)?;
-    match verdict {
-        Verdict::Clear => say(to, b" clear"),
-        Verdict::Hit(contact) => {
-            next_number(to, contact.first)?;
-            next_number(to, contact.last)?;
-            next_number(to, contact.voxels)
+// A verdict behind its number; a refused one is clear.
+fn tell(to: &mut impl Write, judged: Result<Verdict, u64>) -> io::Result<()> {
+    match judged {
+        Ok(Verdict::Clear) => write!(to, " 0 clear"),
+        Ok(Verdict::Hit(contact)) => {
+            write!(
+                to,
+                " 0 {} {} {}",
+                contact.first, contact.last, contact.voxels
+            )
         }
+        Err(number) => write!(to, " {number} clear"),
     }
 }
 
-// The ends behind their number.
-fn tell_ends(to: &mut impl Write, refusal: u64, span: Span) -> io::Result<()> {
-    say(to, b", ends")?;
-    next_number(to, refusal)?;
-    match span {
-        Span::Clear => say(to, b" clear"),
-        Span::Hit(first, last) => {
-            next_number(to, first)?;
-            next_number(to, last)
-        }
+// The ends behind their number; refused ones are clear.
+fn tell_ends(to: &mut impl Write, ends: Result<Option<Ends>, Refusal>) -> io::Result<()> {
+    match ends {
+        Ok(None) => write!(to, ", ends 0 clear"),
+        Ok(Some(ends)) => write!(to, ", ends 0 {} {}", ends.first, ends.last),
+        Err(refusal) => write!(to, ", ends {} clear", refusal.number()),
     }
 }
 
@@ -83,10 +72,11 @@ fn lent_verdict(
         last_frame,
         &mut lent,
     );
-    let refusal = answer.refusal;
-    let verdict = answer.verdict;
-    say(to, b", in room")?;
-    tell(to, refusal, verdict)
+    write!(to, ", in room")?;
+    let judged = answer
+        .map(|clearance| clearance.verdict)
+        .map_err(|why| why.number());
+    tell(to, judged)
 }
 
 // The verdict and the ends at once.
@@ -109,8 +99,8 @@ fn both_at_once(
         first_frame,
         last_frame,
     );
-    tell(to, judged.refusal, judged.verdict)?;
-    let spanned = at_once::ends_at_once(
+    tell(to, judged.map_err(|why| why.number()))?;
+    let ends = at_once::ends_at_once(
         universe,
         rows,
         balls,
@@ -119,13 +109,13 @@ fn both_at_once(
         first_frame,
         last_frame,
     );
-    tell_ends(to, spanned.refusal, spanned.span)
+    tell_ends(to, ends)
 }
 
 // Both questions of two trees over a window.
 fn over(
     to: &mut impl Write,
-    label: &[u8],
+    label: &str,
     universe: Universe,
     rows: &[i64],
     balls: &[i64],
@@ -134,8 +124,7 @@ fn over(
     first_frame: u64,
     last_frame: u64,
 ) -> io::Result<()> {
-    say(to, label)?;
-    say(to, b":")?;
+    write!(to, "{label}:")?;
     both_at_once(
         to,
         universe,
@@ -156,13 +145,13 @@ fn over(
         first_frame,
         last_frame,
     )?;
-    say(to, b"\n")
+    writeln!(to)
 }
 
 // A mover between t and t + 1 and a wall from 2 to 3, in a window.
 fn moved(
     to: &mut impl Write,
-    label: &[u8],
+    label: &str,
     universe: Universe,
     first_frame: u64,
     last_frame: u64,
@@ -182,45 +171,40 @@ fn moved(
 
 // Universes of four to eight levels, so that a word is the whole, a part of it, or wider than it.
 fn levels(to: &mut impl Write) -> io::Result<()> {
-    moved(to, b"four levels", universe(2, 2, 2), 0, 3)?;
-    moved(to, b"five levels", universe(2, 2, 3), 0, 7)?;
-    moved(to, b"six levels", universe(2, 3, 3), 0, 7)?;
-    moved(to, b"seven levels", universe(2, 3, 4), 0, 15)?;
-    moved(to, b"eight levels", universe(2, 4, 4), 0, 15)?;
-    moved(to, b"long frames", universe(2, 2, 6), 0, 63)?;
-    moved(to, b"wide places", universe(2, 7, 2), 0, 3)
+    moved(to, "four levels", universe(2, 2, 2), 0, 3)?;
+    moved(to, "five levels", universe(2, 2, 3), 0, 7)?;
+    moved(to, "six levels", universe(2, 3, 3), 0, 7)?;
+    moved(to, "seven levels", universe(2, 3, 4), 0, 15)?;
+    moved(to, "eight levels", universe(2, 4, 4), 0, 15)?;
+    moved(to, "long frames", universe(2, 2, 6), 0, 63)?;
+    moved(to, "wide places", universe(2, 7, 2), 0, 3)
 }
 
 // Windows that cut a word, at both ends, within, and past the end.
 fn windows(to: &mut impl Write) -> io::Result<()> {
-    moved(to, b"up to frame 1", universe(2, 3, 4), 0, 1)?;
-    moved(to, b"frame 1", universe(2, 3, 4), 1, 1)?;
-    moved(to, b"from frame 2", universe(2, 3, 4), 2, 15)?;
-    moved(to, b"from frame 3", universe(2, 3, 4), 3, 15)?;
-    moved(to, b"the last frame", universe(2, 3, 4), 15, 15)?;
-    moved(to, b"past the last", universe(2, 3, 4), 0, 16)?;
-    moved(to, b"first after last", universe(2, 3, 4), 2, 1)
+    moved(to, "up to frame 1", universe(2, 3, 4), 0, 1)?;
+    moved(to, "frame 1", universe(2, 3, 4), 1, 1)?;
+    moved(to, "from frame 2", universe(2, 3, 4), 2, 15)?;
+    moved(to, "from frame 3", universe(2, 3, 4), 3, 15)?;
+    moved(to, "the last frame", universe(2, 3, 4), 15, 15)?;
+    moved(to, "past the last", universe(2, 3, 4), 0, 16)?;
+    moved(to, "first after last", universe(2, 3, 4), 2, 1)
 }
 
 // A tree of one plane and BLACK over all frames of four axes, 2 bits each.
-fn plane_alone(
-    to: &mut impl Write,
-    label: &[u8],
-    plane: [i64; 5],
-    words: &[u16],
-) -> io::Result<()> {
+fn plane_alone(to: &mut impl Write, label: &str, plane: [i64; 5], words: &[u16]) -> io::Result<()> {
     over(to, label, universe(4, 2, 2), &plane, &[], words, &[1], 0, 3)
 }
 
 // The same of one ball.
-fn ball_alone(to: &mut impl Write, label: &[u8], ball: [i64; 4], words: &[u16]) -> io::Result<()> {
+fn ball_alone(to: &mut impl Write, label: &str, ball: [i64; 4], words: &[u16]) -> io::Result<()> {
     over(to, label, universe(4, 2, 2), &[], &ball, words, &[1], 0, 3)
 }
 
 // The same of a ball and a plane.
 fn ball_and_plane(
     to: &mut impl Write,
-    label: &[u8],
+    label: &str,
     plane: [i64; 5],
     words: [u16; 3],
 ) -> io::Result<()> {
@@ -240,35 +224,30 @@ fn ball_and_plane(
 // A plane as it is, reversed, and less itself; and other planes.
 fn planes(to: &mut impl Write) -> io::Result<()> {
     let row: &[u16] = &[256];
-    plane_alone(to, b"through centres", [-9, 2, 2, 2, 0], row)?;
-    plane_alone(to, b"reversed", [-9, 2, 2, 2, 0], &[1, 256, 4])?;
-    plane_alone(to, b"less itself", [-9, 2, 2, 2, 0], &[256, 256, 4])?;
-    plane_alone(to, b"in motion", [-3, 1, 0, 0, 2], row)?;
-    plane_alone(to, b"five zeros", [0, 0, 0, 0, 0], row)
+    plane_alone(to, "through centres", [-9, 2, 2, 2, 0], row)?;
+    plane_alone(to, "reversed", [-9, 2, 2, 2, 0], &[1, 256, 4])?;
+    plane_alone(to, "less itself", [-9, 2, 2, 2, 0], &[256, 256, 4])?;
+    plane_alone(to, "in motion", [-3, 1, 0, 0, 2], row)?;
+    plane_alone(to, "five zeros", [0, 0, 0, 0, 0], row)
 }
 
 // A ball as it is, reversed, and less itself.
 fn balls(to: &mut impl Write) -> io::Result<()> {
-    ball_alone(to, b"a ball", [2, 2, 2, 2], &[512])?;
-    ball_alone(to, b"reversed", [2, 2, 2, 2], &[1, 512, 4])?;
-    ball_alone(to, b"less itself", [2, 2, 2, 2], &[512, 512, 4])
+    ball_alone(to, "a ball", [2, 2, 2, 2], &[512])?;
+    ball_alone(to, "reversed", [2, 2, 2, 2], &[1, 512, 4])?;
+    ball_alone(to, "less itself", [2, 2, 2, 2], &[512, 512, 4])
 }
 
 // Balls with a plane.
 fn balls_and_planes(to: &mut impl Write) -> io::Result<()> {
-    ball_and_plane(
-        to,
-        b"a ball while it stays",
-        [2, 0, 0, 0, -1],
-        [512, 256, 3],
-    )?;
-    ball_and_plane(to, b"a ball or after", [-3, 0, 0, 0, 1], [512, 256, 2])
+    ball_and_plane(to, "a ball while it stays", [2, 0, 0, 0, -1], [512, 256, 3])?;
+    ball_and_plane(to, "a ball or after", [-3, 0, 0, 0, 1], [512, 256, 2])
 }
 
 // A plane and BLACK in a window.
 fn plane_over(
     to: &mut impl Write,
-    label: &[u8],
+    label: &str,
     universe: Universe,
     plane: [i64; 5],
     first_frame: u64,
@@ -290,7 +269,7 @@ fn plane_over(
 // BLACK and a constant in a window.
 fn black_over(
     to: &mut impl Write,
-    label: &[u8],
+    label: &str,
     universe: Universe,
     constant: u16,
     first_frame: u64,
@@ -313,25 +292,25 @@ fn black_over(
 fn axes(to: &mut impl Write) -> io::Result<()> {
     plane_over(
         to,
-        b"frames alone",
+        "frames alone",
         universe(1, 0, 7),
         [-3, 2, 0, 0, 0],
         0,
         127,
     )?;
-    plane_over(to, b"three axes", universe(3, 3, 2), [-7, 1, 1, 1, 0], 1, 2)?;
-    black_over(to, b"one voxel", universe(4, 0, 0), 1, 0, 0)?;
-    black_over(to, b"none", universe(4, 0, 0), 0, 0, 0)?;
+    plane_over(to, "three axes", universe(3, 3, 2), [-7, 1, 1, 1, 0], 1, 2)?;
+    black_over(to, "one voxel", universe(4, 0, 0), 1, 0, 0)?;
+    black_over(to, "none", universe(4, 0, 0), 0, 0, 0)?;
     plane_over(
         to,
-        b"more than is lent",
+        "more than is lent",
         universe(4, 3, 3),
         [-29, 2, 2, 2, 1],
         0,
         7,
     )?;
-    black_over(to, b"all of the largest", universe(4, 10, 12), 1, 0, 4_095)?;
-    black_over(to, b"its last frame", universe(4, 10, 12), 1, 4_095, 4_095)
+    black_over(to, "all of the largest", universe(4, 10, 12), 1, 0, 4_095)?;
+    black_over(to, "its last frame", universe(4, 10, 12), 1, 4_095, 4_095)
 }
 
 // Each number up to the balls', with a fault behind it.
@@ -341,7 +320,7 @@ fn refused_surfaces(to: &mut impl Write) -> io::Result<()> {
     let black: &[u16] = &[1];
     over(
         to,
-        b"the universe",
+        "the universe",
         universe(5, 2, 2),
         torn,
         none,
@@ -352,7 +331,7 @@ fn refused_surfaces(to: &mut impl Write) -> io::Result<()> {
     )?;
     over(
         to,
-        b"the rows",
+        "the rows",
         universe(2, 2, 2),
         torn,
         torn,
@@ -363,7 +342,7 @@ fn refused_surfaces(to: &mut impl Write) -> io::Result<()> {
     )?;
     over(
         to,
-        b"the balls",
+        "the balls",
         universe(2, 2, 2),
         none,
         torn,
@@ -380,11 +359,11 @@ fn refused_trees(to: &mut impl Write) -> io::Result<()> {
     let none: &[i64] = &[];
     let black: &[u16] = &[1];
     let overfull: &[u16] = &[1; 256];
-    over(to, b"tree 1", square, none, none, &[256], overfull, 0, 3)?;
-    over(to, b"tree 2", square, none, none, black, &[], 0, 4)?;
+    over(to, "tree 1", square, none, none, &[256], overfull, 0, 3)?;
+    over(to, "tree 2", square, none, none, black, &[], 0, 4)?;
     over(
         to,
-        b"tree 2 overfull",
+        "tree 2 overfull",
         square,
         none,
         none,
@@ -393,38 +372,44 @@ fn refused_trees(to: &mut impl Write) -> io::Result<()> {
         0,
         4,
     )?;
-    over(to, b"the window", square, none, none, black, black, 0, 4)
+    over(to, "the window", square, none, none, black, black, 0, 4)
+}
+
+// The number of a conversion's answer, and the length written, or how much is needed.
+fn tell_length(to: &mut impl Write, written: Result<u64, Unwritten>) -> io::Result<()> {
+    match written {
+        Ok(length) => write!(to, " 0 {length}"),
+        Err(why) => write!(to, " {} {}", why.number(), why.needed()),
+    }
 }
 
 // What a merged conversion answered and left.
-fn tell_room(to: &mut impl Write, written: Written, room: &[u8]) -> io::Result<()> {
-    next_number(to, written.refusal)?;
-    next_number(to, written.length)?;
-    say(to, b" ")?;
-    say(to, room)
+fn tell_room(to: &mut impl Write, written: Result<u64, Unwritten>, room: &[u8]) -> io::Result<()> {
+    tell_length(to, written)?;
+    write!(to, " ")?;
+    to.write_all(room)
 }
 
 // A line: what the conversion over codes answered and left, and what the first one did.
 fn tell_rooms(
     to: &mut impl Write,
-    label: &[u8],
-    found: Written,
+    label: &str,
+    found: Result<u64, Unwritten>,
     room: &[u8],
-    plain: Written,
+    plain: Result<u64, Unwritten>,
     other: &[u8],
 ) -> io::Result<()> {
-    say(to, label)?;
-    say(to, b":")?;
+    write!(to, "{label}:")?;
     tell_room(to, found, room)?;
-    say(to, b" /")?;
+    write!(to, " /")?;
     tell_room(to, plain, other)?;
-    say(to, b"\n")
+    writeln!(to)
 }
 
 // The merged expression of two trees in a room, and by the first conversion in another.
 fn merged_two(
     to: &mut impl Write,
-    label: &[u8],
+    label: &str,
     universe: Universe,
     rows: &[i64],
     balls: &[i64],
@@ -441,7 +426,7 @@ fn merged_two(
 // The same of one tree.
 fn merged_one(
     to: &mut impl Write,
-    label: &[u8],
+    label: &str,
     universe: Universe,
     rows: &[i64],
     balls: &[i64],
@@ -457,7 +442,7 @@ fn merged_one(
 // The merged expressions of two trees in rooms of this length.
 fn merged_two_in(
     to: &mut impl Write,
-    label: &[u8],
+    label: &str,
     universe: Universe,
     rows: &[i64],
     balls: &[i64],
@@ -486,7 +471,7 @@ fn merged_two_in(
 // The same of one tree.
 fn merged_one_in(
     to: &mut impl Write,
-    label: &[u8],
+    label: &str,
     universe: Universe,
     rows: &[i64],
     balls: &[i64],
@@ -513,7 +498,7 @@ fn merged_one_in(
 // Both of the mover and the wall.
 fn merged_moved(
     to: &mut impl Write,
-    label: &[u8],
+    label: &str,
     universe: Universe,
     lent: usize,
 ) -> io::Result<()> {
@@ -532,7 +517,7 @@ fn merged_moved(
 // A tree of one plane.
 fn merged_plane(
     to: &mut impl Write,
-    label: &[u8],
+    label: &str,
     universe: Universe,
     plane: [i64; 5],
     words: &[u16],
@@ -544,7 +529,7 @@ fn merged_plane(
 // BLACK.
 fn merged_black(
     to: &mut impl Write,
-    label: &[u8],
+    label: &str,
     universe: Universe,
     lent: usize,
 ) -> io::Result<()> {
@@ -553,17 +538,17 @@ fn merged_black(
 
 // Universes of no level to five, which one word holds.
 fn merged_small(to: &mut impl Write) -> io::Result<()> {
-    merged_black(to, b"no level", universe(4, 0, 0), 1)?;
-    merged_moved(to, b"four levels", universe(2, 2, 2), 13)?;
-    merged_moved(to, b"five levels", universe(2, 2, 3), 14)
+    merged_black(to, "no level", universe(4, 0, 0), 1)?;
+    merged_moved(to, "four levels", universe(2, 2, 2), 13)?;
+    merged_moved(to, "five levels", universe(2, 2, 3), 14)
 }
 
 // Universes of six levels and more.
 fn merged_levels(to: &mut impl Write) -> io::Result<()> {
-    merged_moved(to, b"six levels", universe(2, 3, 3), 17)?;
-    merged_moved(to, b"eight levels", universe(2, 4, 4), 22)?;
-    merged_moved(to, b"long frames", universe(2, 2, 6), 19)?;
-    merged_moved(to, b"wide places", universe(2, 7, 2), 33)
+    merged_moved(to, "six levels", universe(2, 3, 3), 17)?;
+    merged_moved(to, "eight levels", universe(2, 4, 4), 22)?;
+    merged_moved(to, "long frames", universe(2, 2, 6), 19)?;
+    merged_moved(to, "wide places", universe(2, 7, 2), 33)
 }
 
 // Each number of axes.
@@ -571,7 +556,7 @@ fn merged_axes(to: &mut impl Write) -> io::Result<()> {
     let row: &[u16] = &[256];
     merged_plane(
         to,
-        b"frames alone",
+        "frames alone",
         universe(1, 0, 7),
         [-3, 2, 0, 0, 0],
         row,
@@ -579,7 +564,7 @@ fn merged_axes(to: &mut impl Write) -> io::Result<()> {
     )?;
     merged_plane(
         to,
-        b"three axes",
+        "three axes",
         universe(3, 3, 2),
         [-7, 1, 1, 1, 0],
         row,
@@ -587,7 +572,7 @@ fn merged_axes(to: &mut impl Write) -> io::Result<()> {
     )?;
     merged_plane(
         to,
-        b"four axes",
+        "four axes",
         universe(4, 2, 2),
         [-9, 2, 2, 2, 0],
         row,
@@ -598,10 +583,10 @@ fn merged_axes(to: &mut impl Write) -> io::Result<()> {
 // A plane reversed, less itself, and with the rest.
 fn merged_planes(to: &mut impl Write) -> io::Result<()> {
     let plane: [i64; 5] = [-9, 2, 2, 2, 0];
-    merged_plane(to, b"reversed", universe(4, 2, 2), plane, &[1, 256, 4], 69)?;
+    merged_plane(to, "reversed", universe(4, 2, 2), plane, &[1, 256, 4], 69)?;
     merged_plane(
         to,
-        b"less itself",
+        "less itself",
         universe(4, 2, 2),
         plane,
         &[256, 256, 4],
@@ -609,7 +594,7 @@ fn merged_planes(to: &mut impl Write) -> io::Result<()> {
     )?;
     merged_plane(
         to,
-        b"with the rest",
+        "with the rest",
         universe(4, 2, 2),
         plane,
         &[256, 1, 256, 4, 2],
@@ -621,10 +606,10 @@ fn merged_planes(to: &mut impl Write) -> io::Result<()> {
 fn merged_balls(to: &mut impl Write) -> io::Result<()> {
     let none: &[i64] = &[];
     let ball: &[i64] = &[2, 2, 2, 2];
-    merged_one_in(to, b"a ball", universe(4, 2, 2), none, ball, &[512], 191)?;
+    merged_one_in(to, "a ball", universe(4, 2, 2), none, ball, &[512], 191)?;
     merged_one_in(
         to,
-        b"a ball less itself",
+        "a ball less itself",
         universe(4, 2, 2),
         none,
         ball,
@@ -637,7 +622,7 @@ fn merged_balls(to: &mut impl Write) -> io::Result<()> {
 fn merged_beside(to: &mut impl Write) -> io::Result<()> {
     merged_two_in(
         to,
-        b"a ball beside a wall",
+        "a ball beside a wall",
         universe(3, 3, 2),
         &[-3, 1, 0, 0, 0],
         &[4, 4, 0, 3],
@@ -649,10 +634,10 @@ fn merged_beside(to: &mut impl Write) -> io::Result<()> {
 
 // Rooms that are exact, a symbol short, and none.
 fn merged_rooms(to: &mut impl Write) -> io::Result<()> {
-    merged_moved(to, b"exact", universe(2, 3, 4), 17)?;
-    merged_moved(to, b"a symbol short", universe(2, 3, 4), 16)?;
-    merged_moved(to, b"no room", universe(2, 3, 4), 0)?;
-    merged_black(to, b"no room for one", universe(2, 3, 4), 0)
+    merged_moved(to, "exact", universe(2, 3, 4), 17)?;
+    merged_moved(to, "a symbol short", universe(2, 3, 4), 16)?;
+    merged_moved(to, "no room", universe(2, 3, 4), 0)?;
+    merged_black(to, "no room for one", universe(2, 3, 4), 0)
 }
 
 // Rooms for every expression of the universe, and words whose own room is short.
@@ -661,7 +646,7 @@ fn merged_at_once(to: &mut impl Write) -> io::Result<()> {
     let row: &[u16] = &[256];
     merged_plane(
         to,
-        b"room for all of four levels",
+        "room for all of four levels",
         universe(2, 2, 2),
         plane,
         row,
@@ -669,18 +654,18 @@ fn merged_at_once(to: &mut impl Write) -> io::Result<()> {
     )?;
     merged_plane(
         to,
-        b"room for all of seven levels",
+        "room for all of seven levels",
         universe(2, 3, 4),
         plane,
         row,
         255,
     )?;
-    merged_plane(to, b"exact", universe(2, 2, 2), plane, row, 9)?;
-    merged_plane(to, b"a symbol short", universe(2, 2, 2), plane, row, 8)
+    merged_plane(to, "exact", universe(2, 2, 2), plane, row, 9)?;
+    merged_plane(to, "a symbol short", universe(2, 2, 2), plane, row, 8)
 }
 
 // Words and one more row in the largest universe.
-fn merged_largest(to: &mut impl Write, label: &[u8], words: &[u16]) -> io::Result<()> {
+fn merged_largest(to: &mut impl Write, label: &str, words: &[u16]) -> io::Result<()> {
     merged_two_in(
         to,
         label,
@@ -698,8 +683,8 @@ fn merged_codes(to: &mut impl Write) -> io::Result<()> {
     let more: [u16; 23] = [
         256, 256, 2, 256, 2, 256, 2, 256, 2, 256, 2, 256, 2, 256, 2, 256, 2, 256, 2, 256, 2, 256, 2,
     ];
-    merged_largest(to, b"few codes", &more[..21])?;
-    merged_largest(to, b"more codes", &more)
+    merged_largest(to, "few codes", &more[..21])?;
+    merged_largest(to, "more codes", &more)
 }
 
 // Each number with a fault behind it.
@@ -707,9 +692,9 @@ fn merged_refusals(to: &mut impl Write) -> io::Result<()> {
     let none: &[i64] = &[];
     let torn: &[i64] = &[0];
     let black: &[u16] = &[1];
-    merged_one_in(to, b"the universe", universe(5, 2, 2), torn, none, black, 2)?;
-    merged_one_in(to, b"the rows", universe(2, 2, 2), torn, torn, black, 2)?;
-    merged_one_in(to, b"the balls", universe(2, 2, 2), none, torn, &[], 2)
+    merged_one_in(to, "the universe", universe(5, 2, 2), torn, none, black, 2)?;
+    merged_one_in(to, "the rows", universe(2, 2, 2), torn, torn, black, 2)?;
+    merged_one_in(to, "the balls", universe(2, 2, 2), none, torn, &[], 2)
 }
 
 // The trees refused in their order, before room is asked for.
@@ -719,7 +704,7 @@ fn merged_trees(to: &mut impl Write) -> io::Result<()> {
     let overfull: &[u16] = &[1; 256];
     merged_two_in(
         to,
-        b"tree 1",
+        "tree 1",
         universe(2, 2, 2),
         none,
         none,
@@ -727,10 +712,10 @@ fn merged_trees(to: &mut impl Write) -> io::Result<()> {
         overfull,
         2,
     )?;
-    merged_two_in(to, b"tree 2", universe(2, 2, 2), none, none, black, &[], 0)?;
+    merged_two_in(to, "tree 2", universe(2, 2, 2), none, none, black, &[], 0)?;
     merged_two_in(
         to,
-        b"tree 2 overfull",
+        "tree 2 overfull",
         universe(2, 2, 2),
         none,
         none,

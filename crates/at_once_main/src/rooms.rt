@@ -1,46 +1,48 @@
 // Conversions over codes, raw and merged, beside the first conversion, in rooms at both sides of each edge: a line for
 // each scene, and for each room lent the number and the length, and where answer or room is not that of the first
 // conversion, so.
-use crate::{MOVER_AND_WALL, next_number, say, universe};
-use bintree::Written;
+use crate::{MOVER_AND_WALL, tell_length, universe};
 use std::io;
 use std::io::Write;
-use universe::Universe;
+use universe::{Universe, Unwritten};
 
 // The most symbols that are lent, more than scratch room ever holds.
 const MOST_LENT: usize = 8_192;
 
-// Whether two rooms hold the same.
-fn is_same(one: &[u8; MOST_LENT], two: &[u8; MOST_LENT]) -> bool {
-    for i in 0..MOST_LENT {
-        if one[i] != two[i] {
-            return false;
-        }
+// An answer's number, 0 where it is done.
+fn number_of(answer: Result<u64, Unwritten>) -> u64 {
+    match answer {
+        Ok(_) => 0,
+        Err(why) => why.number(),
     }
-    true
+}
+
+// The length written, or how much is needed.
+fn length_of(answer: Result<u64, Unwritten>) -> u64 {
+    match answer {
+        Ok(length) => length,
+        Err(why) => why.needed(),
+    }
 }
 
 // One room: its length, what was answered, and whether that and the room are those of the first conversion.
 fn tell_lent(
     to: &mut impl Write,
     lent: usize,
-    found: Written,
-    plain: Written,
+    found: Result<u64, Unwritten>,
+    plain: Result<u64, Unwritten>,
     is_same: bool,
 ) -> io::Result<()> {
-    say(to, b";")?;
-    next_number(to, lent as u64)?;
-    say(to, b":")?;
-    next_number(to, found.refusal)?;
-    next_number(to, found.length)?;
-    if found.refusal != plain.refusal {
-        say(to, b" OTHER NUMBER")?;
+    write!(to, "; {lent}:")?;
+    tell_length(to, found)?;
+    if number_of(found) != number_of(plain) {
+        write!(to, " OTHER NUMBER")?;
     }
-    if found.length != plain.length {
-        say(to, b" OTHER LENGTH")?;
+    if length_of(found) != length_of(plain) {
+        write!(to, " OTHER LENGTH")?;
     }
     if !is_same {
-        say(to, b" OTHER ROOM")?;
+        write!(to, " OTHER ROOM")?;
     }
     Ok(())
 }
@@ -54,7 +56,7 @@ fn by_codes(
     first: &[u16],
     second: &[u16],
     out: &mut [u8],
-) -> Written {
+) -> Result<u64, Unwritten> {
     if merging {
         return at_once::merged_of_two(universe, rows, balls, first, second, out);
     }
@@ -70,7 +72,7 @@ fn by_slots(
     first: &[u16],
     second: &[u16],
     out: &mut [u8],
-) -> Written {
+) -> Result<u64, Unwritten> {
     if merging {
         return convert::merged_of_two(universe, rows, balls, first, second, out);
     }
@@ -109,7 +111,7 @@ fn two_in(
             second,
             &mut other[..lent],
         );
-        tell_lent(to, lent, found, plain, is_same(&out, &other))?;
+        tell_lent(to, lent, found, plain, out == other)?;
     }
     Ok(())
 }
@@ -134,7 +136,7 @@ fn two_rooms(
         second,
         &mut [b'.'; 0],
     );
-    let need = asked.length as usize;
+    let need = length_of(asked) as usize;
     two_in(to, merging, universe, rows, balls, first, second, 0)?;
     two_in(to, merging, universe, rows, balls, first, second, need)?;
     if 0 < need {
@@ -150,21 +152,19 @@ fn two_rooms(
 // A scene of two trees, raw and merged.
 fn two(
     to: &mut impl Write,
-    label: &[u8],
+    label: &str,
     universe: Universe,
     rows: &[i64],
     balls: &[i64],
     first: &[u16],
     second: &[u16],
 ) -> io::Result<()> {
-    say(to, label)?;
-    say(to, b", raw")?;
+    write!(to, "{label}, raw")?;
     two_rooms(to, false, universe, rows, balls, first, second)?;
-    say(to, b"\n")?;
-    say(to, label)?;
-    say(to, b", merged")?;
+    writeln!(to)?;
+    write!(to, "{label}, merged")?;
     two_rooms(to, true, universe, rows, balls, first, second)?;
-    say(to, b"\n")
+    writeln!(to)
 }
 
 // One tree, raw, with so much room.
@@ -181,7 +181,7 @@ fn one_in(
     if lent <= MOST_LENT {
         let found = at_once::raw_of_one(universe, rows, balls, words, &mut out[..lent]);
         let plain = convert::raw_of_one(universe, rows, balls, words, &mut other[..lent]);
-        tell_lent(to, lent, found, plain, is_same(&out, &other))?;
+        tell_lent(to, lent, found, plain, out == other)?;
     }
     Ok(())
 }
@@ -189,26 +189,25 @@ fn one_in(
 // A scene of one tree, raw, with room exact, a symbol short, and much.
 fn one(
     to: &mut impl Write,
-    label: &[u8],
+    label: &str,
     universe: Universe,
     rows: &[i64],
     balls: &[i64],
     words: &[u16],
 ) -> io::Result<()> {
     let asked = convert::raw_of_one(universe, rows, balls, words, &mut [b'.'; 0]);
-    let need = asked.length as usize;
-    say(to, label)?;
-    say(to, b", raw of one")?;
+    let need = length_of(asked) as usize;
+    write!(to, "{label}, raw of one")?;
     one_in(to, universe, rows, balls, words, need)?;
     if 0 < need {
         one_in(to, universe, rows, balls, words, need - 1)?;
     }
     one_in(to, universe, rows, balls, words, MOST_LENT)?;
-    say(to, b"\n")
+    writeln!(to)
 }
 
 // A mover between two planes and a wall.
-fn moved(to: &mut impl Write, label: &[u8], universe: Universe) -> io::Result<()> {
+fn moved(to: &mut impl Write, label: &str, universe: Universe) -> io::Result<()> {
     two(
         to,
         label,
@@ -222,22 +221,22 @@ fn moved(to: &mut impl Write, label: &[u8], universe: Universe) -> io::Result<()
 
 // The same in universes of no level and of four to fifteen.
 fn levels(to: &mut impl Write) -> io::Result<()> {
-    moved(to, b"no level", universe(2, 0, 0))?;
-    moved(to, b"four levels", universe(2, 2, 2))?;
-    moved(to, b"six levels", universe(2, 3, 3))?;
-    moved(to, b"seven levels", universe(2, 3, 4))?;
-    moved(to, b"fifteen levels", universe(2, 10, 5))
+    moved(to, "no level", universe(2, 0, 0))?;
+    moved(to, "four levels", universe(2, 2, 2))?;
+    moved(to, "six levels", universe(2, 3, 3))?;
+    moved(to, "seven levels", universe(2, 3, 4))?;
+    moved(to, "fifteen levels", universe(2, 10, 5))
 }
 
 // A plane and BLACK.
-fn plane(to: &mut impl Write, label: &[u8], universe: Universe, plane: [i64; 5]) -> io::Result<()> {
+fn plane(to: &mut impl Write, label: &str, universe: Universe, plane: [i64; 5]) -> io::Result<()> {
     two(to, label, universe, &plane, &[], &[256], &[1])
 }
 
 // A plane alone.
 fn plane_alone(
     to: &mut impl Write,
-    label: &[u8],
+    label: &str,
     universe: Universe,
     plane: [i64; 5],
 ) -> io::Result<()> {
@@ -246,13 +245,13 @@ fn plane_alone(
 
 // Each number of axes, and expressions that each scratch room holds and that none does.
 fn axes(to: &mut impl Write) -> io::Result<()> {
-    plane(to, b"frames alone", universe(1, 0, 8), [-37, 2, 0, 0, 0])?;
-    plane_alone(to, b"frames alone", universe(1, 0, 12), [-37, 2, 0, 0, 0])?;
-    plane(to, b"two axes", universe(2, 7, 7), [-90, 2, 3, 0, 0])?;
-    plane(to, b"three axes", universe(3, 4, 4), [-21, 1, 2, 1, 0])?;
-    plane(to, b"five bits", universe(3, 5, 5), [-45, 1, 2, 1, 0])?;
-    plane(to, b"four axes", universe(4, 3, 3), [-13, 2, 1, 1, 1])?;
-    plane_alone(to, b"four axes", universe(4, 2, 2), [-9, 2, 2, 2, 0])
+    plane(to, "frames alone", universe(1, 0, 8), [-37, 2, 0, 0, 0])?;
+    plane_alone(to, "frames alone", universe(1, 0, 12), [-37, 2, 0, 0, 0])?;
+    plane(to, "two axes", universe(2, 7, 7), [-90, 2, 3, 0, 0])?;
+    plane(to, "three axes", universe(3, 4, 4), [-21, 1, 2, 1, 0])?;
+    plane(to, "five bits", universe(3, 5, 5), [-45, 1, 2, 1, 0])?;
+    plane(to, "four axes", universe(4, 3, 3), [-13, 2, 1, 1, 1])?;
+    plane_alone(to, "four axes", universe(4, 2, 2), [-9, 2, 2, 2, 0])
 }
 
 // A plane less itself, which raw expressions show, and a ball.
@@ -260,27 +259,20 @@ fn surfaces(to: &mut impl Write) -> io::Result<()> {
     let none: &[i64] = &[];
     one(
         to,
-        b"less itself",
+        "less itself",
         universe(3, 3, 3),
         &[-9, 2, 2, 2, 0],
         none,
         &[256, 256, 4],
     )?;
-    one(
-        to,
-        b"a ball",
-        universe(4, 2, 2),
-        none,
-        &[2, 2, 2, 2],
-        &[512],
-    )
+    one(to, "a ball", universe(4, 2, 2), none, &[2, 2, 2, 2], &[512])
 }
 
 // A ball beside a wall.
 fn beside(to: &mut impl Write) -> io::Result<()> {
     two(
         to,
-        b"a ball beside a wall",
+        "a ball beside a wall",
         universe(3, 3, 2),
         &[-3, 1, 0, 0, 0],
         &[4, 4, 0, 3],
@@ -297,14 +289,14 @@ fn fewest_codes(to: &mut impl Write, more: &[u16]) -> io::Result<()> {
     let row: &[u16] = &[256];
     two(
         to,
-        b"fewest codes",
+        "fewest codes",
         universe(1, 0, 7),
         plane,
         none,
         fewest,
         row,
     )?;
-    two(to, b"more codes", universe(1, 0, 7), plane, none, more, row)
+    two(to, "more codes", universe(1, 0, 7), plane, none, more, row)
 }
 
 // The same of few places.
@@ -313,7 +305,7 @@ fn few_codes(to: &mut impl Write, more: &[u16]) -> io::Result<()> {
     let none: &[i64] = &[];
     two(
         to,
-        b"few codes",
+        "few codes",
         universe(4, 10, 12),
         plane,
         none,
@@ -322,7 +314,7 @@ fn few_codes(to: &mut impl Write, more: &[u16]) -> io::Result<()> {
     )?;
     two(
         to,
-        b"most codes",
+        "most codes",
         universe(4, 10, 12),
         plane,
         none,
@@ -347,15 +339,15 @@ fn refused_surfaces(to: &mut impl Write) -> io::Result<()> {
     let black: &[u16] = &[1];
     two(
         to,
-        b"the universe",
+        "the universe",
         universe(5, 2, 2),
         torn,
         none,
         black,
         black,
     )?;
-    two(to, b"the rows", universe(2, 2, 2), torn, torn, black, black)?;
-    two(to, b"the balls", universe(2, 2, 2), none, torn, &[], black)
+    two(to, "the rows", universe(2, 2, 2), torn, torn, black, black)?;
+    two(to, "the balls", universe(2, 2, 2), none, torn, &[], black)
 }
 
 // Each number of the trees.
@@ -363,9 +355,9 @@ fn refused_trees(to: &mut impl Write) -> io::Result<()> {
     let none: &[i64] = &[];
     let black: &[u16] = &[1];
     let row: &[u16] = &[256];
-    two(to, b"tree 1", universe(2, 2, 2), none, none, row, &[1; 256])?;
-    two(to, b"tree 2", universe(2, 2, 2), none, none, black, &[])?;
-    one(to, b"the tree", universe(2, 2, 2), none, none, row)
+    two(to, "tree 1", universe(2, 2, 2), none, none, row, &[1; 256])?;
+    two(to, "tree 2", universe(2, 2, 2), none, none, black, &[])?;
+    one(to, "the tree", universe(2, 2, 2), none, none, row)
 }
 
 // All of them.

@@ -2,66 +2,62 @@
 // so that what was not to be written shows as the `.` it was.
 #![tactic(auto)]
 
-use bintree::{Verdict, Written};
+use bintree::Verdict;
 use std::io;
 use std::io::Write;
-use universe::Universe;
+use universe::{Refusal, Universe, Unwritten};
 
 const LENT: usize = 48;
 
 fn universe(axes: u64, bits: u64, frame_bits: u64) -> Universe {
     Universe {
-        axes: axes,
-        bits: bits,
-        frame_bits: frame_bits,
+        axes,
+        bits,
+        frame_bits,
     }
 }
 
-fn say(to: &mut impl Write, text: &[u8]) -> io::Result<()> {
-    to.write_all(text)
-}
-
-// A number behind a space.
-fn next_number(to: &mut impl Write, n: u64) -> io::Result<()> {
-    write!(to, " {n}")
-}
-
-fn written(to: &mut impl Write, label: &[u8], answer: Written, room: &[u8]) -> io::Result<()> {
-    say(to, label)?;
-    next_number(to, answer.refusal)?;
-    next_number(to, answer.length)?;
-    say(to, b" ")?;
-    say(to, room)?;
-    say(to, b"\n")
+// An answer's number and its length, and the room that is lent.
+fn show(
+    to: &mut impl Write,
+    label: &str,
+    answer: Result<u64, Unwritten>,
+    room: &[u8],
+) -> io::Result<()> {
+    match answer {
+        Ok(length) => write!(to, "{label} 0 {length} ")?,
+        Err(why) => write!(to, "{label} {} {} ", why.number(), why.needed())?,
+    }
+    to.write_all(room)?;
+    writeln!(to)
 }
 
 // One tree: its room, raw and merged.
 fn one_tree(
     to: &mut impl Write,
-    label: &[u8],
+    label: &str,
     universe: Universe,
     rows: &[i64],
     balls: &[i64],
     words: &[u16],
 ) -> io::Result<()> {
-    say(to, label)?;
-    say(to, b"\nroom")?;
-    let room = universe.room(csg::halfspace_words(words), csg::ball_words(words));
-    next_number(to, room.refusal)?;
-    next_number(to, room.symbols)?;
-    say(to, b"\n")?;
+    writeln!(to, "{label}")?;
+    match universe.room(csg::halfspace_words(words), csg::ball_words(words)) {
+        Ok(symbols) => writeln!(to, "room 0 {symbols}")?,
+        Err(refusal) => writeln!(to, "room {} 0", refusal.number())?,
+    }
     let mut lent = [b'.'; LENT];
     let answer = convert::raw_of_one(universe, rows, balls, words, &mut lent);
-    written(to, b"raw", answer, &lent)?;
+    show(to, "raw", answer, &lent)?;
     let mut lent = [b'.'; LENT];
     let answer = convert::merged_of_one(universe, rows, balls, words, &mut lent);
-    written(to, b"merged", answer, &lent)
+    show(to, "merged", answer, &lent)
 }
 
 // A ball alone.
 fn alone(
     to: &mut impl Write,
-    label: &[u8],
+    label: &str,
     universe: Universe,
     x: i64,
     y: i64,
@@ -74,25 +70,17 @@ fn alone(
 // Balls alone, from no place axis to three; one whose raw expression is longer than the room lent.
 fn balls_alone(to: &mut impl Write) -> io::Result<()> {
     let line = universe(2, 2, 1);
-    alone(to, b"no place axis", universe(1, 0, 2), 0, 0, 0, 0)?;
-    alone(to, b"a point at a corner", line, 1, 0, 0, 0)?;
-    alone(to, b"radius 1 at a corner", line, 1, 0, 0, 1)?;
-    alone(to, b"a centre below the universe", line, -1, 0, 0, 3)?;
-    alone(to, b"a centre at its limit", line, 1_024, 0, 0, 1_024)?;
+    alone(to, "no place axis", universe(1, 0, 2), 0, 0, 0, 0)?;
+    alone(to, "a point at a corner", line, 1, 0, 0, 0)?;
+    alone(to, "radius 1 at a corner", line, 1, 0, 0, 1)?;
+    alone(to, "a centre below the universe", line, -1, 0, 0, 3)?;
+    alone(to, "a centre at its limit", line, 1_024, 0, 0, 1_024)?;
+    alone(to, "a centre at its other limit", line, -1_024, 0, 0, 1_024)?;
+    alone(to, "two place axes", universe(3, 2, 0), 2, 2, 0, 2)?;
+    alone(to, "three place axes", universe(4, 1, 1), 0, 0, 0, 1)?;
     alone(
         to,
-        b"a centre at its other limit",
-        line,
-        -1_024,
-        0,
-        0,
-        1_024,
-    )?;
-    alone(to, b"two place axes", universe(3, 2, 0), 2, 2, 0, 2)?;
-    alone(to, b"three place axes", universe(4, 1, 1), 0, 0, 0, 1)?;
-    alone(
-        to,
-        b"more symbols than are lent",
+        "more symbols than are lent",
         universe(3, 2, 1),
         2,
         2,
@@ -105,7 +93,7 @@ fn balls_alone(to: &mut impl Write) -> io::Result<()> {
 fn trees(to: &mut impl Write, words: &[u16]) -> io::Result<()> {
     one_tree(
         to,
-        b"a tree",
+        "a tree",
         universe(3, 2, 0),
         &[-2, 1, 0, 0, 0],
         &[2, 2, 0, 2],
@@ -116,34 +104,30 @@ fn trees(to: &mut impl Write, words: &[u16]) -> io::Result<()> {
 // The number that refuses a scene of one tree and BLACK before room is asked for.
 fn refusal(
     to: &mut impl Write,
-    label: &[u8],
+    label: &str,
     universe: Universe,
     balls: &[i64],
     words: &[u16],
 ) -> io::Result<()> {
-    say(to, b"refusal: ")?;
-    say(to, label)?;
-    next_number(
+    let checked = convert::check_scene(universe, &[], balls, words, &[1]);
+    writeln!(
         to,
-        convert::scene_refusal(universe, &[], balls, words, &[1]),
-    )?;
-    say(to, b"\n")
+        "refusal: {label} {}",
+        checked.map_or_else(Refusal::number, |()| 0)
+    )
 }
 
 // That of one ball.
 fn limit(
     to: &mut impl Write,
-    label: &[u8],
+    label: &str,
     axes: u64,
     x: i64,
     y: i64,
     z: i64,
     radius: i64,
 ) -> io::Result<()> {
-    let mut bits: u64 = 1;
-    if axes == 1 {
-        bits = 0;
-    }
+    let bits = if axes == 1 { 0 } else { 1 };
     refusal(
         to,
         label,
@@ -155,23 +139,23 @@ fn limit(
 
 // Both sides of each limit.
 fn limits(to: &mut impl Write) -> io::Result<()> {
-    limit(to, b"taken", 4, 1_024, -1_024, 0, 1_024)?;
-    limit(to, b"a centre one over", 4, 1_025, 0, 0, 0)?;
-    limit(to, b"a centre one under", 4, 0, 0, -1_025, 0)?;
-    limit(to, b"the least i64", 4, -9_223_372_036_854_775_808, 0, 0, 0)?;
-    limit(to, b"a radius one over", 4, 0, 0, 0, 1_025)?;
-    limit(to, b"a radius below 0", 4, 0, 0, 0, -1)?;
-    limit(to, b"the last axis is no place axis", 3, 0, 0, 1, 0)?;
-    limit(to, b"one axis", 1, 1, 0, 0, 0)
+    limit(to, "taken", 4, 1_024, -1_024, 0, 1_024)?;
+    limit(to, "a centre one over", 4, 1_025, 0, 0, 0)?;
+    limit(to, "a centre one under", 4, 0, 0, -1_025, 0)?;
+    limit(to, "the least i64", 4, -9_223_372_036_854_775_808, 0, 0, 0)?;
+    limit(to, "a radius one over", 4, 0, 0, 0, 1_025)?;
+    limit(to, "a radius below 0", 4, 0, 0, 0, -1)?;
+    limit(to, "the last axis is no place axis", 3, 0, 0, 1, 0)?;
+    limit(to, "one axis", 1, 1, 0, 0, 0)
 }
 
 // Each number in its order.
 fn orders(to: &mut impl Write) -> io::Result<()> {
     let torn: &[i64] = &[0];
     let none: &[u16] = &[];
-    refusal(to, b"the universe first", universe(5, 1, 1), torn, none)?;
-    refusal(to, b"not in fours", universe(2, 1, 1), torn, none)?;
-    refusal(to, b"the trees after", universe(2, 1, 1), &[], &[512])
+    refusal(to, "the universe first", universe(5, 1, 1), torn, none)?;
+    refusal(to, "not in fours", universe(2, 1, 1), torn, none)?;
+    refusal(to, "the trees after", universe(2, 1, 1), &[], &[512])
 }
 
 // Words at both sides of those that name a ball, and 64 balls and 65.
@@ -180,20 +164,20 @@ fn counts(to: &mut impl Write) -> io::Result<()> {
     let last: &[u16] = &[575];
     refusal(
         to,
-        b"an index past the balls",
+        "an index past the balls",
         universe(2, 1, 1),
         &[0; 252],
         last,
     )?;
-    refusal(to, b"64 balls", universe(2, 1, 1), most, last)?;
-    refusal(to, b"576 names none", universe(2, 1, 1), most, &[576])?;
-    refusal(to, b"65 balls", universe(2, 1, 1), &[0; 260], last)
+    refusal(to, "64 balls", universe(2, 1, 1), most, last)?;
+    refusal(to, "576 names none", universe(2, 1, 1), most, &[576])?;
+    refusal(to, "65 balls", universe(2, 1, 1), &[0; 260], last)
 }
 
 // The verdict of two trees over all frames, with its number and the raw length.
 fn verdict(
     to: &mut impl Write,
-    label: &[u8],
+    label: &str,
     rows: &[i64],
     balls: &[i64],
     first: &[u16],
@@ -210,36 +194,37 @@ fn verdict(
         3,
         &mut lent,
     );
-    let refusal = answer.refusal;
-    let length = answer.length;
-    let verdict = answer.verdict;
-    say(to, label)?;
-    match verdict {
-        Verdict::Clear => say(to, b" clear")?,
-        Verdict::Hit(contact) => {
-            say(to, b" hit")?;
-            next_number(to, contact.first)?;
-            next_number(to, contact.last)?;
-            next_number(to, contact.voxels)?;
+    write!(to, "{label}")?;
+    match answer {
+        Ok(judged) => {
+            match judged.verdict {
+                Verdict::Clear => write!(to, " clear")?,
+                Verdict::Hit(contact) => {
+                    write!(
+                        to,
+                        " hit {} {} {}",
+                        contact.first, contact.last, contact.voxels
+                    )?;
+                }
+            }
+            writeln!(to, " 0 {}", judged.length)
         }
+        Err(why) => writeln!(to, " clear {} {}", why.number(), why.needed()),
     }
-    next_number(to, refusal)?;
-    next_number(to, length)?;
-    say(to, b"\n")
 }
 
 // Two heads.
-fn heads(to: &mut impl Write, label: &[u8], balls: [i64; 8]) -> io::Result<()> {
+fn heads(to: &mut impl Write, label: &str, balls: [i64; 8]) -> io::Result<()> {
     verdict(to, label, &[], &balls, &[512], &[513])
 }
 
 // Two heads, and a head before a wall that comes nearer.
 fn verdicts(to: &mut impl Write) -> io::Result<()> {
-    heads(to, b"heads apart", [1, 1, 0, 1, 3, 3, 0, 1])?;
-    heads(to, b"heads that meet", [1, 1, 0, 2, 3, 3, 0, 2])?;
+    heads(to, "heads apart", [1, 1, 0, 1, 3, 3, 0, 1])?;
+    heads(to, "heads that meet", [1, 1, 0, 2, 3, 3, 0, 2])?;
     verdict(
         to,
-        b"a wall that comes",
+        "a wall that comes",
         &[-4, 1, 0, 1, 0],
         &[1, 1, 0, 1],
         &[512],

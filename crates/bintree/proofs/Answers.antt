@@ -15,7 +15,7 @@ use Rattle.universe.specs.Universe.{universe_refusal, levels, most_levels}
 use Rattle.universe.proofs.Refusing.{last_check}
 use Rattle.universe.proofs.Lent.{untouched, written, room_enough, room_short}
 use Rattle.universe.proofs.Questions.{levels_told, levels_answered}
-use Rattle.bintree.specs.declared.Written.{Written}
+use Rattle.bintree.specs.Told.{WrittenAnswer}
 use Rattle.bintree.specs.Shape.{Shape}
 use Rattle.bintree.specs.Reading.{none, read, expression, expression_refusal}
 use Rattle.bintree.specs.Answers.{unless_refused, well_formed_refusal, refused_writing, short_writing, done_writing, written_answer, written_buffer}
@@ -49,9 +49,6 @@ place_room u n count f h = omega (arith, levels_most u count f)
 
 -- `number` is what the universe's own check gave
 module _ (u : Universe) (number : ℕ) (e : number ≡ universe_refusal u) where
-  pub universe_accepted : number ≡ 0 → universe_refusal u ≡ 0
-  universe_accepted z = sym e ∙ z
-
   -- its levels, as code asks for them
   pub asked_levels : (count : ℕ) → number ≡ 0 → count ≡ levels_answer u → count ≡ levels u
   asked_levels count z = levels_told u e z
@@ -128,9 +125,9 @@ module _ (n : ℕ) (out symbols : List ℕ) where
       go (yes z) (yes k) = rw (← written_all z k, eq-eqb n 0 z, room_enough (length out) (length symbols) k)
       go (yes z) (no k) = rw (← written_short z (omega arith), eq-eqb n 0 z, room_short (length out) (length symbols) (omega arith))
 
-  kept : {answer : Written} → answer ≡ written_answer n out symbols → (answer.refusal ≡ 0 → ⊥) → out ≡ written_buffer n out symbols
+  kept : {answer : WrittenAnswer} → answer ≡ written_answer n out symbols → (answer.refusal ≡ 0 → ⊥) → out ≡ written_buffer n out symbols
   unfolding written_buffer
-  kept e h = untouched symbols out (λ z. h (ap (λ (a : Written). a.refusal) e ∙ z))
+  kept e h = untouched symbols out (λ z. h (ap (λ (a : WrittenAnswer). a.refusal) e ∙ z))
 
   pub kept_refused : (n ≡ 0 → ⊥) → out ≡ written_buffer n out symbols
   kept_refused h = kept (written_refused h) h
@@ -141,4 +138,4 @@ module _ (n : ℕ) (out symbols : List ℕ) where
 
     pub left_all : length symbols ≤ length out → symbols ++ drop (length symbols) out ≡ written_buffer n out symbols
     unfolding written_buffer
-    left_all h = written symbols out (sym (ap (λ (a : Written). a.refusal) (written_all z h))) refl
+    left_all h = written symbols out (sym (ap (λ (a : WrittenAnswer). a.refusal) (written_all z h))) refl

@@ -1,39 +1,31 @@
 -- What laying a merged tree into room tells and leaves. A leaf waits until it is known that it does not merge with its brother, so that nothing is
 -- written in vain: the two parts, `(` and the two leaves that waited make the whole (`parts_laid`).
+use mathlib.Core.Logic.{◌⊎◌}
 use mathlib.Core.Path.{◌≡◌, refl, sym, ap, ◌∙◌}
 use mathlib.Core.Bool.{Bool, true, false}
-use mathlib.Core.List.{List}
-use Prim.Native.Nat.{ℕ, suc, ◌+◌, ◌-◌, ◌≤◌, ◌<◌, ◌^◌}
+use mathlib.Core.List.{List, append_assoc}
+use Prim.Native.Nat.{ℕ, suc, ◌+◌, ◌-◌, ◌≤◌, ◌<◌, min}
 use native.Mathlib.Decide.{ℕ_discrete}
 use native.Mathlib.Omega.{arith}
 use borrow.Author.Rules.{rules}
 use borrow.Author.Tests.{eq-eqb, ne_eqb}
-use lib.Dec.{eqb}
-use lib.ListN.{length, get_or, set}
-use lib.Seq.{sets, set_out}
+use borrow.Rule.Slice.PartMut.{put_mid}
+use lib.ListN.{length, get_or, set, take}
+use lib.Seq.{sets, set_out, sets-eq, length-sets, length-take-le, drop-drop}
+use Rattle.std.specs.Prelude.{Some, None}
 use Rattle.bintree.specs.declared.Colour.{Colour}
 use Rattle.bintree.specs.declared.Colour.TheVariants.{White, Black}
 use Rattle.bintree.specs.declared.lay.Laid.{Laid}
-use Rattle.bintree.specs.declared.lay.Laid.TheVariants.{Done, Unread}
 use Rattle.bintree.specs.Shape.{Shape, leaf, halved, open_symbol, symbol_of, symbols, size}
 use Rattle.bintree.specs.Reading.{Reading, none, read, read_at}
 use Rattle.bintree.specs.Merging.{merged, is_pair}
 use Rattle.bintree.specs.Walks.{leaf_symbol, is_alike, noted, joined_halves, laid, lay_answer, Lays}
 use Rattle.bintree.proofs.Shape.{length_symbols, size_positive, symbol_not_zero}
-use Rattle.bintree.proofs.Reading.{leaf_at, other_at, end_at, deep_at, low_missing, high_missing, both_read}
+use Rattle.bintree.proofs.Reading.{either_colour, leaf_at, other_at, end_at, deep_at, low_missing, high_missing, both_read}
 use Rattle.bintree.proofs.Merging.{Joined, one, two, joined, join_apart, merged_size}
-use Rattle.lemmas.proofs.Stores.{set_sets, sets_append, copying_none, copying_start, copying_next, copying_end}
-use Rattle.lemmas.proofs.Stores.{copying_kept, copying_read, copying_write, copying_place}
+use Rattle.lemmas.proofs.Stores.{set_sets, sets_append, copying_end}
 
 -- ---- `is_alike`, `note` and `join_halves`
-
-pub alike_none : (low high : ℕ) → low ≡ 0 → false ≡ is_alike low high
-unfolding is_alike
-alike_none low high e = rw (eq-eqb low 0 e)
-
-pub alike_some : (low high : ℕ) → (low ≡ 0 → ⊥) → eqb low high ≡ is_alike low high
-unfolding is_alike
-alike_some low high n = rw (ne_eqb low 0 n)
 
 pub noted_none : (o : List ℕ) (t x : ℕ) → x ≡ 0 → o ≡ noted o t x
 unfolding noted
@@ -57,27 +49,29 @@ pub halves_joined : (o o₁ o₂ o₃ : List ℕ) (t x d y : ℕ) → o₁ ≡ n
 unfolding joined_halves
 halves_joined o o₁ o₂ o₃ t x d y e f g = rw (g, f, e)
 
-pub next_fits : (t d : ℕ) → t < d → d < 2 ^ 64 → t + 1 < 2 ^ 64
-next_fits t d h k = omega arith
-
-pub three_lengths : (o o₁ o₂ o₃ : List ℕ) → length o₁ ≡ length o → length o₂ ≡ length o₁ → length o₃ ≡ length o₂ → length o₃ ≡ length o
-three_lengths o o₁ o₂ o₃ e f g = g ∙ f ∙ e
-
-pub ruleset note_laws = (rules, alike_none, alike_some, noted_none, noted_some, noted_past, noted_beyond, halves_joined, next_fits, three_lengths)
+pub ruleset note_laws = (rules, noted_none, noted_some, noted_past, noted_beyond, halves_joined)
 
 -- ---- `copy`
 
-pub ruleset copy_laws = (
-  rules,
-  copying_none,
-  copying_start,
-  copying_next,
-  copying_end,
-  copying_kept,
-  copying_read,
-  copying_write,
-  copying_place,
-)
+-- as many as there is room for, put in at once
+pub copied :
+    (from before now : List ℕ) (at count : ℕ) → at < length before → count ≡ min (length from) (length before - at) → now ≡ take count from →
+    put_mid at (at + count - at) before now ≡ sets before at from
+copied from before now at count h e f =
+    let d : at + count - at ≡ count = omega arith in
+    let l : length (take count from) ≡ count = length-take-le count from (omega arith) in
+    let put : put_mid at count before (take count from) ≡ sets before at (take count from) =
+    rw (drop-drop count at before, ← append_assoc) (rw l at (sym (sets-eq (take count from) before at (omega arith)))) in
+    let same : put_mid at (at + count - at) before now ≡ sets before at (take count from) = rw (d, f) put in
+    copying_end from before at count count _
+    (record {
+      start = h;
+      fitting = e;
+      few = omega arith;
+      same = same;
+      long = ap length same ∙ length-sets before at (take count from);
+    })
+    (omega arith)
 
 -- ---- a leaf's symbol, and the merged shape of two parts by theirs
 
@@ -158,144 +152,130 @@ apart_laid o o₁ o₂ o₃ t d x y a b e f g h i j = rw (j, f, e, g, h, i) (par
 no_shape : {x : Reading} {a : Shape} → x ≡ none → x ≡ read a → ⊥
 no_shape e f = let z : ◌≡◌ {A = ℕ} 0 1 = cc in omega arith
 
-lays_none : (p t : ℕ) (o o' : List ℕ) {x : Reading} → x ≡ none → Lays p t o x Unread o'
+lays_none : (p t : ℕ) (o o' : List ℕ) {x : Reading} → x ≡ none → Lays p t o x None o'
 unfolding lay_answer
 lays_none p t o o' e = record { tells = rw e; leaves = λ a f. absurd (no_shape e f) }
 
-lays_leaf : (p t : ℕ) (o : List ℕ) (c : Colour) {x : Reading} → x ≡ read (leaf c) → Lays p t o x (Done (p + 1) (symbol_of c) (t + 1)) o
+lays_leaf :
+    (p t : ℕ) (o : List ℕ) (c : Colour) {x : Reading} → x ≡ read (leaf c) →
+    Lays p t o x (Some (record { end = p + 1; symbol = symbol_of c; to = t + 1 })) o
 unfolding lay_answer merged leaf_symbol size laid
 lays_leaf p t o c {x} e = record { tells = rw e; leaves = λ a f. let g : a ≡ leaf c = cc in sym (ap (λ z. laid o t (merged z)) g) }
 
-pub unread_none : (p t : ℕ) (x : Reading) → Unread ≡ lay_answer p t x → x ≡ none
+pub unread_none : (p t : ℕ) (x : Reading) → None ≡ lay_answer p t x → x ≡ none
 unfolding lay_answer
 unread_none p t none w = refl
 unread_none p t (read a) w = let z : ◌≡◌ {A = ℕ} 0 1 = cc in absurd (omega arith)
 
-pub record Laying (p t q h d : ℕ) (x : Reading) : Type 0 where
+pub record Laying (p t : ℕ) (l : Laid) (x : Reading) : Type 0 where
   pub shape : Shape
   pub is : x ≡ read shape
-  pub after : q ≡ p + size shape
-  pub symbol : h ≡ leaf_symbol (merged shape)
-  pub end : d ≡ t + size (merged shape)
+  pub after : l.end ≡ p + size shape
+  pub symbol : l.symbol ≡ leaf_symbol (merged shape)
+  pub further : l.to ≡ t + size (merged shape)
 
-pub laying : (p t q h d : ℕ) (x : Reading) → Done q h d ≡ lay_answer p t x → Laying p t q h d x
+pub laying : (p t : ℕ) (l : Laid) (x : Reading) → Some l ≡ lay_answer p t x → Laying p t l x
 unfolding lay_answer
-laying p t q h d none w = let z : ◌≡◌ {A = ℕ} 0 1 = cc in absurd (omega arith)
-laying p t q h d (read a) w = record { shape = a; is = refl; after = (cc); symbol = (cc); end = (cc) }
+laying p t l none w = let z : ◌≡◌ {A = ℕ} 0 1 = cc in absurd (omega arith)
+laying p t l (read a) w =
+    let e : l ≡ record { end = p + size a; symbol = leaf_symbol (merged a); to = t + size (merged a) } = cc in
+    record {
+      shape = a;
+      is = refl;
+      after = ap (λ (z : Laid). z.end) e;
+      symbol = ap (λ (z : Laid). z.symbol) e;
+      further = ap (λ (z : Laid). z.to) e;
+    }
 
 -- an answer for a halved shape, from its fields
 lays_halved :
     (p t q h d : ℕ) (o o' : List ℕ) (a : Shape) {x : Reading} → x ≡ read a → q ≡ p + size a → h ≡ leaf_symbol (merged a) → d ≡ t + size (merged a) →
-    o' ≡ laid o t (merged a) → Lays p t o x (Done q h d) o'
+    o' ≡ laid o t (merged a) → Lays p t o x (Some (record { end = q; symbol = h; to = d })) o'
 unfolding lay_answer
 lays_halved p t q h d o o' a {x} e f g i j = record { tells = rw (e, f, g, i); leaves = λ b k. let m : a ≡ b = cc in j ∙ ap (λ z. laid o t (merged z)) m }
 
 -- ---- the laws of `lay`
 
 module _ (s : List ℕ) (n p t : ℕ) (o o' : List ℕ) where
-  pub lay_end : length s ≤ p → Lays p t o (read_at s n p) Unread o'
+  pub lay_end : length s ≤ p → Lays p t o (read_at s n p) None o'
   lay_end h = lays_none p t o o' (end_at s n p h)
 
-  pub lay_deep : get_or s p 0 ≡ open_symbol → n ≡ 0 → Lays p t o (read_at s n p) Unread o'
+  pub lay_deep : get_or s p 0 ≡ open_symbol → n ≡ 0 → Lays p t o (read_at s n p) None o'
   lay_deep e h = lays_none p t o o' (ap (λ m. read_at s m p) h ∙ deep_at s p e)
 
-  pub lay_other : (get_or s p 0 ≡ open_symbol → ⊥) → (get_or s p 0 ≡ symbol_of Black → ⊥) → (get_or s p 0 ≡ symbol_of White → ⊥) → Lays p t o (read_at s n p) Unread o'
+  pub lay_other : (get_or s p 0 ≡ open_symbol → ⊥) → (get_or s p 0 ≡ symbol_of Black → ⊥) → (get_or s p 0 ≡ symbol_of White → ⊥) → Lays p t o (read_at s n p) None o'
   lay_other h k l = lays_none p t o o' (other_at s n p h k l)
 
 module _ (s : List ℕ) (n p t : ℕ) (o : List ℕ) where
-  pub lay_black : get_or s p 0 ≡ symbol_of Black → Lays p t o (read_at s n p) (Done (p + 1) (symbol_of Black) (t + 1)) o
-  lay_black e = lays_leaf p t o Black (leaf_at s n p Black e)
-
-  pub lay_white : get_or s p 0 ≡ symbol_of White → Lays p t o (read_at s n p) (Done (p + 1) (symbol_of White) (t + 1)) o
-  lay_white e = lays_leaf p t o White (leaf_at s n p White e)
+  pub lay_leaf :
+      (x : ℕ) → get_or s p 0 ≡ x → (x ≡ symbol_of Black) ⊎ (x ≡ symbol_of White) →
+      Lays p t o (read_at s n p) (Some (record { end = p + 1; symbol = x; to = t + 1 })) o
+  lay_leaf x e h = let w = either_colour h in rw w.1 (lays_leaf p t o w.0 (leaf_at s n p w.0 (e ∙ w.1)))
 
   pub lay_low :
-      (o₁ : List ℕ) (r : Laid) → get_or s p 0 ≡ open_symbol → (n ≡ 0 → ⊥) → Lays (p + 1) (t + 1) o (read_at s (n - 1) (p + 1)) r o₁ → r ≡ Unread →
-      Lays p t o (read_at s n p) Unread o₁
-  lay_low o₁ r e h w g = lays_none p t o o₁ (low_missing s n p e h (unread_none (p + 1) (t + 1) (read_at s (n - 1) (p + 1)) (sym g ∙ w.tells)))
+      (o₁ : List ℕ) → get_or s p 0 ≡ open_symbol → (n ≡ 0 → ⊥) → Lays (p + 1) (t + 1) o (read_at s (n - 1) (p + 1)) None o₁ →
+      Lays p t o (read_at s n p) None o₁
+  lay_low o₁ e h w = lays_none p t o o₁ (low_missing s n p e h (unread_none (p + 1) (t + 1) (read_at s (n - 1) (p + 1)) w.tells))
 
-  module _ (o₁ : List ℕ) (r₁ : Laid) (q x d : ℕ) (w : Lays (p + 1) (t + 1) o (read_at s (n - 1) (p + 1)) r₁ o₁) (g : r₁ ≡ Done q x d) where
-    low_laid : Laying (p + 1) (t + 1) q x d (read_at s (n - 1) (p + 1))
-    low_laid = laying (p + 1) (t + 1) q x d (read_at s (n - 1) (p + 1)) (sym g ∙ w.tells)
+  module _ (o₁ : List ℕ) (low : Laid) (w : Lays (p + 1) (t + 1) o (read_at s (n - 1) (p + 1)) (Some low) o₁) where
+    low_laid : Laying (p + 1) (t + 1) low (read_at s (n - 1) (p + 1))
+    low_laid = laying (p + 1) (t + 1) low (read_at s (n - 1) (p + 1)) w.tells
 
     -- what is written or waits is no longer than what was read, and goes on
-    pub lay_shorter : t ≤ p → d ≤ q
-    lay_shorter h = let l = low_laid in omega (arith, l.after, l.end, merged_size l.shape)
+    pub lay_shorter : t ≤ p → low.to ≤ low.end
+    lay_shorter h = let l = low_laid in omega (arith, l.after, l.further, merged_size l.shape)
 
-    pub lay_further : t < d
-    lay_further = let l = low_laid in omega (arith, l.end)
+    at_high : read_at s (n - 1) (p + 1 + size low_laid.shape) ≡ read_at s (n - 1) low.end
+    at_high = ap (read_at s (n - 1)) (sym low_laid.after)
 
-    module _ (o₂ : List ℕ) (r₂ : Laid) (v : Lays q d o₁ (read_at s (n - 1) q) r₂ o₂) where
-      at_high : read_at s (n - 1) (p + 1 + size low_laid.shape) ≡ read_at s (n - 1) q
-      at_high = ap (read_at s (n - 1)) (sym low_laid.after)
+    module _ (e : get_or s p 0 ≡ open_symbol) (h : n ≡ 0 → ⊥) (o₂ : List ℕ) where
+      pub lay_high : Lays low.end low.to o₁ (read_at s (n - 1) low.end) None o₂ → Lays p t o (read_at s n p) None o₂
+      lay_high v =
+          lays_none p t o o₂
+          (high_missing s n p e h low_laid.shape low_laid.is (at_high ∙ unread_none low.end low.to (read_at s (n - 1) low.end) v.tells))
 
-      pub lay_high : get_or s p 0 ≡ open_symbol → (n ≡ 0 → ⊥) → r₂ ≡ Unread → Lays p t o (read_at s n p) Unread o₂
-      lay_high e h j =
-          lays_none p t o o₂ (high_missing s n p e h low_laid.shape low_laid.is (at_high ∙ unread_none q d (read_at s (n - 1) q) (sym j ∙ v.tells)))
-
-      module _ (q' y d' : ℕ) (j : r₂ ≡ Done q' y d') (e : get_or s p 0 ≡ open_symbol) (h : n ≡ 0 → ⊥) where
-        high_laid : Laying q d q' y d' (read_at s (n - 1) q)
-        high_laid = laying q d q' y d' (read_at s (n - 1) q) (sym j ∙ v.tells)
+      module _ (high : Laid) (v : Lays low.end low.to o₁ (read_at s (n - 1) low.end) (Some high) o₂) where
+        high_laid : Laying low.end low.to high (read_at s (n - 1) low.end)
+        high_laid = laying low.end low.to high (read_at s (n - 1) low.end) v.tells
 
         whole : read_at s n p ≡ read (halved low_laid.shape high_laid.shape)
         whole = both_read s n p e h low_laid.shape high_laid.shape low_laid.is (at_high ∙ high_laid.is)
 
-        whole_after : q' ≡ p + size (halved low_laid.shape high_laid.shape)
+        whole_after : high.end ≡ p + size (halved low_laid.shape high_laid.shape)
         unfolding size
         whole_after = omega (arith, low_laid.after, high_laid.after)
 
-        test : (f b : Bool) → f ≡ is_alike x y → f ≡ b → is_alike (leaf_symbol (merged low_laid.shape)) (leaf_symbol (merged high_laid.shape)) ≡ b
-        test f b i k = rw (← low_laid.symbol, ← high_laid.symbol) (sym i ∙ k)
+        test : (b : Bool) → is_alike low.symbol high.symbol ≡ b → is_alike (leaf_symbol (merged low_laid.shape)) (leaf_symbol (merged high_laid.shape)) ≡ b
+        test b k = rw (← low_laid.symbol, ← high_laid.symbol) k
 
-        pub lay_alike : (f : Bool) → f ≡ is_alike x y → f ≡ true → Lays p t o (read_at s n p) (Done q' x (t + 1)) o₂
+        pub lay_alike :
+            is_alike low.symbol high.symbol ≡ true →
+            Lays p t o (read_at s n p) (Some (record { end = high.end; symbol = low.symbol; to = t + 1 })) o₂
         unfolding size
-        lay_alike f i k =
+        lay_alike k =
             let a = low_laid.shape in
             let b = high_laid.shape in
-            let m = merged_same a b (test f true i k) in
-            lays_halved p t q' x (t + 1) o o₂ (halved a b) whole whole_after
+            let m = merged_same a b (test true k) in
+            lays_halved p t high.end low.symbol (t + 1) o o₂ (halved a b) whole whole_after
             (low_laid.symbol ∙ ap leaf_symbol (m.1 ∙ sym m.3))
             (ap (λ z. t + size z) (sym m.3))
             (v.leaves b high_laid.is
-            ∙ leaf_laid o₁ d m.0 m.2
+            ∙ leaf_laid o₁ low.to m.0 m.2
             ∙ w.leaves a low_laid.is
             ∙ leaf_laid o (t + 1) m.0 m.1
             ∙ sym (leaf_laid o t m.0 m.3))
 
-        pub lay_apart : (f : Bool) (o₃ : List ℕ) → f ≡ is_alike x y → f ≡ false → o₃ ≡ joined_halves o₂ t x d y → Lays p t o (read_at s n p) (Done q' 0 d') o₃
+        pub lay_apart :
+            (o₃ : List ℕ) → is_alike low.symbol high.symbol ≡ false → o₃ ≡ joined_halves o₂ t low.symbol low.to high.symbol →
+            Lays p t o (read_at s n p) (Some (record { end = high.end; symbol = 0; to = high.to })) o₃
         unfolding size leaf_symbol
-        lay_apart f o₃ i k j =
+        lay_apart o₃ k j =
             let a = low_laid.shape in
             let b = high_laid.shape in
-            let m = merged_apart a b (test f false i k) in
-            lays_halved p t q' 0 d' o o₃ (halved a b) whole whole_after
+            let m = merged_apart a b (test false k) in
+            lays_halved p t high.end 0 high.to o o₃ (halved a b) whole whole_after
             (sym (ap leaf_symbol m))
-            (omega (arith, low_laid.end, high_laid.end, ap size m))
-            (apart_laid o o₁ o₂ o₃ t d x y (merged a) (merged b) (w.leaves a low_laid.is) (v.leaves b high_laid.is) low_laid.end low_laid.symbol
-            high_laid.symbol j
+            (omega (arith, low_laid.further, high_laid.further, ap size m))
+            (apart_laid o o₁ o₂ o₃ t low.to low.symbol high.symbol (merged a) (merged b) (w.leaves a low_laid.is) (v.leaves b high_laid.is) low_laid.further
+            low_laid.symbol high_laid.symbol j
             ∙ ap (laid o t) (sym m))
-
--- a place within has a next one, and so has one that is not past it
-pub to_fits : (s : List ℕ) (p t : ℕ) → t ≤ p → p < length s → length s < 2 ^ 64 → t + 1 < 2 ^ 64
-to_fits s p t h k l = omega arith
-
-pub two_lengths : (o o₁ o₂ : List ℕ) → length o₁ ≡ length o → length o₂ ≡ length o₁ → length o₂ ≡ length o
-two_lengths o o₁ o₂ e f = f ∙ e
-
-pub ruleset lay_laws = (
-  rules,
-  lay_end,
-  lay_deep,
-  lay_other,
-  lay_black,
-  lay_white,
-  lay_low,
-  lay_shorter,
-  lay_further,
-  lay_high,
-  lay_alike,
-  lay_apart,
-  to_fits,
-  two_lengths,
-  three_lengths,
-)

@@ -3,6 +3,7 @@
 pub mod Shape
 pub mod Reading
 pub mod Answers
+pub mod Ends
 pub mod Parts
 pub mod Merging
 pub mod Counts

@@ -20,7 +20,7 @@ use Rattle.universe.specs.Universe.{levels}
 use Rattle.universe.specs.Voxel.{path_to}
 use Rattle.bintree.specs.declared.Colour.{Colour}
 use Rattle.bintree.specs.Shape.{Shape, leaf, halved, symbols, size, depth}
-use Rattle.bintree.specs.declared.Placed.{Placed}
+use Rattle.bintree.specs.Told.{PlacedAnswer}
 use Rattle.bintree.specs.Reading.{Reading, none, read, expression}
 use Rattle.bintree.specs.Answers.{of_shape}
 use Rattle.bintree.specs.Parts.{part, part_start, path_refusal, refused_place, done_place, part_refusal, place_answer, part_answer}
@@ -120,19 +120,6 @@ depth_part (halved a b) (suc n) (d ∷ path) h =
     (depth_choice (eqb d 0) (part a path) (part b path) (n - length path)
     (depth_part a n path (depth_low a b n h)) (depth_part b n path (depth_high a b n h)))
 
--- and no more halves of the path are followed than the shape is deep
-choice_same : {A : Type 0} (choice : Bool) {x x' y y' : A} → x ≡ x' → y ≡ y' → cond choice x y ≡ cond choice x' y'
-choice_same true e f = e
-choice_same false e f = f
-
-pub part_front : (s : Shape) (n : ℕ) (path : List ℕ) → depth s ≤ n → part s (take n path) ≡ part s path
-unfolding part depth
-part_front (leaf c) n path h = refl
-part_front (halved a b) zero path h = absurd (omega arith)
-part_front (halved a b) (suc n) [] h = refl
-part_front (halved a b) (suc n) (d ∷ path) h =
-    choice_same (eqb d 0) (part_front a n path (depth_low a b n h)) (part_front b n path (depth_high a b n h))
-
 -- so a path that is as long as the shape is deep leads to a leaf
 flat_leaf : (s : Shape) → depth s ≤ 0 → (c : Colour) × (s ≡ leaf c)
 flat_leaf (leaf c) h = (c, refl)
@@ -191,10 +178,10 @@ module _ (u : Universe) (s path : List ℕ) where
   unfolding place_answer
   placed_none e f = rw (eq-eqb (part_refusal u s path) 0 e, f)
 
-  pub placed_number : (r : Placed) → r ≡ place_answer u s path → r.refusal ≡ part_refusal u s path
+  pub placed_number : (r : PlacedAnswer) → r ≡ place_answer u s path → r.refusal ≡ part_refusal u s path
   unfolding place_answer
   placed_number r e =
-      ap (λ (z : Placed). z.refusal) e ∙ number_of refused_place _ (part_refusal u s path) (λ z. z.refusal) (λ m. refl) (go (expression u s))
+      ap (λ (z : PlacedAnswer). z.refusal) e ∙ number_of refused_place _ (part_refusal u s path) (λ z. z.refusal) (λ m. refl) (go (expression u s))
     where
       go : (x : Reading) → (of_shape x (done_place 0 0) (λ a. done_place (part_start a path) (size (part a path)))).refusal ≡ 0
       go none = refl

@@ -1,5 +1,6 @@
 -- Reading and writing expressions are each other's inverse. `Stands s n p a`: the symbols of a, which is at most n levels deep, stand in s from
 -- place p on. It is what `read_at` finds, both ways round; the rest is by induction over it.
+use mathlib.Core.Logic.{◌⊎◌, inl, inr}
 use mathlib.Core.Path.{◌≡◌, refl, sym, ap, ◌∙◌}
 use mathlib.Core.Bool.{Bool, true, false, cond}
 use mathlib.Core.List.{List, [], ◌∷◌, ◌++◌, append_assoc, append-nil}
@@ -28,6 +29,15 @@ leaf_read White = refl
 pub other_leaf : (x : ℕ) → (x ≡ symbol_of Black → ⊥) → (x ≡ symbol_of White → ⊥) → read_leaf x ≡ none
 unfolding read_leaf
 other_leaf x h k = rw (ne_eqb x (symbol_of Black) h, ne_eqb x (symbol_of White) k)
+
+-- a symbol of either colour
+pub either_colour : {x : ℕ} → (x ≡ symbol_of Black) ⊎ (x ≡ symbol_of White) → (c : Colour) × (x ≡ symbol_of c)
+either_colour (inl e) = (Black, e)
+either_colour (inr e) = (White, e)
+
+pub white_else : {x : ℕ} → (x ≡ symbol_of Black) ⊎ (x ≡ symbol_of White) → (x ≡ symbol_of Black → ⊥) → x ≡ symbol_of White
+white_else (inl e) n = absurd (n e)
+white_else (inr e) n = e
 
 module _ (s : List ℕ) where
   pub open_suc : (n p : ℕ) → get_or s p 0 ≡ open_symbol → read_at s (suc n) p ≡ read_halves (read_at s n (suc p)) (λ a. read_at s n (suc p + size a))

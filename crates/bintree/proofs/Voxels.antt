@@ -6,15 +6,14 @@ use mathlib.Core.List.{List, [], ◌∷◌}
 use Prim.Native.Nat.{ℕ, zero, suc, ◌+◌, ◌-◌, ◌*◌, ◌/◌, ◌%◌, ◌^◌, ◌≤◌, ◌<◌}
 use native.Mathlib.Nat.{div-one, div-div-eq-div-mul, mul_comm}
 use native.Mathlib.Decide.{ℕ_discrete}
-use native.Mathlib.Numerals.{add-one}
 use native.Mathlib.Omega.{arith}
 use borrow.Author.Rules.{rules}
-use borrow.Author.Tests.{eq-eqb, ne_eqb, lt-ltb, le-ltb}
+use borrow.Author.Tests.{lt-ltb, le-ltb}
 use lib.Dec.{eqb, ltb}
 use lib.ListN.{length, get_or, set, take, drop, length-set}
 use lib.Seq.{drop-cons, get_or-drop, get_or-set_same, get_or-set_other}
-use Rattle.lemmas.specs.Sums.{every}
-use Rattle.lemmas.proofs.Sums.{and_both, one_not_every}
+use Rattle.lemmas.proofs.Sums.{one_not_every, all_every}
+use Rattle.std.specs.Prelude.{Option, Some, None}
 use Rattle.universe.specs.declared.Universe.{Universe}
 use Rattle.universe.specs.Questions.{levels_answer, side_answer, axes_left}
 use Rattle.universe.specs.Refusals.{bad_expression, outside}
@@ -24,17 +23,16 @@ use Rattle.universe.proofs.Questions.{levels_told, side_is, axes_left_at, axes_l
 use Rattle.universe.proofs.Universes.{accepted, levels_few, some_axes, side_last, side_halved, side_kept}
 use Rattle.bintree.specs.declared.Colour.{Colour}
 use Rattle.bintree.specs.declared.Colour.TheVariants.{White, Black}
-use Rattle.bintree.specs.declared.Coloured.{Coloured}
+use Rattle.bintree.specs.Told.{ColouredAnswer}
 use Rattle.bintree.specs.declared.place.Traced.{Traced}
-use Rattle.bintree.specs.declared.place.Traced.TheVariants.{Led, Lost}
 use Rattle.bintree.specs.Shape.{Shape, leaf, symbol_of, symbols, size}
 use Rattle.bintree.specs.Reading.{none, read, read_at, expression}
 use Rattle.bintree.specs.Answers.{unless_refused}
 use Rattle.bintree.specs.Parts.{part, part_start, colour_of, colour_at, refused_colour, done_colour, colour_answer}
-use Rattle.bintree.specs.Walks.{symbol_colour, traced, voxel_answer}
+use Rattle.bintree.specs.Walks.{symbol_colour, traced}
 use Rattle.bintree.proofs.Answers.{is_refused, is_done, answer_universe, answer_none, answer_last}
-use Rattle.bintree.proofs.Answers.{universe_accepted, asked_levels, levels_most, place_fits, place_room}
-use Rattle.bintree.proofs.Parts.{part_front, part_within, part_symbols, voxel_leaf}
+use Rattle.bintree.proofs.Answers.{asked_levels, levels_most, place_fits, place_room}
+use Rattle.bintree.proofs.Parts.{part_within, part_symbols, voxel_leaf}
 use Rattle.bintree.proofs.Places.{Followed, followed, lost_none}
 use Rattle.bintree.proofs.Shape.{size_positive}
 use Rattle.bintree.proofs.Reading.{expression_none, expression_rest, expression_read, read_is}
@@ -53,41 +51,15 @@ module _ (u : Universe) (i x : ℕ) where
 
 pub ruleset inside_laws = (rules, place_inside, place_above)
 
--- the axes before i are inside
-pub record Inside (u : Universe) (v : List ℕ) (i : ℕ) : Type 0 where
-  pub few : i ≤ most_axes
-  pub before : every i (inside_along u v) ≡ true
-
+-- the laws of `check_voxel`
 module _ (u : Universe) (v : List ℕ) where
-  pub inside_first : Inside u v 0
-  unfolding every
-  inside_first = record { few = omega arith; before = refl }
-
-  pub inside_next : (i : ℕ) (f : Bool) → Inside u v i → i < most_axes → f ≡ inside_along u v i → f ≡ true → Inside u v (i + 1)
-  unfolding every
-  inside_next i f w h e g = rw (add-one i) (record { few = omega arith; before = and_both w.before (sym e ∙ g) })
-
-  pub outside_here : (i : ℕ) (f : Bool) → i < most_axes → f ≡ inside_along u v i → f ≡ false → outside ≡ voxel_refusal u v
+  pub outside_here : (i : ℕ) → i < most_axes → inside_along u v i ≡ false → outside ≡ voxel_refusal u v
   unfolding voxel_refusal
-  outside_here i f h e g = rw (one_not_every most_axes (inside_along u v) i h (sym e ∙ g))
+  outside_here i h e = rw (one_not_every most_axes (inside_along u v) i h e)
 
-  pub inside_all : (i : ℕ) → Inside u v i → most_axes ≤ i → 0 ≡ voxel_refusal u v
+  pub inside_all : ((i : ℕ) → i < most_axes → inside_along u v i ≡ true) → 0 ≡ voxel_refusal u v
   unfolding voxel_refusal
-  inside_all i w h = let e : i ≡ most_axes = omega (arith, w.few) in rw (rw e at w.before)
-
-pub ruleset voxel_refusal_laws = (rules, inside_first, inside_next, outside_here, inside_all)
-
--- the laws of `voxel_answer`
-module _ (u : Universe) (v : List ℕ) (c : Colour) (nine : ℕ) (e : nine ≡ voxel_refusal u v) (answer : Coloured) where
-  pub voxel_outside : (nine ≡ 0 → ⊥) → answer ≡ refused_colour nine → answer ≡ voxel_answer u v c
-  unfolding voxel_answer
-  voxel_outside n f = f ∙ rw (← e) (is_refused refused_colour (done_colour c) nine n)
-
-  pub voxel_inside : nine ≡ 0 → answer ≡ done_colour c → answer ≡ voxel_answer u v c
-  unfolding voxel_answer
-  voxel_inside z f = f ∙ rw (← e) (is_done refused_colour (done_colour c) nine z)
-
-pub ruleset voxel_laws = (rules, voxel_outside, voxel_inside)
+  inside_all h = rw (all_every most_axes (inside_along u v) h)
 
 -- ---- the path to a voxel, from the last level on: with n levels to go, `rest` has the voxel's place along each axis in blocks of that level
 pub record Leading (u : Universe) (v path rest : List ℕ) (n : ℕ) : Type 0 where
@@ -149,10 +121,7 @@ module _ (u : Universe) (v : List ℕ) (ok : universe_refusal u ≡ 0) where
       pub axis_room : get_or axes n 0 * 8 < 2 ^ 64
       axis_room = omega (arith, axis_fits)
 
-      pub level_there : n + 1 ≤ count
-      level_there = omega arith
-
-      pub level_fits : count - (n + 1) < most_levels
+      pub level_fits : count - 1 - n < most_levels
       level_fits = omega (arith, its_levels, levels_few u (accepted u ok))
 
       next : levels u - n ≡ suc level
@@ -178,12 +147,12 @@ module _ (u : Universe) (v : List ℕ) (ok : universe_refusal u ≡ 0) where
 
       further :
           (half : ℕ) → half ≡ get_or rest (get_or axes n 0) 0 % 2 →
-          Leading u v (set path (count - (n + 1)) half) (set rest (get_or axes n 0) (get_or rest (get_or axes n 0) 0 / 2)) (n + 1)
+          Leading u v (set path (count - 1 - n) half) (set rest (get_or axes n 0) (get_or rest (get_or axes n 0) 0 / 2)) (n + 1)
       unfolding level
       further half f =
           record {
             few = omega (arith, below);
-            long = length-set path (count - (n + 1)) half ∙ w.long;
+            long = length-set path (count - 1 - n) half ∙ w.long;
             wide = length-set rest (get_or axes n 0) _ ∙ w.wide;
             reached = λ i k. rw q (rest_next i k);
             leads = λ j i k. at j i k (ℕ_discrete j level);
@@ -192,15 +161,15 @@ module _ (u : Universe) (v : List ℕ) (ok : universe_refusal u ≡ 0) where
           q : levels u - (n + 1) ≡ level
           q = omega arith
 
-          place : count - (n + 1) ≡ level
-          place = rw its_levels q
+          place : count - 1 - n ≡ level
+          place = omega (arith, its_levels)
 
           at :
               (j : ℕ) → levels u - (n + 1) ≤ j → j < levels u → Dec (j ≡ level) →
-              get_or (set path (count - (n + 1)) half) j 0 ≡ half_at u j (place_along v (axis_at u j))
+              get_or (set path (count - 1 - n) half) j 0 ≡ half_at u j (place_along v (axis_at u j))
           at j i k (yes e) = rw (e, place) (get_or-set_same path level half 0 (omega (arith, level_fits, place, w.long)) ∙ f ∙ half_is)
           at j i k (no e) =
-              get_or-set_other path (count - (n + 1)) j half 0 (λ g. e (g ∙ place))
+              get_or-set_other path (count - 1 - n) j half 0 (λ g. e (g ∙ place))
               ∙ w.leads j (omega (arith, next, q)) k
 
     pub path_whole : count ≤ n → take (levels u) path ≡ path_to u v
@@ -213,10 +182,10 @@ leading_first axes v path count e f = record { of = λ u ok a c. first u v ok pa
 
 pub leading_next :
     (axes v path rest : List ℕ) (n count half : ℕ) → Leads axes count v path rest n → n < count → half ≡ get_or rest (get_or axes n 0) 0 % 2 →
-    Leads axes count v (set path (count - (n + 1)) half) (set rest (get_or axes n 0) (get_or rest (get_or axes n 0) 0 / 2)) (n + 1)
+    Leads axes count v (set path (count - 1 - n) half) (set rest (get_or axes n 0) (get_or rest (get_or axes n 0) 0 / 2)) (n + 1)
 leading_next axes v path rest n count half w h f = record { of = λ u ok a c. further u v ok path rest axes n count a c w h half f }
 
-pub ruleset leading_laws = (rules, place_fits, place_room, leading_first, axis_fits, axis_room, level_there, level_fits, leading_next, path_whole)
+pub ruleset leading_laws = (rules, place_fits, place_room, leading_first, axis_fits, axis_room, level_fits, leading_next, path_whole)
 
 -- ---- the symbol of a part that is a leaf, and its colour
 first_of : (l : List ℕ) → get_or (take 1 l) 0 0 ≡ get_or l 0 0
@@ -237,41 +206,31 @@ colour_again : (c : Colour) → symbol_colour (symbol_of c) ≡ c
 colour_again Black = refl
 colour_again White = refl
 
--- the laws of `colour_of`
-pub colour_black : (x : ℕ) → x ≡ symbol_of Black → Black ≡ symbol_colour x
-colour_black x e = rw (eq-eqb x (symbol_of Black) e)
-
-pub colour_white : (x : ℕ) → (x ≡ symbol_of Black → ⊥) → White ≡ symbol_colour x
-colour_white x n = rw (ne_eqb x (symbol_of Black) n)
-
-pub ruleset symbol_laws = (rules, colour_black, colour_white)
-
 -- ---- the laws of `colour_at`: `number` is the universe's own check, `count` its levels, and the voxel's path is followed from the first symbol on
 module _ (u : Universe) (v s : List ℕ) (number : ℕ) (e : number ≡ universe_refusal u) where
-  module _ (answer : Coloured) where
-    pub colour_refused : (number ≡ 0 → ⊥) → answer ≡ refused_colour number → answer ≡ colour_answer u s v
-    unfolding colour_answer
-    colour_refused = answer_universe u number e s (voxel_refusal u v ∷ []) refused_colour _ answer
+  pub colour_refused : (number ≡ 0 → ⊥) → refused_colour number ≡ colour_answer u s v
+  unfolding colour_answer
+  colour_refused n = answer_universe u number e s (voxel_refusal u v ∷ []) refused_colour _ _ n refl
 
-    seven : number ≡ 0 → expression u s ≡ none → answer ≡ refused_colour bad_expression → answer ≡ colour_answer u s v
-    unfolding colour_answer
-    seven = answer_none u number e s (voxel_refusal u v ∷ []) refused_colour _ answer
+  seven : number ≡ 0 → expression u s ≡ none → refused_colour bad_expression ≡ colour_answer u s v
+  unfolding colour_answer
+  seven z x = answer_none u number e s (voxel_refusal u v ∷ []) refused_colour _ _ z x refl
 
-  module _ (count : ℕ) (path : List ℕ) (r : Traced) (z : number ≡ 0) (c : count ≡ levels_answer u) (f : r ≡ traced 0 (read_at s count 0) path) where
-    all_traced : r ≡ traced 0 (read_at s (levels u) 0) path
-    all_traced = f ∙ ap (λ n. traced 0 (read_at s n 0) path) (asked_levels u number e count z c)
+  module _ (z : number ≡ 0) (count : ℕ) (c : count ≡ levels_answer u) (path : List ℕ) where
+    all_traced : {r : Option Traced} → r ≡ traced 0 (read_at s count 0) path → r ≡ traced 0 (read_at s (levels u) 0) path
+    all_traced f = f ∙ ap (λ n. traced 0 (read_at s n 0) path) (asked_levels u number e count z c)
 
-    pub colour_lost : (answer : Coloured) → r ≡ Lost → answer ≡ refused_colour bad_expression → answer ≡ colour_answer u s v
-    colour_lost answer g = seven answer z (expression_none u s (lost_none 0 path (read_at s (levels u) 0) (sym g ∙ all_traced)))
+    pub colour_lost : None ≡ traced 0 (read_at s count 0) path → refused_colour bad_expression ≡ colour_answer u s v
+    colour_lost f = seven z (expression_none u s (lost_none 0 path (read_at s (levels u) 0) (all_traced f)))
 
-    module _ (q k m : ℕ) (g : r ≡ Led q k m) where
-      found : Followed 0 q k m path (read_at s (levels u) 0)
-      found = followed 0 q k m path (read_at s (levels u) 0) (sym g ∙ all_traced)
+    module _ (t : Traced) (f : Some t ≡ traced 0 (read_at s count 0) path) where
+      found : Followed 0 t path (read_at s (levels u) 0)
+      found = followed 0 t path (read_at s (levels u) 0) (all_traced f)
 
-      pub colour_rest : (answer : Coloured) → (q ≡ length s → ⊥) → answer ≡ refused_colour bad_expression → answer ≡ colour_answer u s v
-      colour_rest answer n = let w = found in seven answer z (expression_rest u s w.shape w.is (λ k. n (omega (arith, w.after))))
+      pub colour_rest : (t.end ≡ length s → ⊥) → refused_colour bad_expression ≡ colour_answer u s v
+      colour_rest n = let w = found in seven z (expression_rest u s w.shape w.is (λ k. n (omega (arith, w.after))))
 
-      module _ (all : q ≡ length s) where
+      module _ (all : t.end ≡ length s) where
         a : Shape
         a = found.shape
 
@@ -279,32 +238,34 @@ module _ (u : Universe) (v s : List ℕ) (number : ℕ) (e : number ≡ universe
         unfolding a
         is_read = let w = found in expression_read u s w.shape w.is (omega (arith, w.after))
 
-        pub colour_place : k < length s
+        pub colour_place : t.start < length s
         unfolding a
         colour_place = let w = found in omega (arith, w.starts, w.after, part_within w.shape path, size_positive (part w.shape path))
 
-        module _ (way : take (levels u) path ≡ path_to u v) where
-          same_part : part a path ≡ part a (path_to u v)
-          same_part = sym (part_front a (levels u) path (read_is u s a is_read).1) ∙ ap (part a) way
-
-          its_colour : symbol_colour (get_or s k 0) ≡ colour_at u a v
+        module _ (way : path ≡ path_to u v) (nine : ℕ) (i : nine ≡ voxel_refusal u v) where
+          its_colour : symbol_colour (get_or s t.start 0) ≡ colour_at u a v
           unfolding colour_at a
           its_colour = go (voxel_leaf u a v (read_is u s a is_read).1)
             where
-              go : (d : Colour) × (part a (path_to u v) ≡ leaf d) → symbol_colour (get_or s k 0) ≡ colour_of (part a (path_to u v))
+              go : (d : Colour) × (part a (path_to u v) ≡ leaf d) → symbol_colour (get_or s t.start 0) ≡ colour_of (part a (path_to u v))
               go (d, l) =
-                  let starts : k ≡ part_start a path = omega (arith, found.starts) in
-                  let there : get_or s k 0 ≡ symbol_of d =
+                  let starts : t.start ≡ part_start a path = omega (arith, found.starts) in
+                  let there : get_or s t.start 0 ≡ symbol_of d =
                   ap (λ i. get_or s i 0) starts
                   ∙ ap (λ (t : List ℕ). get_or t (part_start a path) 0) (sym (read_is u s a is_read).0)
-                  ∙ leaf_symbol_lem a path d (same_part ∙ l) in
+                  ∙ leaf_symbol_lem a path d (ap (part a) way ∙ l) in
                   rw (there, l) (colour_again d)
 
-          pub colour_found :
-              (colour : Colour) (answer : Coloured) → colour ≡ symbol_colour (get_or s k 0) → answer ≡ voxel_answer u v colour → answer ≡ colour_answer u s v
-          unfolding voxel_answer colour_answer
-          colour_found colour answer h i =
+          by_voxel :
+              (colour : Colour) {answer : ColouredAnswer} → colour ≡ symbol_colour (get_or s t.start 0) →
+              answer ≡ unless_refused nine refused_colour (done_colour colour) → answer ≡ colour_answer u s v
+          unfolding colour_answer
+          by_voxel colour {answer} h j =
               answer_last u number e refused_colour _ answer s (voxel_refusal u v) a z is_read
-              (i ∙ rw is_read (ap (λ d. unless_refused (voxel_refusal u v) refused_colour (done_colour d)) (h ∙ its_colour)))
+              (j ∙ rw (is_read, i) (ap (λ d. unless_refused (voxel_refusal u v) refused_colour (done_colour d)) (h ∙ its_colour)))
 
-pub ruleset colour_laws = (rules, levels_most, universe_accepted, colour_refused, colour_lost, colour_rest, colour_place, colour_found)
+          pub colour_outside : (nine ≡ 0 → ⊥) → refused_colour nine ≡ colour_answer u s v
+          colour_outside n = by_voxel _ refl (is_refused refused_colour _ nine n)
+
+          pub colour_found : nine ≡ 0 → (colour : Colour) → colour ≡ symbol_colour (get_or s t.start 0) → done_colour colour ≡ colour_answer u s v
+          colour_found y colour h = by_voxel colour h (is_done refused_colour (done_colour colour) nine y)

@@ -1,6 +1,7 @@
 -- What `walk`, `well_formed` and `tree_end` answer. `rest_walked` is what the tree at hand and the high halves owed tell, one behind the other; the loop of
 -- `walk` keeps it as it is, symbol by symbol: `(` puts two halves in place of a tree, a leaf is left behind. Each law takes its premises in the form that code
 -- leaves them, so that the proofs of the functions are a search for the law.
+use mathlib.Core.Logic.{◌⊎◌, inl, inr}
 use mathlib.Core.Path.{◌≡◌, refl, sym, ap, ◌∙◌}
 use mathlib.Core.List.{List, [], ◌∷◌}
 use Prim.Native.Nat.{ℕ, suc, ◌+◌, ◌-◌, ◌*◌, ◌%◌, ◌^◌, ◌≤◌, ◌<◌}
@@ -11,28 +12,27 @@ use borrow.Author.Tests.{eq-eqb, ne_eqb}
 use lib.Count.{count_trailing_zeros}
 use lib.ListN.{length, get_or}
 use lib.Pow.{pow_mono}
+use Rattle.std.specs.Prelude.{Option, Some, None}
 use Rattle.lemmas.proofs.Machine.{shifted_one}
 use Rattle.universe.specs.declared.Universe.{Universe}
 use Rattle.universe.specs.Refusals.{bad_expression}
 use Rattle.universe.specs.Universe.{levels, most_levels, universe_refusal}
 use Rattle.universe.specs.Questions.{levels_answer, voxels_left}
 use Rattle.universe.proofs.Questions.{voxels_are}
+use Rattle.universe.proofs.Telling.{number-not_zero}
 use Rattle.bintree.specs.declared.Colour.{Colour}
 use Rattle.bintree.specs.declared.Colour.TheVariants.{White, Black}
-use Rattle.bintree.specs.declared.walk.Walked.{Walked}
-use Rattle.bintree.specs.declared.walk.Walked.TheVariants.{Past, Nowhere}
 use Rattle.bintree.specs.Shape.{Shape, leaf, halved, open_symbol, symbol_of, size}
 use Rattle.bintree.specs.Reading.{Reading, none, read, read_at}
 use Rattle.bintree.specs.Answers.{of_shape, well_formed_refusal}
 use Rattle.bintree.specs.Walks.{walked, tree_end}
-use Rattle.bintree.proofs.Shape.{size_positive}
 use Rattle.bintree.proofs.Answers.{asked_levels, levels_most, checks_universe, checks_none, checks_read}
 use Rattle.bintree.proofs.Owed.{mask, Rising, end, rising_under, rising_lower, mask_none, mask_more, mask_zero, bit_under, Due, due}
 use Rattle.bintree.proofs.Reading.{leaf_at, other_at, end_at, deep_at, no_low, no_high, both_parts}
 use Rattle.bintree.proofs.Reading.{expression_none, expression_read, expression_rest}
 
 -- what is read from an answer
-pub nowhere_none : (p : ℕ) (x : Reading) → Nowhere ≡ walked p x → x ≡ none
+pub nowhere_none : (p : ℕ) (x : Reading) → None ≡ walked p x → x ≡ none
 unfolding walked
 nowhere_none p none w = refl
 nowhere_none p (read a) w = let z : ◌≡◌ {A = ℕ} 0 1 = cc in absurd (omega arith)
@@ -42,19 +42,19 @@ pub record Passed (p q : ℕ) (x : Reading) : Type 0 where
   pub is : x ≡ read shape
   pub after : q ≡ p + size shape
 
-pub passed : (p q : ℕ) (x : Reading) → Past q ≡ walked p x → Passed p q x
+pub passed : (p q : ℕ) (x : Reading) → Some q ≡ walked p x → Passed p q x
 unfolding walked
 passed p q none w = let z : ◌≡◌ {A = ℕ} 0 1 = cc in absurd (omega arith)
 passed p q (read a) w = record { shape = a; is = refl; after = (cc) }
 
 -- a tree, and what comes behind it
-unfoldable pub onward : Reading → ℕ → (ℕ → Walked) → Walked
-onward none p rest = Nowhere
+unfoldable pub onward : Reading → ℕ → (ℕ → Option ℕ) → Option ℕ
+onward none p rest = None
 onward (read a) p rest = rest (p + size a)
 
 -- trees one behind the other from place p on, by the levels left to each: the place after the last
-unfoldable pub rest_walked : List ℕ → List ℕ → ℕ → Walked
-rest_walked s [] p = Past p
+unfoldable pub rest_walked : List ℕ → List ℕ → ℕ → Option ℕ
+rest_walked s [] p = Some p
 rest_walked s (l ∷ ls) p = onward (read_at s l p) p (λ q. rest_walked s ls q)
 
 module _ (s : List ℕ) where
@@ -62,12 +62,12 @@ module _ (s : List ℕ) where
   unfolding rest_walked onward walked
   rest_one p l = go (read_at s l p)
     where
-      go : (x : Reading) → onward x p (λ q. Past q) ≡ walked p x
+      go : (x : Reading) → onward x p (λ q. Some q) ≡ walked p x
       go none = refl
       go (read a) = refl
 
   module _ (ls : List ℕ) (p l : ℕ) where
-    rest_none : read_at s l p ≡ none → rest_walked s (l ∷ ls) p ≡ Nowhere
+    rest_none : read_at s l p ≡ none → rest_walked s (l ∷ ls) p ≡ None
     unfolding rest_walked onward
     rest_none e = rw e
 
@@ -101,7 +101,7 @@ module _ (s : List ℕ) where
         low (read a) f = high a f (read_at s l (suc p + size a)) refl
 
 -- where the loop of `walk` stands: a tree with l levels left begins at p, and behind it come the high halves owed; they tell what is asked
-pub record Walking (s : List ℕ) (asked : Walked) (p l owed : ℕ) : Type 0 where
+pub record Walking (s : List ℕ) (asked : Option ℕ) (p l owed : ℕ) : Type 0 where
   pub halves : List ℕ
   pub owes : owed ≡ mask halves
   pub rising : Rising l halves
@@ -109,7 +109,7 @@ pub record Walking (s : List ℕ) (asked : Walked) (p l owed : ℕ) : Type 0 whe
   pub tells : rest_walked s (l ∷ halves) p ≡ asked
 
 -- and behind a leaf: only the high halves owed are to come
-pub record Closed (s : List ℕ) (asked : Walked) (p owed : ℕ) : Type 0 where
+pub record Closed (s : List ℕ) (asked : Option ℕ) (p owed : ℕ) : Type 0 where
   pub halves : List ℕ
   pub owes : owed ≡ mask halves
   pub rising : Rising 0 halves
@@ -120,21 +120,21 @@ pub walking_first : (s : List ℕ) (p l : ℕ) → l ≤ most_levels → Walking
 walking_first s p l h =
     record { halves = []; owes = sym mask_none; rising = end; fits = omega (arith, pow_mono h); tells = rest_one s p l }
 
-module _ {s : List ℕ} {asked : Walked} {p l owed : ℕ} (g : Walking s asked p l owed) where
+module _ {s : List ℕ} {asked : Option ℕ} {p l owed : ℕ} (g : Walking s asked p l owed) where
   pub walking_few : l ≤ most_levels
   walking_few = bit_under (omega (arith, g.fits))
 
   -- nowhere: past the end, `(` with no level left, no symbol
-  nowhere : read_at s l p ≡ none → Nowhere ≡ asked
+  nowhere : read_at s l p ≡ none → None ≡ asked
   nowhere e = sym (rest_none s g.halves p l e) ∙ g.tells
 
-  pub walk_end : length s ≤ p → Nowhere ≡ asked
+  pub walk_end : length s ≤ p → None ≡ asked
   walk_end h = nowhere (end_at s l p h)
 
-  pub walk_deep : get_or s p 0 ≡ open_symbol → l ≡ 0 → Nowhere ≡ asked
+  pub walk_deep : get_or s p 0 ≡ open_symbol → l ≡ 0 → None ≡ asked
   walk_deep e h = nowhere (ap (λ m. read_at s m p) h ∙ deep_at s p e)
 
-  pub walk_other : (get_or s p 0 ≡ open_symbol → ⊥) → (get_or s p 0 ≡ symbol_of Black → ⊥) → (get_or s p 0 ≡ symbol_of White → ⊥) → Nowhere ≡ asked
+  pub walk_other : (get_or s p 0 ≡ open_symbol → ⊥) → (get_or s p 0 ≡ symbol_of Black → ⊥) → (get_or s p 0 ≡ symbol_of White → ⊥) → None ≡ asked
   walk_other h k i = nowhere (other_at s l p h k i)
 
   -- `(`: the low half is next, and the high half is owed
@@ -164,10 +164,9 @@ module _ {s : List ℕ} {asked : Walked} {p l owed : ℕ} (g : Walking s asked p
           tells = rw q (sym (rest_open s g.halves p (l - 1) e) ∙ ap (λ n. rest_walked s (n ∷ g.halves) p) (sym d) ∙ g.tells);
         }
 
-  -- a leaf is left behind
-  pub walk_leaf : (c : Colour) → get_or s p 0 ≡ symbol_of c → Closed s asked (p + 1) owed
+  leaf_behind : (c : Colour) → get_or s p 0 ≡ symbol_of c → Closed s asked (p + 1) owed
   unfolding size
-  walk_leaf c e =
+  leaf_behind c e =
       record {
         halves = g.halves;
         owes = g.owes;
@@ -176,8 +175,13 @@ module _ {s : List ℕ} {asked : Walked} {p l owed : ℕ} (g : Walking s asked p
         tells = sym (rest_read s g.halves p l (leaf c) (leaf_at s l p c e)) ∙ g.tells;
       }
 
-module _ {s : List ℕ} {asked : Walked} {p owed : ℕ} (g : Closed s asked p owed) where
-  pub walk_past : owed ≡ 0 → Past p ≡ asked
+  -- a leaf of either colour is left behind
+  pub walk_leaf : (get_or s p 0 ≡ symbol_of Black) ⊎ (get_or s p 0 ≡ symbol_of White) → Closed s asked (p + 1) owed
+  walk_leaf (inl e) = leaf_behind Black e
+  walk_leaf (inr e) = leaf_behind White e
+
+module _ {s : List ℕ} {asked : Option ℕ} {p owed : ℕ} (g : Closed s asked p owed) where
+  pub walk_past : owed ≡ 0 → Some p ≡ asked
   unfolding rest_walked
   walk_past z = ap (λ ls. rest_walked s ls p) (sym (mask_zero g.halves (sym g.owes ∙ z))) ∙ g.tells
 
@@ -220,21 +224,19 @@ voxels_shifted n h = shifted_one n (few_shift n h) ∙ sym (voxels_are n h)
 
 pub ruleset voxels_laws = (rules, few_shift, voxels_shifted)
 
-pub ruleset walk_laws = (rules, walking_first, walking_few, walk_below, walk_end, walk_deep, walk_other, walk_owes, walk_open)
-
 -- the laws of `well_formed`: `number` is the universe's own check, `count` its levels, and the walk begins at the first symbol
 module _ (u : Universe) (s : List ℕ) (number : ℕ) (e : number ≡ universe_refusal u) where
   pub formed_universe : (number ≡ 0 → ⊥) → number ≡ well_formed_refusal u s
   formed_universe n = sym (checks_universe u number e s n)
 
-  module _ (count : ℕ) (r : Walked) (z : number ≡ 0) (c : count ≡ levels_answer u) (f : r ≡ walked 0 (read_at s count 0)) where
+  module _ (count : ℕ) (r : Option ℕ) (z : number ≡ 0) (c : count ≡ levels_answer u) (f : r ≡ walked 0 (read_at s count 0)) where
     all_walked : r ≡ walked 0 (read_at s (levels u) 0)
     all_walked = f ∙ ap (λ n. walked 0 (read_at s n 0)) (asked_levels u number e count z c)
 
-    pub formed_nowhere : r ≡ Nowhere → bad_expression ≡ well_formed_refusal u s
+    pub formed_nowhere : r ≡ None → bad_expression ≡ well_formed_refusal u s
     formed_nowhere g = sym (checks_none u number e s z (expression_none u s (nowhere_none 0 (read_at s (levels u) 0) (sym g ∙ all_walked))))
 
-    module _ (q : ℕ) (g : r ≡ Past q) where
+    module _ (q : ℕ) (g : r ≡ Some q) where
       all_passed : Passed 0 q (read_at s (levels u) 0)
       all_passed = passed 0 q (read_at s (levels u) 0) (sym g ∙ all_walked)
 
@@ -244,46 +246,38 @@ module _ (u : Universe) (s : List ℕ) (number : ℕ) (e : number ≡ universe_r
       pub formed_whole : q ≡ length s → 0 ≡ well_formed_refusal u s
       formed_whole k = let w = all_passed in sym (checks_read u number e s w.shape z (expression_read u s w.shape w.is (omega (arith, w.after))))
 
-pub ruleset formed_laws = (rules, levels_most, formed_universe, formed_nowhere, formed_rest, formed_whole)
+pub ruleset formed_laws = (rules, levels_most, number-not_zero, formed_universe, formed_nowhere, formed_rest, formed_whole)
 
 -- what is read from a tree's end
-module _ (u : Universe) (ok : universe_refusal u ≡ 0) (s : List ℕ) (p end : ℕ) (e : end ≡ tree_end u s p) where
-  end_is : end ≡ of_shape (read_at s (levels u) p) 0 (λ a. p + size a)
-  unfolding tree_end
-  end_is = e ∙ rw (eq-eqb (universe_refusal u) 0 ok)
-
-  pub end_none : end ≡ 0 → read_at s (levels u) p ≡ none
-  end_none z = go (read_at s (levels u) p) refl
+module _ (u : Universe) (ok : universe_refusal u ≡ 0) (s : List ℕ) (p : ℕ) (end : Option ℕ) (e : end ≡ tree_end u s p) where
+  end_is : end ≡ walked p (read_at s (levels u) p)
+  unfolding tree_end walked
+  end_is = e ∙ rw (eq-eqb (universe_refusal u) 0 ok) (go (read_at s (levels u) p))
     where
-      go : (x : Reading) → read_at s (levels u) p ≡ x → x ≡ none
-      go none f = refl
-      go (read a) f = absurd (omega (arith, size_positive a, end_is, ap (λ y. of_shape y 0 (λ b. p + size b)) f))
+      go : (x : Reading) → of_shape x None (λ a. Some (p + size a)) ≡ walked p x
+      go none = refl
+      go (read a) = refl
 
-  pub end_some : (end ≡ 0 → ⊥) → Passed p end (read_at s (levels u) p)
-  end_some n = go (read_at s (levels u) p) refl
-    where
-      go : (x : Reading) → read_at s (levels u) p ≡ x → Passed p end x
-      go none f = absurd (n (end_is ∙ ap (λ y. of_shape y 0 (λ b. p + size b)) f))
-      go (read a) f = record { shape = a; is = refl; after = end_is ∙ ap (λ y. of_shape y 0 (λ b. p + size b)) f }
+  pub end_none : end ≡ None → read_at s (levels u) p ≡ none
+  end_none z = nowhere_none p (read_at s (levels u) p) (sym z ∙ end_is)
+
+  pub end_some : (q : ℕ) → end ≡ Some q → Passed p q (read_at s (levels u) p)
+  end_some q z = passed p q (read_at s (levels u) p) (sym z ∙ end_is)
 
 -- the laws of `tree_end`, likewise
 module _ (u : Universe) (s : List ℕ) (p number : ℕ) (e : number ≡ universe_refusal u) where
-  pub end_refused : (number ≡ 0 → ⊥) → 0 ≡ tree_end u s p
+  pub end_refused : (number ≡ 0 → ⊥) → None ≡ tree_end u s p
   unfolding tree_end
   end_refused n = rw (← e, ne_eqb number 0 n)
 
-  module _ (count : ℕ) (r : Walked) (z : number ≡ 0) (c : count ≡ levels_answer u) (f : r ≡ walked p (read_at s count p)) where
-    told_walked : r ≡ walked p (read_at s (levels u) p)
-    told_walked = f ∙ ap (λ n. walked p (read_at s n p)) (asked_levels u number e count z c)
+  pub end_told :
+      (count : ℕ) (r : Option ℕ) → number ≡ 0 → count ≡ levels_answer u → r ≡ walked p (read_at s count p) → r ≡ tree_end u s p
+  unfolding tree_end walked
+  end_told count r z c f =
+      f ∙ ap (λ n. walked p (read_at s n p)) (asked_levels u number e count z c) ∙ rw (← e, eq-eqb number 0 z) (go (read_at s (levels u) p))
+    where
+      go : (x : Reading) → walked p x ≡ of_shape x None (λ a. Some (p + size a))
+      go none = refl
+      go (read a) = refl
 
-    pub end_nowhere : r ≡ Nowhere → 0 ≡ tree_end u s p
-    unfolding tree_end
-    end_nowhere g = rw (← e, eq-eqb number 0 z, nowhere_none p (read_at s (levels u) p) (sym g ∙ told_walked))
-
-    pub end_past : (q : ℕ) → r ≡ Past q → q ≡ tree_end u s p
-    unfolding tree_end
-    end_past q g =
-        let w = passed p q (read_at s (levels u) p) (sym g ∙ told_walked) in
-        rw (← e, eq-eqb number 0 z, w.is) w.after
-
-pub ruleset end_laws = (rules, levels_most, end_refused, end_nowhere, end_past)
+pub ruleset end_laws = (rules, levels_most, number-not_zero, end_refused, end_told)

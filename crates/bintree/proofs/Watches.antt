@@ -12,6 +12,7 @@ use lib.Dec.{leb}
 use lib.Pow.{pow_pos, pow_mono, pow-add}
 use Rattle.lemmas.specs.Sums.{product}
 use Rattle.lemmas.proofs.Machine.{shifted_one}
+use Rattle.std.specs.Prelude.{Option, Some, None}
 use Rattle.universe.specs.declared.Universe.{Universe}
 use Rattle.universe.specs.Universe.{universe_refusal, levels, most_frame_bits, most_levels, longest_side, frame_axis, frame_count, block_side}
 use Rattle.universe.proofs.Universes.{accepted, levels_few, side_few, voxels_left_lem}
@@ -19,7 +20,6 @@ use Rattle.bintree.specs.declared.Colour.TheVariants.{Black}
 use Rattle.bintree.specs.declared.Contact.{Contact}
 use Rattle.bintree.specs.declared.window.Window.{Window}
 use Rattle.bintree.specs.declared.window.Watched.{Watched}
-use Rattle.bintree.specs.declared.window.Watched.TheVariants.{Until, Nothing}
 use Rattle.bintree.specs.Shape.{Shape, leaf, halved, size}
 use Rattle.bintree.specs.Reading.{Reading, none, read}
 use Rattle.bintree.specs.Counts.{volume_from, volume, frames, voxels_each}
@@ -215,20 +215,25 @@ unfolding size
 both_after p q t a b e f = omega arith
 
 -- the place after the tree that is read at p and stands for a block with `left` levels left; and the n voxels and the contact found before, with the tree's
-unfoldable pub seen : Window → ℕ → ℕ → ℕ → ℕ → Contact → Reading → Watched
-seen v p left frame n k none = Nothing
+unfoldable pub seen : Window → ℕ → ℕ → ℕ → ℕ → Contact → Reading → Option Watched
+seen v p left frame n k none = None
 seen v p left frame n k (read a) =
     let u = v.universe in
-    Until (p + size a) (n + volume_from u (levels u - left) a) (contact_from u v.first v.last (levels u - left) frame a k)
+    Some (record {
+      end = p + size a;
+      volume = n + volume_from u (levels u - left) a;
+      contact = contact_from u v.first v.last (levels u - left) frame a k;
+    })
 
 module _ (v : Window) (p left frame n : ℕ) (k : Contact) where
-  pub seen_none : {x : Reading} → x ≡ none → Nothing ≡ seen v p left frame n k x
+  pub seen_none : {x : Reading} → x ≡ none → None ≡ seen v p left frame n k x
   unfolding seen
   seen_none e = rw e
 
   pub seen_read :
       (q m : ℕ) (j : Contact) (a : Shape) {x : Reading} → x ≡ read a → q ≡ p + size a → m ≡ n + volume_from v.universe (levels v.universe - left) a →
-      j ≡ contact_from v.universe v.first v.last (levels v.universe - left) frame a k → Until q m j ≡ seen v p left frame n k x
+      j ≡ contact_from v.universe v.first v.last (levels v.universe - left) frame a k →
+      Some (record { end = q; volume = m; contact = j }) ≡ seen v p left frame n k x
   unfolding seen
   seen_read q m j a e f g h = rw (e, f, g, h)
 
@@ -243,19 +248,31 @@ seen_whole v (read a) =
 
 -- what is read from an answer
 module _ (v : Window) where
-  pub nothing_none : (x : Reading) → Nothing ≡ watched v x → x ≡ none
+  pub nothing_none : (x : Reading) → None ≡ watched v x → x ≡ none
   unfolding watched
   nothing_none none e = refl
   nothing_none (read a) e = let z : ◌≡◌ {A = ℕ} 0 1 = cc in absurd (omega arith)
 
-  pub record Reached (q n : ℕ) (k : Contact) (x : Reading) : Type 0 where
+  pub record Reached (t : Watched) (x : Reading) : Type 0 where
     pub shape : Shape
     pub is : x ≡ read shape
-    pub after : q ≡ size shape
-    pub voxels : n ≡ volume v.universe shape
-    pub contact : k ≡ contact_from v.universe v.first v.last 0 0 shape (no_contact v.first v.last)
+    pub after : t.end ≡ size shape
+    pub voxels : t.volume ≡ volume v.universe shape
+    pub contact : t.contact ≡ contact_from v.universe v.first v.last 0 0 shape (no_contact v.first v.last)
 
-  pub reached : (q n : ℕ) (k : Contact) (x : Reading) → Until q n k ≡ watched v x → Reached q n k x
+  pub reached : (t : Watched) (x : Reading) → Some t ≡ watched v x → Reached t x
   unfolding watched
-  reached q n k none e = let z : ◌≡◌ {A = ℕ} 0 1 = cc in absurd (omega arith)
-  reached q n k (read a) e = record { shape = a; is = refl; after = (cc); voxels = (cc); contact = (cc) }
+  reached t none e = let z : ◌≡◌ {A = ℕ} 0 1 = cc in absurd (omega arith)
+  reached t (read a) e =
+      let f : t ≡ record {
+        end = size a;
+        volume = volume v.universe a;
+        contact = contact_from v.universe v.first v.last 0 0 a (no_contact v.first v.last);
+      } = cc in
+      record {
+        shape = a;
+        is = refl;
+        after = ap (λ (z : Watched). z.end) f;
+        voxels = ap (λ (z : Watched). z.volume) f;
+        contact = ap (λ (z : Watched). z.contact) f;
+      }

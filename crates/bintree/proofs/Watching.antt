@@ -1,14 +1,15 @@
 -- The loop of `watch` in src/window.rt. The walk over a halved block is the walk over its low half and then, from where that ends, the one over its
 -- high half; so a walk over one tree and then over the high halves still to come tells, at each turn of the loop, what the whole walk tells.
+use mathlib.Core.Logic.{◌⊎◌}
 use mathlib.Core.Path.{◌≡◌, refl, sym, ap, ◌∙◌}
 use mathlib.Core.List.{List, [], ◌∷◌}
 use Prim.Native.Nat.{ℕ, suc, ◌+◌, ◌-◌, ◌*◌, ◌^◌, ◌≤◌, ◌<◌}
 use native.Mathlib.Omega.{arith}
-use borrow.Author.Rules.{rules}
 use lib.Count.{count_trailing_zeros}
 use lib.ListN.{length, get_or, set, length-set}
 use lib.Seq.{get_or-set_same, get_or-set_other}
 use lib.Pow.{pow_mono}
+use Rattle.std.specs.Prelude.{Option, Some, None}
 use Rattle.universe.specs.declared.Universe.{Universe}
 use Rattle.universe.specs.Questions.{levels_answer, voxels_left}
 use Rattle.universe.specs.Universe.{universe_refusal, levels, most_levels, longest_side, frame_count}
@@ -18,12 +19,11 @@ use Rattle.bintree.specs.declared.Colour.TheVariants.{White, Black}
 use Rattle.bintree.specs.declared.Contact.{Contact}
 use Rattle.bintree.specs.declared.window.Window.{Window}
 use Rattle.bintree.specs.declared.window.Watched.{Watched}
-use Rattle.bintree.specs.declared.window.Watched.TheVariants.{Until, Nothing}
 use Rattle.bintree.specs.Shape.{Shape, leaf, halved, open_symbol, symbol_of, size}
 use Rattle.bintree.specs.Reading.{Reading, none, read, read_at}
 use Rattle.bintree.specs.Counts.{volume_from}
 use Rattle.bintree.specs.Windows.{no_contact, touched, contact_from, frame_bits, FrameTable, LaterTable, watched}
-use Rattle.bintree.proofs.Reading.{leaf_at, other_at, end_at, deep_at, low_missing, high_missing, both_read}
+use Rattle.bintree.proofs.Reading.{white_else, leaf_at, other_at, end_at, deep_at, low_missing, high_missing, both_read}
 use Rattle.bintree.proofs.Owed.{mask, Rising, end, next, rising_under, rising_lower, mask_none, mask_more, mask_zero, Due, due}
 use Rattle.bintree.proofs.Frames.{bits_first}
 use Rattle.bintree.proofs.Watches.{high_frame, Carried, carried_left, black_volume, black_touches, black_most, touch_frames, touch_voxels}
@@ -31,33 +31,36 @@ use Rattle.bintree.proofs.Watches.{low_carried, high_inside, halves_volume, halv
 use Rattle.bintree.proofs.Watches.{seen, seen_none, seen_read, seen_whole}
 
 -- a walk and, from where it ends, what comes next
-unfoldable pub onward : Watched → (ℕ → ℕ → Contact → Watched) → Watched
-onward Nothing more = Nothing
-onward (Until p n k) more = more p n k
+unfoldable pub onward : Option Watched → (ℕ → ℕ → Contact → Option Watched) → Option Watched
+onward None more = None
+onward (Some t) more = more t.end t.volume t.contact
 
-onward_end : (x : Watched) → onward x (λ p n k. Until p n k) ≡ x
-unfolding onward
-onward_end Nothing = refl
-onward_end (Until p n k) = refl
+abbrev pub until : ℕ → ℕ → Contact → Option Watched
+until p n k = Some (record { end = p; volume = n; contact = k })
 
-onward_same : (x : Watched) (f g : ℕ → ℕ → Contact → Watched) → ((p n : ℕ) (k : Contact) → f p n k ≡ g p n k) → onward x f ≡ onward x g
+onward_end : (x : Option Watched) → onward x (λ p n k. until p n k) ≡ x
 unfolding onward
-onward_same Nothing f g h = refl
-onward_same (Until p n k) f g h = h p n k
+onward_end None = refl
+onward_end (Some t) = refl
 
-onward_twice : (x : Watched) (f g : ℕ → ℕ → Contact → Watched) → onward (onward x f) g ≡ onward x (λ p n k. onward (f p n k) g)
+onward_same : (x : Option Watched) (f g : ℕ → ℕ → Contact → Option Watched) → ((p n : ℕ) (k : Contact) → f p n k ≡ g p n k) → onward x f ≡ onward x g
 unfolding onward
-onward_twice Nothing f g = refl
-onward_twice (Until p n k) f g = refl
+onward_same None f g h = refl
+onward_same (Some t) f g h = h t.end t.volume t.contact
+
+onward_twice : (x : Option Watched) (f g : ℕ → ℕ → Contact → Option Watched) → onward (onward x f) g ≡ onward x (λ p n k. onward (f p n k) g)
+unfolding onward
+onward_twice None f g = refl
+onward_twice (Some t) f g = refl
 
 module _ (v : Window) (s : List ℕ) where
   -- the walk over the tree of at most `left` levels at p, where n voxels and the contact k were found before
-  abbrev pub one : ℕ → ℕ → ℕ → ℕ → Contact → Watched
+  abbrev pub one : ℕ → ℕ → ℕ → ℕ → Contact → Option Watched
   one p left frame n k = seen v p left frame n k (read_at s left p)
 
   -- the walks over the high halves still to come, by the levels left to them: the first frame of each stands in `starts` at its levels
-  unfoldable pub over : List ℕ → List ℕ → ℕ → ℕ → Contact → Watched
-  over starts [] p n k = Until p n k
+  unfoldable pub over : List ℕ → List ℕ → ℕ → ℕ → Contact → Option Watched
+  over starts [] p n k = until p n k
   over starts (l ∷ ls) p n k = onward (one p l (get_or starts l 0) n k) (λ q m j. over starts ls q m j)
 
   -- a store below their levels changes nothing
@@ -127,7 +130,7 @@ held_still u starts i x h (next {l = l} g r) (also a b) =
 
 -- the loop's invariant: from place p on, the tree at hand and then the high halves still to come tell what the whole walk tells; no level that is owed is below
 -- the levels left, all that is owed still fits into the volume, and the contact counts no more than the volume does
-pub record Watching (v : Window) (s : List ℕ) (whole : Watched) (table later starts : List ℕ) (p left frame owed n : ℕ) (k : Contact) : Type 0 where
+pub record Watching (v : Window) (s : List ℕ) (whole : Option Watched) (table later starts : List ℕ) (p left frame owed n : ℕ) (k : Contact) : Type 0 where
   pub waiting : List ℕ
   pub owes : owed ≡ mask waiting
   pub rising : Rising left waiting
@@ -161,7 +164,7 @@ watching_start v s table later starts count k ok t l a c e =
     })
 
 module _
-    {v : Window} {s : List ℕ} {whole : Watched} {table later starts : List ℕ} {p left frame owed n : ℕ} {k : Contact}
+    {v : Window} {s : List ℕ} {whole : Option Watched} {table later starts : List ℕ} {p left frame owed n : ℕ} {k : Contact}
     (w : Watching v s whole table later starts p left frame owed n k) where
   most_levels_lem : levels v.universe ≤ most_levels
   most_levels_lem = levels_few v.universe (accepted v.universe w.carried.accepts)
@@ -186,17 +189,17 @@ module _
   watching_frames = rw wide_is frames_fit
 
   -- there is no tree
-  nothing : read_at s left p ≡ none → Nothing ≡ whole
+  nothing : read_at s left p ≡ none → None ≡ whole
   unfolding onward
   nothing e = ap (λ x. onward x (λ q m j. over v s starts w.waiting q m j)) (seen_none v p left frame n k e) ∙ w.tells
 
-  pub watching_end : length s ≤ p → Nothing ≡ whole
+  pub watching_end : length s ≤ p → None ≡ whole
   watching_end h = nothing (end_at s left p h)
 
-  pub watching_deep : get_or s p 0 ≡ open_symbol → left ≡ 0 → Nothing ≡ whole
+  pub watching_deep : get_or s p 0 ≡ open_symbol → left ≡ 0 → None ≡ whole
   watching_deep e h = nothing (ap (λ m. read_at s m p) h ∙ deep_at s p e)
 
-  pub watching_other : (get_or s p 0 ≡ open_symbol → ⊥) → (get_or s p 0 ≡ symbol_of Black → ⊥) → (get_or s p 0 ≡ symbol_of White → ⊥) → Nothing ≡ whole
+  pub watching_other : (get_or s p 0 ≡ open_symbol → ⊥) → (get_or s p 0 ≡ symbol_of Black → ⊥) → (get_or s p 0 ≡ symbol_of White → ⊥) → None ≡ whole
   watching_other a b c = nothing (other_at s left p a b c)
 
   -- `(`: what the calls ask, and the low half
@@ -280,16 +283,18 @@ module _
 
   -- a leaf, added to the volume and joined to the contact
   pub record Leafed (m : ℕ) (j : Contact) : Type 0 where
-    pub told : Until (p + 1) m j ≡ one v s p left frame n k
+    pub told : until (p + 1) m j ≡ one v s p left frame n k
     pub most : m ≤ n + 2 ^ left
     pub within : j.voxels ≤ m
 
   module _ (m : ℕ) (j : Contact) where
-    pub leafed_white : get_or s p 0 ≡ symbol_of White → m ≡ n → j ≡ k → Leafed m j
+    pub leafed_white :
+        (get_or s p 0 ≡ symbol_of Black) ⊎ (get_or s p 0 ≡ symbol_of White) → (get_or s p 0 ≡ symbol_of Black → ⊥) → m ≡ n → j ≡ k →
+        Leafed m j
     unfolding size volume_from contact_from
-    leafed_white e f g =
+    leafed_white e h f g =
         rw g (record {
-          told = seen_read v p left frame n k (p + 1) m k (leaf White) (leaf_at s left p White e) refl (omega arith) refl;
+          told = seen_read v p left frame n k (p + 1) m k (leaf White) (leaf_at s left p White (white_else e h)) refl (omega arith) refl;
           most = omega arith;
           within = omega (arith, w.within);
         })
@@ -316,7 +321,7 @@ module _
     tells_next x = ap (λ y. onward y (λ q l i. over v s starts w.waiting q l i)) x.told ∙ w.tells
 
     -- the last one
-    pub watching_last : Leafed m j → owed ≡ 0 → Until (p + 1) m j ≡ whole
+    pub watching_last : Leafed m j → owed ≡ 0 → until (p + 1) m j ≡ whole
     unfolding over
     watching_last x z = let none-waits = mask_zero w.waiting (sym w.owes ∙ z) in rw none-waits at (tells_next x)
 
@@ -337,9 +342,6 @@ module _
 
       pub due_few : l ≤ most_levels
       due_few = omega (arith, due_fits)
-
-      pub due_room : l * 8 < 2 ^ 64
-      due_room = omega (arith, due_fits)
 
       module _ (bit : ℕ) (b : bit ≡ voxels_left l) where
         owes_bit : owed ≡ bit + mask following.rest
@@ -372,28 +374,3 @@ module _
               within = x.within;
               tells = rw f (rw following.are at (tells_next m j x));
             }
-
-pub ruleset watching_laws = (
-  rules,
-  watching_start,
-  left_fits,
-  left_room,
-  watching_end,
-  watching_deep,
-  watching_other,
-  watching_frames,
-  level_fits,
-  level_few,
-  level_room,
-  later_fits,
-  owed_fits,
-  watching_open,
-  left_few,
-  volume_fits,
-  watching_voxels,
-  watching_bits,
-  due_fits,
-  due_few,
-  due_room,
-  due_owed,
-)

@@ -6,7 +6,7 @@ use Rattle.universe.specs.declared.Universe.{Universe}
 use Rattle.universe.specs.Refusals.{no_room, first_refusal}
 use Rattle.universe.specs.Lent.{overwritten, room_refusal}
 use Rattle.universe.specs.Universe.{universe_refusal}
-use Rattle.bintree.specs.declared.Written.{Written}
+use Rattle.bintree.specs.Told.{WrittenAnswer}
 use Rattle.bintree.specs.Shape.{Shape}
 use Rattle.bintree.specs.Reading.{Reading, none, read, expression_refusal}
 
@@ -28,17 +28,17 @@ well_formed_refusal u s = first_refusal (expression_checks u s)
 
 -- a call that writes is refused, has too little room, or is done; rule 8.3: with 6 comes the length that is needed, and
 -- with another number 0
-abbrev pub refused_writing : ℕ → Written
+abbrev pub refused_writing : ℕ → WrittenAnswer
 refused_writing number = record { refusal = number; length = 0 }
 
-abbrev pub short_writing : ℕ → Written
+abbrev pub short_writing : ℕ → WrittenAnswer
 short_writing needed = record { refusal = no_room; length = needed }
 
-abbrev pub done_writing : ℕ → Written
+abbrev pub done_writing : ℕ → WrittenAnswer
 done_writing written = record { refusal = 0; length = written }
 
 -- what a call answers that writes these symbols into the room `out`: `refusal` is that of the checks before 6
-unfoldable pub written_answer : ℕ → List ℕ → List ℕ → Written
+unfoldable pub written_answer : ℕ → List ℕ → List ℕ → WrittenAnswer
 written_answer refusal out symbols =
     unless_refused refusal refused_writing
     (unless_refused (room_refusal (length out) (length symbols)) (λ six. short_writing (length symbols))

@@ -5,8 +5,7 @@ use Rattle.universe.specs.declared.Universe.{Universe}
 use Rattle.universe.specs.Refusals.{no_room}
 use Rattle.bintree.specs.declared.Colour.{Colour}
 use Rattle.bintree.specs.declared.Colour.TheVariants.{White, Black}
-use Rattle.bintree.specs.declared.Written.{Written}
-use Rattle.bintree.specs.declared.Merged.{Merged}
+use Rattle.bintree.specs.Told.{WrittenAnswer, MergedAnswer}
 use Rattle.bintree.specs.Shape.{Shape, leaf, halved, symbol_of, symbols}
 use Rattle.bintree.specs.Reading.{expression}
 use Rattle.bintree.specs.Answers.{of_shape, well_formed_refusal, written_answer, written_buffer}
@@ -76,23 +75,24 @@ abbrev pub merged_symbols : Universe → List ℕ → List ℕ
 merged_symbols u s = of_shape (expression u s) [] (λ a. symbols (merged a))
 
 -- merging is refused, has too little room, or is done
-abbrev pub refused_merging : ℕ → Merged
+abbrev pub refused_merging : ℕ → MergedAnswer
 refused_merging number = record { refusal = number; length = 0; held = 0 }
 
-abbrev pub short_merging : ℕ → Merged
+abbrev pub short_merging : ℕ → MergedAnswer
 short_merging needed = record { refusal = no_room; length = needed; held = 0 }
 
-abbrev pub done_merging : ℕ → ℕ → Merged
+abbrev pub done_merging : ℕ → ℕ → MergedAnswer
 done_merging written held = record { refusal = 0; length = written; held = held }
 
 -- its answer is that of a call that writes, with the largest held count; 0 on every refusal
-abbrev pub with_held : ℕ → Written → Merged
+abbrev pub with_held : ℕ → WrittenAnswer → MergedAnswer
 with_held held answer =
     record { refusal = answer.refusal; length = answer.length; held = cond (eqb answer.refusal 0) held 0 }
 
-unfoldable pub merge_answer : Universe → List ℕ → List ℕ → Merged
+unfoldable pub merge_answer : Universe → List ℕ → List ℕ → MergedAnswer
 merge_answer u s out =
-    with_held (of_shape (expression u s) 0 most_held) (written_answer (well_formed_refusal u s) out (merged_symbols u s))
+    with_held (of_shape (expression u s) 0 most_held)
+    (written_answer (well_formed_refusal u s) out (merged_symbols u s))
 
 unfoldable pub merge_buffer : Universe → List ℕ → List ℕ → List ℕ
 merge_buffer u s out = written_buffer (well_formed_refusal u s) out (merged_symbols u s)

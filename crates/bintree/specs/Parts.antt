@@ -9,8 +9,7 @@ use Rattle.universe.specs.Universe.{universe_refusal, levels}
 use Rattle.universe.specs.Voxel.{path_to, voxel_refusal}
 use Rattle.bintree.specs.declared.Colour.{Colour}
 use Rattle.bintree.specs.declared.Colour.TheVariants.{White}
-use Rattle.bintree.specs.declared.Coloured.{Coloured}
-use Rattle.bintree.specs.declared.Placed.{Placed}
+use Rattle.bintree.specs.Told.{ColouredAnswer, PlacedAnswer}
 use Rattle.bintree.specs.Shape.{Shape, leaf, halved, size}
 use Rattle.bintree.specs.Reading.{expression, expression_refusal}
 use Rattle.bintree.specs.Answers.{of_shape, unless_refused}
@@ -33,10 +32,10 @@ part_start (halved a b) (h ∷ path) = cond (eqb h 0) (suc (part_start a path)) 
 
 -- where the part for a block stands in an expression, 9 after 7: a refusal and zeros, or 0, where it starts and its
 -- length
-abbrev pub refused_place : ℕ → Placed
+abbrev pub refused_place : ℕ → PlacedAnswer
 refused_place number = record { refusal = number; start = 0; length = 0 }
 
-abbrev pub done_place : ℕ → ℕ → Placed
+abbrev pub done_place : ℕ → ℕ → PlacedAnswer
 done_place start length = record { refusal = 0; start = start; length = length }
 
 abbrev pub path_checks : Universe → List ℕ → List ℕ → List ℕ
@@ -45,20 +44,20 @@ path_checks u s path = universe_refusal u ∷ expression_refusal u s ∷ path_re
 abbrev pub part_refusal : Universe → List ℕ → List ℕ → ℕ
 part_refusal u s path = first_refusal (path_checks u s path)
 
-unfoldable pub place_answer : Universe → List ℕ → List ℕ → Placed
+unfoldable pub place_answer : Universe → List ℕ → List ℕ → PlacedAnswer
 place_answer u s path =
     unless_refused (part_refusal u s path) refused_place
     (of_shape (expression u s) (done_place 0 0) (λ a. done_place (part_start a path) (size (part a path))))
 
 -- rule 4.6: the part is cut there from the bytes that were lent; a refusal has length 0, and so the empty part
-abbrev pub cut_at : List ℕ → Placed → List ℕ
+abbrev pub cut_at : List ℕ → PlacedAnswer → List ℕ
 cut_at s place = take place.length (drop place.start s)
 
 unfoldable pub part_answer : Universe → List ℕ → List ℕ → List ℕ
 part_answer u s path = cut_at s (place_answer u s path)
 
 -- and it points to where they stand, as far behind their front as it starts
-abbrev pub pointer_at : Bor (List ℕ) → Placed → ℕ × ℕ
+abbrev pub pointer_at : Bor (List ℕ) → PlacedAnswer → ℕ × ℕ
 pointer_at lent place = (lent.ref_ptr.0, place.start + lent.ref_ptr.1)
 
 unfoldable pub part_pointer : Universe → Bor (List ℕ) → List ℕ → ℕ × ℕ
@@ -73,16 +72,16 @@ unfoldable pub colour_at : Universe → Shape → List ℕ → Colour
 colour_at u s v = colour_of (part s (path_to u v))
 
 -- the colour at a voxel, 9 after 7: a refusal and White, or 0 and the colour
-abbrev pub refused_colour : ℕ → Coloured
+abbrev pub refused_colour : ℕ → ColouredAnswer
 refused_colour number = record { refusal = number; colour = White }
 
-abbrev pub done_colour : Colour → Coloured
+abbrev pub done_colour : Colour → ColouredAnswer
 done_colour c = record { refusal = 0; colour = c }
 
 abbrev pub voxel_checks : Universe → List ℕ → List ℕ → List ℕ
 voxel_checks u s v = universe_refusal u ∷ expression_refusal u s ∷ voxel_refusal u v ∷ []
 
-unfoldable pub colour_answer : Universe → List ℕ → List ℕ → Coloured
+unfoldable pub colour_answer : Universe → List ℕ → List ℕ → ColouredAnswer
 colour_answer u s v =
     unless_refused (first_refusal (voxel_checks u s v)) refused_colour
     (done_colour (of_shape (expression u s) White (λ a. colour_at u a v)))

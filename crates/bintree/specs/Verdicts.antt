@@ -8,7 +8,7 @@ use Rattle.universe.specs.Universe.{universe_refusal}
 use Rattle.universe.specs.Voxel.{window_refusal}
 use Rattle.bintree.specs.declared.Verdict.{Verdict}
 use Rattle.bintree.specs.declared.Verdict.TheVariants.{Clear, Hit}
-use Rattle.bintree.specs.declared.Numbers.{Numbers}
+use Rattle.bintree.specs.Told.{NumbersAnswer}
 use Rattle.bintree.specs.Shape.{Shape}
 use Rattle.bintree.specs.Reading.{expression, expression_refusal}
 use Rattle.bintree.specs.Answers.{of_shape, unless_refused}
@@ -48,16 +48,16 @@ verdict u s first last =
 
 -- the answer, 9 after 7: a refusal with volume 0 and Clear, or 0 with the volume of the whole expression and its
 -- verdict over the window
-abbrev pub refused_numbers : ℕ → Numbers
+abbrev pub refused_numbers : ℕ → NumbersAnswer
 refused_numbers number = record { refusal = number; volume = 0; verdict = Clear }
 
-abbrev pub done_numbers : ℕ → Verdict → Numbers
+abbrev pub done_numbers : ℕ → Verdict → NumbersAnswer
 done_numbers voxels v = record { refusal = 0; volume = voxels; verdict = v }
 
 abbrev pub window_checks : Universe → List ℕ → ℕ → ℕ → List ℕ
 window_checks u s first last = universe_refusal u ∷ expression_refusal u s ∷ window_refusal u first last ∷ []
 
-unfoldable pub numbers_answer : Universe → List ℕ → ℕ → ℕ → Numbers
+unfoldable pub numbers_answer : Universe → List ℕ → ℕ → ℕ → NumbersAnswer
 numbers_answer u s first last =
     unless_refused (first_refusal (window_checks u s first last)) refused_numbers
     (of_shape (expression u s) (done_numbers 0 Clear) (λ a. done_numbers (volume u a) (verdict u a first last)))

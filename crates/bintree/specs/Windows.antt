@@ -1,23 +1,20 @@
 -- How one walk over an expression meets rule 5.4, and finds the volume of its shape and its contact with a window:
 -- block by block, each black block adds its voxels and joins its frames in the window. A contact with no black voxel
 -- yet has voxels 0 and the window's ends the other way round, so that the first frames joined take their places.
-use Rattle.std.specs.Prelude.{ℕ, suc, ◌+◌, ◌-◌, ◌*◌, ◌^◌, ◌≤◌, ◌<◌, min, max, ◌≡◌, cond, List, eqb, leb, length, get_or}
+use Rattle.std.specs.Prelude.{ℕ, suc, ◌+◌, ◌-◌, ◌*◌, ◌^◌, ◌≤◌, ◌<◌, min, max, ◌≡◌, cond}
+use Rattle.std.specs.Prelude.{List, Option, Some, None, eqb, leb, length, get_or}
 use Rattle.universe.specs.declared.Universe.{Universe}
 use Rattle.universe.specs.Universe.{bits_along, levels, most_levels, frame_axis, halvings}
-use Rattle.universe.specs.Voxel.{window_refusal}
 use Rattle.bintree.specs.declared.Colour.TheVariants.{White, Black}
 use Rattle.bintree.specs.declared.Contact.{Contact}
 use Rattle.bintree.specs.declared.Verdict.{Verdict}
 use Rattle.bintree.specs.declared.Verdict.TheVariants.{Clear, Hit}
-use Rattle.bintree.specs.declared.Numbers.{Numbers}
 use Rattle.bintree.specs.declared.window.Window.{Window}
 use Rattle.bintree.specs.declared.window.Watched.{Watched}
-use Rattle.bintree.specs.declared.window.Watched.TheVariants.{Until, Nothing}
 use Rattle.bintree.specs.Shape.{Shape, leaf, halved, size}
 use Rattle.bintree.specs.Reading.{Reading, none, read}
-use Rattle.bintree.specs.Answers.{unless_refused}
 use Rattle.bintree.specs.Counts.{volume, frames, voxels_each}
-use Rattle.bintree.specs.Verdicts.{window_length, refused_numbers, done_numbers}
+use Rattle.bintree.specs.Verdicts.{window_length}
 
 -- a contact with no black voxel yet
 abbrev pub no_contact : ℕ → ℕ → Contact
@@ -62,17 +59,16 @@ pub record LaterTable (u : Universe) (table : List ℕ) : Type 0 where
   pub holds : (n : ℕ) → n < levels u → get_or table n 0 ≡ later_frames u n
 
 -- the place after the tree that the whole universe's expression is, its volume and its contact with the window
-unfoldable pub watched : Window → Reading → Watched
-watched w none = Nothing
+unfoldable pub watched : Window → Reading → Option Watched
+watched w none = None
 watched w (read a) =
     let none_yet = no_contact w.first w.last in
-    Until (size a) (volume w.universe a) (contact_from w.universe w.first w.last 0 0 a none_yet)
+    Some (record {
+      end = size a;
+      volume = volume w.universe a;
+      contact = contact_from w.universe w.first w.last 0 0 a none_yet;
+    })
 
 -- the verdict that a contact is
 abbrev pub verdict_of : Contact → Verdict
 verdict_of k = cond (eqb k.voxels 0) Clear (Hit k)
-
--- the answer for a window of a well-formed expression
-unfoldable pub window_answer : Window → ℕ → Contact → Numbers
-window_answer w voxels k =
-    unless_refused (window_refusal w.universe w.first w.last) refused_numbers (done_numbers voxels (verdict_of k))

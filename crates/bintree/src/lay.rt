@@ -3,43 +3,42 @@ ghost use Rattle.std.specs.Prelude.{◌≡◌, ◌+◌, ◌≤◌};
 ghost use Rattle.std.proofs.lemmas.List.Edits.{sets};
 ghost use Rattle.bintree.specs.Reading.{read_at};
 ghost use Rattle.bintree.specs.Walks.{is_alike, noted, joined_halves, Lays};
+ghost use Rattle.bintree.specs.Told.{merging_told};
 ghost use Rattle.bintree.specs.Merging.{merge_answer, merge_buffer};
 
 use crate::Merged;
-use crate::measure::{Measured, measure};
-use crate::window::lesser;
-use universe::{Universe, refusals};
+use crate::measure::measure;
+use universe::{Refusal, Universe, Unwritten};
 
 // What laying one merged tree tells: the place after the tree, the symbol of a merged tree that is one leaf (it waits
-// for its brother) or else 0 (all is written), and the place after the merged tree; or that there is no tree.
+// for its brother) or else 0 (all is written), and the place after the merged tree.
 #[derive(Clone, Copy)]
-pub(crate) enum Laid {
-    Done(usize, u8, usize),
-    Unread,
+pub(crate) struct Laid {
+    pub(crate) end: usize,
+    pub(crate) symbol: u8,
+    pub(crate) to: usize,
 }
 
 // Whether two merged parts, by their symbols, are leaves of one colour.
+#[tactic(auto, unfolding(crate::specs::Walks::is_alike))]
 pub fn is_alike(low: u8, high: u8) -> bool
     ensures { result ≡ is_alike low high }
 {
-    if low == 0 {
-        return false;
-    }
-    low == high
+    low != 0 && low == high
 }
 
 // Writes a leaf's symbol that waited for its brother, where there is one and room for it.
+#[tactic(auto, unfolding(crate::specs::Walks::noted))]
 pub fn note(out: &mut [u8], at: usize, symbol: u8)
     ensures { out.new ≡ noted out.old at symbol }
 {
-    if symbol != 0 {
-        if at < out.len() {
-            out[at] = symbol;
-        }
+    if symbol != 0 && at < out.len() {
+        out[at] = symbol;
     }
 }
 
 // The same at the place after `at`.
+#[tactic(auto, using(crate::proofs::Lays::note_laws))]
 fn note_next(out: &mut [u8], at: usize, symbol: u8)
     ensures { out.new ≡ noted out.old (at + 1) symbol }
 {
@@ -49,6 +48,7 @@ fn note_next(out: &mut [u8], at: usize, symbol: u8)
 }
 
 // Writes `(` at `to` and the two parts behind it that are leaves, as far as there is room.
+#[tactic(auto, using(crate::proofs::Lays::note_laws))]
 pub fn join_halves(out: &mut [u8], to: usize, low: u8, middle: usize, high: u8)
     ensures { out.new ≡ joined_halves out.old to low middle high }
 {
@@ -61,76 +61,68 @@ pub fn join_halves(out: &mut [u8], to: usize, low: u8, middle: usize, high: u8)
 pub fn copy(symbols: &[u8], out: &mut [u8], at: usize)
     ensures { out.new ≡ sets out.old at symbols.now }
 {
-    if out.len() <= at {
-        return;
-    }
-    let room = out.len() - at;
-    let count = lesser(symbols.len() as u64, room as u64) as usize;
-    let mut i: usize = 0;
-    while i < count {
-        out[at + i] = symbols[i];
-        i += 1;
+    if at < out.len() {
+        let count = symbols.len().min(out.len() - at);
+        out[at..at + count].copy_from_slice(&symbols[..count]);
     }
 }
 
-// Lays the merged tree of at most `left` levels that begins at `at` into `out` from `to` on, as far as there is room.
-fn lay(expression: &[u8], at: usize, left: u64, out: &mut [u8], to: usize) -> Laid
+// Lays the merged tree of at most `left` levels that begins at `at` into `out` from `to` on, as far as there is room;
+// none where there is no tree.
+fn lay(expression: &[u8], at: usize, left: u64, out: &mut [u8], to: usize) -> Option<Laid>
     requires { to ≤ at }
     ensures { Lays at to out.old (read_at expression.now left at) result out.new }
 {
-    if expression.len() <= at {
-        return Laid::Unread;
-    }
-    let symbol = expression[at];
-    if symbol == b'(' {
-        if left == 0 {
-            return Laid::Unread;
+    let symbol = *expression.get(at)?;
+    match symbol {
+        b'(' => {
+            if left == 0 {
+                return None;
+            }
+            let low = lay(expression, at + 1, left - 1, out, to + 1)?;
+            let high = lay(expression, low.end, left - 1, out, low.to)?;
+            if is_alike(low.symbol, high.symbol) {
+                return Some(Laid {
+                    end: high.end,
+                    symbol: low.symbol,
+                    to: to + 1,
+                });
+            }
+            join_halves(out, to, low.symbol, low.to, high.symbol);
+            Some(Laid {
+                end: high.end,
+                symbol: 0,
+                to: high.to,
+            })
         }
-        match lay(expression, at + 1, left - 1, out, to + 1) {
-            Laid::Done(next, low, middle) => match lay(expression, next, left - 1, out, middle) {
-                Laid::Done(after, high, end) => {
-                    if is_alike(low, high) {
-                        return Laid::Done(after, low, to + 1);
-                    }
-                    join_halves(out, to, low, middle, high);
-                    Laid::Done(after, 0, end)
-                }
-                Laid::Unread => Laid::Unread,
-            },
-            Laid::Unread => Laid::Unread,
-        }
-    } else if symbol == b'B' {
-        Laid::Done(at + 1, b'B', to + 1)
-    } else if symbol == b'W' {
-        Laid::Done(at + 1, b'W', to + 1)
-    } else {
-        Laid::Unread
+        b'B' | b'W' => Some(Laid {
+            end: at + 1,
+            symbol,
+            to: to + 1,
+        }),
+        _ => None,
     }
 }
 
 // Writes the merged expression into `out`, or, where it is refused or does not fit, nothing.
-pub fn merge(universe: Universe, expression: &[u8], out: &mut [u8]) -> Merged
-    ensures value { result ≡ merge_answer universe expression.now out.old }
+pub fn merge(universe: Universe, expression: &[u8], out: &mut [u8]) -> Result<Merged, Unwritten>
+    ensures value { merging_told result ≡ merge_answer universe expression.now out.old }
     ensures out_after { out.new ≡ merge_buffer universe expression.now out.old }
 {
-    let refusal = universe.refusal();
-    if refusal != 0 {
-        return Merged::refused(refusal);
-    }
+    universe.check()?;
     let levels = universe.levels();
-    match measure(expression, 0, levels, 0, 0, 0) {
-        Measured::Whole(after, symbol, length, held) => {
-            if after == expression.len() {
-                if out.len() < length {
-                    return Merged::short(length as u64);
-                }
-                lay(expression, 0, levels, out, 0);
-                note(out, 0, symbol);
-                Merged::done(length as u64, held)
-            } else {
-                Merged::refused(refusals::BAD_EXPRESSION)
-            }
-        }
-        Measured::Broken => Merged::refused(refusals::BAD_EXPRESSION),
+    let whole = measure(expression, 0, levels, 0, 0, 0).ok_or(Refusal::BadExpression)?;
+    if whole.end != expression.len() {
+        return Err(Unwritten::Refused(Refusal::BadExpression));
     }
+    let length = whole.length as u64;
+    if out.len() < whole.length {
+        return Err(Unwritten::NoRoom(length));
+    }
+    lay(expression, 0, levels, out, 0);
+    note(out, 0, whole.symbol);
+    Ok(Merged {
+        length,
+        held: whole.held,
+    })
 }

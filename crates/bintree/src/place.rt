@@ -1,122 +1,95 @@
 // The part for a block, asked by a path: one walk that follows the path's halves and reads the rest.
-ghost use Rattle.std.specs.Prelude.{◌≡◌, [], ◌≤◌, drop};
+ghost use Rattle.std.specs.Prelude.{◌≡◌, [], ◌≤◌};
 ghost use Rattle.universe.specs.Universe.{universe_refusal, most_levels};
+ghost use Rattle.universe.specs.Told.{number_told};
+ghost use Rattle.bintree.specs.Told.{place_told};
 ghost use Rattle.bintree.specs.Reading.{read_at};
 ghost use Rattle.bintree.specs.Parts.{path_refusal, part_refusal, place_answer, part_answer, part_pointer};
-ghost use Rattle.bintree.specs.Walks.{traced, path_answer};
+ghost use Rattle.bintree.specs.Walks.{traced};
 
 use crate::Placed;
-use crate::walk::{Walked, walk};
-use universe::{Universe, refusals};
+use crate::walk::walk;
+use universe::{Refusal, Universe};
 
-// What following a path in one tree tells: the place after the tree, where the part stands and its length, or that
-// there is no tree.
+// What following a path in one tree tells: the place after the tree, where the part stands and its length.
 #[derive(Clone, Copy)]
-pub(crate) enum Traced {
-    Led(usize, usize, usize),
-    Lost,
+pub(crate) struct Traced {
+    pub(crate) end: usize,
+    pub(crate) start: usize,
+    pub(crate) length: usize,
 }
 
-// 9 where a path is longer than the levels or has a byte that is neither 0 nor 1, else 0.
-fn path_refusal(universe: Universe, path: &[u8]) -> u64
+// Refused where a path is longer than the levels or has a byte that is neither 0 nor 1.
+fn check_path(universe: Universe, path: &[u8]) -> Result<(), Refusal>
     requires { universe_refusal universe ≡ 0 }
-    ensures { result ≡ path_refusal universe path.now }
+    ensures { number_told result ≡ path_refusal universe path.now }
 {
-    if universe.levels() < path.len() as u64 {
-        return refusals::OUTSIDE;
+    if universe.levels() < path.len() as u64 || path.iter().any(|half| 1 < *half) {
+        return Err(Refusal::Outside);
     }
-    let mut step: usize = 0;
-    while step < path.len() {
-        if 1 < path[step] {
-            return refusals::OUTSIDE;
-        }
-        step += 1;
-    }
-    0
+    Ok(())
 }
 
 // The tree of at most `left` levels that begins at `at`, whole.
-fn all(expression: &[u8], at: usize, left: u64) -> Traced
+fn all(expression: &[u8], at: usize, left: u64) -> Option<Traced>
     requires { left ≤ most_levels }
     ensures { result ≡ traced at (read_at expression.now left at) [] }
 {
-    match walk(expression, at, left) {
-        Walked::Past(end) => Traced::Led(end, at, end - at),
-        Walked::Nowhere => Traced::Lost,
-    }
+    let end = walk(expression, at, left)?;
+    Some(Traced {
+        end,
+        start: at,
+        length: end - at,
+    })
 }
 
-// Follows the path from `step` on in the tree of at most `left` levels that begins at `at`.
-pub(crate) fn trace(expression: &[u8], at: usize, left: u64, path: &[u8], step: usize) -> Traced
+// Follows a path in the tree of at most `left` levels that begins at `at`.
+pub(crate) fn trace(expression: &[u8], at: usize, left: u64, path: &[u8]) -> Option<Traced>
     requires { left ≤ most_levels }
-    ensures { result ≡ traced at (read_at expression.now left at) (drop step path.now) }
+    ensures { result ≡ traced at (read_at expression.now left at) path.now }
 {
-    if path.len() <= step {
+    let Some((half, rest)) = path.split_first() else {
         return all(expression, at, left);
-    }
-    if expression.len() <= at {
-        return Traced::Lost;
-    }
-    if expression[at] != b'(' {
+    };
+    let symbol = *expression.get(at)?;
+    if symbol != b'(' {
         return all(expression, at, left);
     }
     if left == 0 {
-        return Traced::Lost;
+        return None;
     }
-    if path[step] == 0 {
-        match trace(expression, at + 1, left - 1, path, step + 1) {
-            Traced::Led(middle, start, length) => match walk(expression, middle, left - 1) {
-                Walked::Past(end) => Traced::Led(end, start, length),
-                Walked::Nowhere => Traced::Lost,
-            },
-            Traced::Lost => Traced::Lost,
-        }
+    if *half == 0 {
+        let low = trace(expression, at + 1, left - 1, rest)?;
+        let end = walk(expression, low.end, left - 1)?;
+        Some(Traced { end, ..low })
     } else {
-        match walk(expression, at + 1, left - 1) {
-            Walked::Past(middle) => trace(expression, middle, left - 1, path, step + 1),
-            Walked::Nowhere => Traced::Lost,
-        }
+        let middle = walk(expression, at + 1, left - 1)?;
+        trace(expression, middle, left - 1, rest)
     }
-}
-
-// The answer for a path of a well-formed expression: the place found, or 9 where the path is refused.
-fn path_answer(universe: Universe, path: &[u8], start: usize, length: usize) -> Placed
-    requires { universe_refusal universe ≡ 0 }
-    ensures { result ≡ path_answer universe path.now start length }
-{
-    let nine = path_refusal(universe, path);
-    if nine != 0 {
-        return Placed::refused(nine);
-    }
-    Placed::done(start as u64, length as u64)
 }
 
 // Where the part for the block at the end of a path stands in an expression, and its length.
-pub fn part_place(universe: Universe, expression: &[u8], path: &[u8]) -> Placed
-    ensures { result ≡ place_answer universe expression.now path.now }
+pub fn part_place(universe: Universe, expression: &[u8], path: &[u8]) -> Result<Placed, Refusal>
+    ensures { place_told result ≡ place_answer universe expression.now path.now }
 {
-    let refusal = universe.refusal();
-    if refusal != 0 {
-        return Placed::refused(refusal);
+    universe.check()?;
+    let found = trace(expression, 0, universe.levels(), path).ok_or(Refusal::BadExpression)?;
+    if found.end != expression.len() {
+        return Err(Refusal::BadExpression);
     }
-    match trace(expression, 0, universe.levels(), path, 0) {
-        Traced::Led(end, start, length) => {
-            if end == expression.len() {
-                path_answer(universe, path, start, length)
-            } else {
-                Placed::refused(refusals::BAD_EXPRESSION)
-            }
-        }
-        Traced::Lost => Placed::refused(refusals::BAD_EXPRESSION),
-    }
+    check_path(universe, path)?;
+    Ok(Placed {
+        start: found.start as u64,
+        length: found.length as u64,
+    })
 }
 
-// 0 where there is a part for a path, else the number of its refusal: 2, 7 or 9.
-pub fn part_refusal(universe: Universe, expression: &[u8], path: &[u8]) -> u64
-    ensures { result ≡ part_refusal universe expression.now path.now }
+// Refused where there is no part for a path: 2, 7 or 9.
+pub fn check_part(universe: Universe, expression: &[u8], path: &[u8]) -> Result<(), Refusal>
+    ensures { number_told result ≡ part_refusal universe expression.now path.now }
 {
-    let placed = part_place(universe, expression, path);
-    placed.refusal
+    part_place(universe, expression, path)?;
+    Ok(())
 }
 
 // The part for the block at the end of a path: a part of the lent expression, empty where it is refused.
@@ -124,7 +97,9 @@ pub fn part<'a, 'b>(universe: Universe, expression: &'a [u8], path: &'b [u8]) ->
     ensures result_value { result.now ≡ part_answer universe expression.now path.now }
     ensures ref_ptr_value { result.ref_ptr ≡ part_pointer universe expression.entry path.now }
 {
-    let placed = part_place(universe, expression, path);
+    let Ok(placed) = part_place(universe, expression, path) else {
+        return &expression[..0];
+    };
     let start = placed.start as usize;
     let end = start + placed.length as usize;
     &expression[start..end]

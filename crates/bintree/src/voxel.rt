@@ -2,14 +2,17 @@
 ghost use Rattle.std.specs.Prelude.{◌≡◌, cond, ltb, eqb, take};
 ghost use Rattle.universe.specs.Universe.{universe_refusal, levels, side_along};
 ghost use Rattle.universe.specs.Voxel.{voxel_refusal, path_to};
+ghost use Rattle.universe.specs.Told.{number_told};
+ghost use Rattle.bintree.specs.Told.{colour_told};
 ghost use Rattle.bintree.specs.Parts.{colour_answer};
-ghost use Rattle.bintree.specs.Walks.{symbol_colour, voxel_answer};
+ghost use Rattle.bintree.specs.Walks.{symbol_colour};
 
-use crate::place::{Traced, trace};
-use crate::{Colour, Coloured};
-use universe::{Universe, refusals};
+use crate::Colour;
+use crate::place::trace;
+use universe::{Refusal, Universe};
 
 // Whether a voxel's place along an axis is inside the universe; above the universe's axes it is 0.
+#[tactic(auto, using(crate::proofs::Voxels::inside_laws))]
 fn is_inside(universe: Universe, axis: u64, place: u64) -> bool
     requires { universe_refusal universe ≡ 0 }
     ensures { result ≡ cond (ltb axis universe.axes) (ltb place (side_along universe axis)) (eqb place 0) }
@@ -21,24 +24,25 @@ fn is_inside(universe: Universe, axis: u64, place: u64) -> bool
     }
 }
 
-// 9 where a voxel is outside the universe, else 0.
-fn voxel_refusal(universe: Universe, voxel: [u64; Universe::MOST_AXES as usize]) -> u64
+// Refused where a voxel is outside the universe.
+fn check_voxel(
+    universe: Universe,
+    voxel: [u64; Universe::MOST_AXES as usize],
+) -> Result<(), Refusal>
     requires { universe_refusal universe ≡ 0 }
-    ensures { result ≡ voxel_refusal universe voxel }
+    ensures { number_told result ≡ voxel_refusal universe voxel }
 {
-    let mut axis: u64 = 0;
-    while axis < Universe::MOST_AXES {
-        if is_inside(universe, axis, voxel[axis as usize]) {
-            axis += 1;
-        } else {
-            return refusals::OUTSIDE;
+    for (axis, place) in voxel.iter().enumerate() {
+        if !is_inside(universe, axis as u64, *place) {
+            return Err(Refusal::Outside);
         }
     }
-    0
+    Ok(())
 }
 
 // The halves that lead to a voxel from the whole universe, one for each level, found from the last up. `rest` has the
 // voxel's places in blocks of the level that is reached.
+#[tactic(auto, using(crate::proofs::Voxels::leading_laws))]
 fn path_to(
     universe: Universe,
     voxel: [u64; Universe::MOST_AXES as usize],
@@ -50,12 +54,10 @@ fn path_to(
     let levels = universe.levels() as usize;
     let mut path = [0u8; Universe::MOST_LEVELS as usize];
     let mut rest = voxel;
-    let mut left: usize = 0;
-    while left < levels {
+    for left in 0..levels {
         let axis = axes[left];
-        left += 1;
-        path[levels - left] = (rest[axis] % 2) as u8;
-        rest[axis] = rest[axis] / 2;
+        path[levels - 1 - left] = (rest[axis] % 2) as u8;
+        rest[axis] /= 2;
     }
     path
 }
@@ -71,43 +73,23 @@ fn colour_of(symbol: u8) -> Colour
     }
 }
 
-// The answer for a voxel of a well-formed expression: the colour found, or 9 where the voxel is outside.
-fn voxel_answer(
-    universe: Universe,
-    voxel: [u64; Universe::MOST_AXES as usize],
-    colour: Colour,
-) -> Coloured
-    requires { universe_refusal universe ≡ 0 }
-    ensures { result ≡ voxel_answer universe voxel colour }
-{
-    let nine = voxel_refusal(universe, voxel);
-    if nine != 0 {
-        return Coloured::refused(nine);
-    }
-    Coloured::done(colour)
-}
-
 // The colour at a voxel.
 pub fn colour_at(
     universe: Universe,
     expression: &[u8],
     voxel: [u64; Universe::MOST_AXES as usize],
-) -> Coloured
-    ensures { result ≡ colour_answer universe expression.now voxel }
+) -> Result<Colour, Refusal>
+    ensures { colour_told result ≡ colour_answer universe expression.now voxel }
 {
-    let refusal = universe.refusal();
-    if refusal != 0 {
-        return Coloured::refused(refusal);
-    }
+    universe.check()?;
+    let levels = universe.levels();
     let path = path_to(universe, voxel);
-    match trace(expression, 0, universe.levels(), &path, 0) {
-        Traced::Led(end, start, _) => {
-            if end == expression.len() {
-                voxel_answer(universe, voxel, colour_of(expression[start]))
-            } else {
-                Coloured::refused(refusals::BAD_EXPRESSION)
-            }
-        }
-        Traced::Lost => Coloured::refused(refusals::BAD_EXPRESSION),
+    let found = trace(expression, 0, levels, &path[..levels as usize]).ok_or(
+        Refusal::BadExpression,
+    )?;
+    if found.end != expression.len() {
+        return Err(Refusal::BadExpression);
     }
+    check_voxel(universe, voxel)?;
+    Ok(colour_of(expression[found.start]))
 }

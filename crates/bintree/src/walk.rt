@@ -3,20 +3,15 @@ ghost use Rattle.std.specs.Prelude.{◌≡◌, ◌≤◌};
 ghost use Rattle.std.specs.Int.Count.{count_trailing_zeros};
 ghost use Rattle.universe.specs.Questions.{voxels_left};
 ghost use Rattle.universe.specs.Universe.{most_levels};
+ghost use Rattle.universe.specs.Told.{number_told};
 ghost use Rattle.bintree.specs.Reading.{read_at};
 ghost use Rattle.bintree.specs.Answers.{well_formed_refusal};
 ghost use Rattle.bintree.specs.Walks.{walked, tree_end};
 
-use universe::{Universe, refusals};
-
-// What a walk over one tree tells: the place after the tree, or that there is no tree.
-#[derive(Clone, Copy)]
-pub(crate) enum Walked {
-    Past(usize),
-    Nowhere,
-}
+use universe::{Refusal, Universe};
 
 // The voxels of a block with so many levels left: what the universe answers, without its check that there are so few.
+#[tactic(auto, using(crate::proofs::Walks::voxels_laws))]
 pub(crate) fn voxels_of(levels: u64) -> u64
     requires { levels ≤ most_levels }
     ensures { result ≡ voxels_left levels }
@@ -28,72 +23,56 @@ pub(crate) fn voxels_of(levels: u64) -> u64
 pub(crate) fn levels_of(owed: u64) -> u64
     ensures { result ≡ count_trailing_zeros 64 owed }
 {
-    u64::trailing_zeros(owed) as u64
+    u64::from(owed.trailing_zeros())
 }
 
-// Walks over the tree of at most `left` levels that begins at `at`. `owed` counts the voxels of the high halves still
-// to come: one bit for each, at the levels left to it.
-pub(crate) fn walk(expression: &[u8], at: usize, left: u64) -> Walked
+// Walks over the tree of at most `left` levels that begins at `at`, and tells the place after it, where there is one.
+// `owed` counts the voxels of the high halves still to come: one bit for each, at the levels left to it.
+pub(crate) fn walk(expression: &[u8], at: usize, left: u64) -> Option<usize>
     requires { left ≤ most_levels }
     ensures { result ≡ walked at (read_at expression.now left at) }
 {
-    let mut place = at;
     let mut levels = left;
     let mut owed: u64 = 0;
-    while place < expression.len() {
-        let symbol = expression[place];
-        place += 1;
-        if symbol == b'(' {
-            if levels == 0 {
-                return Walked::Nowhere;
-            }
-            levels -= 1;
-            owed += voxels_of(levels);
-        } else {
-            if symbol != b'B' {
-                if symbol != b'W' {
-                    return Walked::Nowhere;
+    for place in at..expression.len() {
+        match expression[place] {
+            b'(' => {
+                if levels == 0 {
+                    return None;
                 }
+                levels -= 1;
+                owed += voxels_of(levels);
             }
-            if owed == 0 {
-                return Walked::Past(place);
+            b'B' | b'W' => {
+                if owed == 0 {
+                    return Some(place + 1);
+                }
+                levels = levels_of(owed);
+                owed -= voxels_of(levels);
             }
-            levels = levels_of(owed);
-            owed -= voxels_of(levels);
+            _ => return None,
         }
     }
-    Walked::Nowhere
+    None
 }
 
-// The place after the tree that begins at `at`; 0 where there is no tree, or axes or bits are refused.
-pub fn tree_end(universe: Universe, expressions: &[u8], at: usize) -> usize
+// The place after the tree that begins at `at`; none where there is no tree, or axes or bits are refused.
+#[tactic(auto, using(crate::proofs::Walks::end_laws))]
+pub fn tree_end(universe: Universe, expressions: &[u8], at: usize) -> Option<usize>
     ensures { result ≡ tree_end universe expressions.now at }
 {
-    if universe.refusal() != 0 {
-        return 0;
-    }
-    match walk(expressions, at, universe.levels()) {
-        Walked::Past(end) => end,
-        Walked::Nowhere => 0,
-    }
+    universe.check().ok()?;
+    walk(expressions, at, universe.levels())
 }
 
-// 0 where an expression is well-formed, 2 where axes or bits are refused, else 7.
-pub fn well_formed(universe: Universe, expression: &[u8]) -> u64
-    ensures { result ≡ well_formed_refusal universe expression.now }
+// Refused where axes or bits are, and where an expression is not well-formed.
+#[tactic(auto, using(crate::proofs::Walks::formed_laws))]
+pub fn well_formed(universe: Universe, expression: &[u8]) -> Result<(), Refusal>
+    ensures { number_told result ≡ well_formed_refusal universe expression.now }
 {
-    let refusal = universe.refusal();
-    if refusal != 0 {
-        return refusal;
+    universe.check()?;
+    if walk(expression, 0, universe.levels()) != Some(expression.len()) {
+        return Err(Refusal::BadExpression);
     }
-    match walk(expression, 0, universe.levels()) {
-        Walked::Past(end) => {
-            if end == expression.len() {
-                0
-            } else {
-                refusals::BAD_EXPRESSION
-            }
-        }
-        Walked::Nowhere => refusals::BAD_EXPRESSION,
-    }
+    Ok(())
 }

@@ -5,16 +5,14 @@ use Rattle.std.specs.Prelude.{ℕ, ◌+◌, ◌≤◌, ◌≡◌, List, [], ◌�
 use Prim.Native.String.{String}
 use Prim.Native.Char.{code}
 use Rattle.universe.specs.declared.Universe.{Universe}
-use Rattle.universe.specs.declared.room.RoomAnswer.{RoomAnswer}
+use Rattle.universe.specs.Told.{RoomAnswer}
 use Rattle.universe.specs.Universe.{universe_refusal, equal_bits}
 use Rattle.universe.specs.Room.{room_answer}
 use Rattle.bintree.specs.declared.Colour.{Colour}
 use Rattle.bintree.specs.declared.Colour.TheVariants.{White, Black}
-use Rattle.bintree.specs.declared.Coloured.{Coloured}
+use Rattle.bintree.specs.Told.{WrittenAnswer, MergedAnswer, ColouredAnswer}
 use Rattle.bintree.specs.declared.Verdict.{Verdict}
 use Rattle.bintree.specs.declared.Verdict.TheVariants.{Clear, Hit}
-use Rattle.bintree.specs.declared.Written.{Written}
-use Rattle.bintree.specs.declared.Merged.{Merged}
 use Rattle.bintree.specs.Answers.{well_formed_refusal, done_writing}
 use Rattle.bintree.specs.Merging.{merge_answer, merge_buffer, done_merging, short_merging}
 use Rattle.bintree.specs.Parts.{colour_answer, done_colour}
@@ -23,7 +21,7 @@ use Rattle.csg.specs.Halfspace.{row_at, centre_value}
 use Rattle.csg.specs.Surfaces.{Surfaces, surfaces_of, named}
 use Rattle.csg.specs.Words.{tree_refusal, tree_of, halfspace_words}
 use Rattle.csg.specs.Marks.{tree_colour}
-use Rattle.convert.specs.declared.verdict.Clearance.{Clearance}
+use Rattle.convert.specs.Told.{ClearanceAnswer}
 use Rattle.convert.specs.Answers.{
   one_tree_refusal,
   two_trees_refusal,
@@ -110,10 +108,10 @@ pub data Value : Type 0 where
   value : ℤ → Value
   colour : Colour → Value
   room : RoomAnswer → Value
-  coloured : Coloured → Value
-  written : Written → List ℕ → Value
-  merging : Merged → List ℕ → Value
-  judged : Clearance → List ℕ → Value
+  coloured : ColouredAnswer → Value
+  written : WrittenAnswer → List ℕ → Value
+  merging : MergedAnswer → List ℕ → Value
+  judged : ClearanceAnswer → List ℕ → Value
 
 pub record Case : Type 0 where
   pub computed : Value

@@ -3,13 +3,13 @@
 use Rattle.std.specs.Prelude.{ℕ, ◌≡◌, List, [], ◌∷◌, map, ℤ, pos, replicate}
 use Rattle.universe.specs.declared.Universe.{Universe}
 use Rattle.csg.specs.Surfaces.{surfaces_of}
-use Rattle.at_once.specs.declared.answer.Contacts.{Contacts}
+use Rattle.at_once.specs.Told.{ContactsAnswer}
 use Rattle.at_once.specs.Contacts.{contacts_answer}
 use Rattle.cases.specs.Cases.{minus, row}
 use Rattle.cases.specs.FrameBits.{Asked, ◌is◌, universe_of}
 use Rattle.cases.specs.Balls.{ball}
 
-abbrev pub told : Contacts → List ℕ
+abbrev pub told : ContactsAnswer → List ℕ
 told a = a.refusal ∷ a.sure ∷ a.centre ∷ a.possible ∷ []
 
 -- of two trees over rows and balls, in the frames from `from` to `to`

@@ -2,7 +2,7 @@
 -- contract of the merged conversion says of a call: its answer, and what it leaves of two places lent.
 use Rattle.std.specs.Prelude.{ℕ, zero, suc, ◌≡◌, List, [], ◌∷◌, ◌++◌, map, ℤ, pos, replicate}
 use Rattle.universe.specs.Refusals.{overfull_tree}
-use Rattle.bintree.specs.declared.Written.{Written}
+use Rattle.bintree.specs.Told.{WrittenAnswer}
 use Rattle.bintree.specs.Answers.{refused_writing, done_writing}
 use Rattle.csg.specs.Surfaces.{surfaces_of}
 use Rattle.csg.specs.Words.{minus_itself}
@@ -15,7 +15,7 @@ planes = row (minus 3) (pos 2) (pos 0) (row (pos 0) (pos 1) (minus 1) (row (pos 
 
 -- a call: what it answered, and what it left in the room
 pub record Called : Type 0 where
-  pub answer : Written
+  pub answer : WrittenAnswer
   pub left : List ℕ
 
 -- the merged conversion of words, and of A MINUS A

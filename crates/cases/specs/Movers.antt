@@ -6,7 +6,7 @@ use Rattle.universe.specs.declared.Universe.{Universe}
 use Rattle.bintree.specs.declared.Verdict.{Verdict}
 use Rattle.bintree.specs.declared.Verdict.TheVariants.{Clear, Hit}
 use Rattle.csg.specs.Surfaces.{surfaces_of}
-use Rattle.convert.specs.declared.verdict.Clearance.{Clearance}
+use Rattle.convert.specs.Told.{ClearanceAnswer}
 use Rattle.standin.specs.declared.Triple.{Triple}
 use Rattle.standin.specs.declared.Solid.TheVariants.{Box}
 use Rattle.standin.specs.declared.Proxy.{Proxy}
@@ -20,7 +20,7 @@ abbrev pub of_verdict : Verdict → List ℕ → List ℕ
 of_verdict Clear more = 0 ∷ 0 ∷ 0 ∷ 0 ∷ more
 of_verdict (Hit c) more = 1 ∷ c.first ∷ c.last ∷ c.voxels ∷ more
 
-abbrev pub told : Clearance → List ℕ → List ℕ
+abbrev pub told : ClearanceAnswer → List ℕ → List ℕ
 told answer left = answer.refusal ∷ of_verdict answer.verdict (answer.length ∷ left)
 
 -- whole numbers as floats, and a thirty-second

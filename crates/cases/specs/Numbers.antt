@@ -2,28 +2,28 @@
 -- list. A case is one line: what is asked, and what must be answered.
 use Rattle.std.specs.Prelude.{ℕ, ◌≡◌, List, [], ◌∷◌, map}
 use Prim.Native.String.{String}
-use Rattle.bintree.specs.declared.Numbers.{Numbers}
+use Rattle.bintree.specs.Told.{NumbersAnswer}
 use Rattle.bintree.specs.declared.Verdict.TheVariants.{Clear, Hit}
 use Rattle.bintree.specs.Verdicts.{refused_numbers, done_numbers, numbers_answer}
 use Rattle.cases.specs.Cases.{universe, text}
 
 pub record NumbersCase : Type 0 where
-  pub answered : Numbers
-  pub expected : Numbers
+  pub answered : NumbersAnswer
+  pub expected : NumbersAnswer
 
-abbrev pub ◌gives◌ : Numbers → Numbers → NumbersCase
+abbrev pub ◌gives◌ : NumbersAnswer → NumbersAnswer → NumbersCase
 ◌gives◌ a b = record { answered = a; expected = b }
 
 infix 4 ◌gives◌
 -- an expression in a universe of d axes and k bits, over frames first to last
-abbrev pub asked : ℕ → ℕ → String → ℕ → ℕ → Numbers
+abbrev pub asked : ℕ → ℕ → String → ℕ → ℕ → NumbersAnswer
 asked d k s first last = numbers_answer (universe d k) (text s) first last
 
 -- so many black voxels in all, and Clear; or a Hit with its frames and the black voxels in the window
-abbrev pub clear : ℕ → Numbers
+abbrev pub clear : ℕ → NumbersAnswer
 clear volume = done_numbers volume Clear
 
-abbrev pub hit : ℕ → ℕ → ℕ → ℕ → Numbers
+abbrev pub hit : ℕ → ℕ → ℕ → ℕ → NumbersAnswer
 hit volume first last voxels = done_numbers volume (Hit (record { first = first; last = last; voxels = voxels }))
 
 abbrev pub numbers_cases : List NumbersCase

@@ -3,14 +3,14 @@
 use Rattle.std.specs.Prelude.{ℕ, List, [], ◌∷◌}
 use Prim.Native.String.{String}
 use Rattle.universe.specs.declared.Universe.{Universe}
-use Rattle.bintree.specs.declared.Written.{Written}
+use Rattle.bintree.specs.Told.{WrittenAnswer}
 use Rattle.octree.specs.Answers.{export_answer, export_buffer, import_answer, import_buffer}
 use Rattle.cases.specs.Cases.{text}
 use Rattle.cases.specs.FrameBits.{Asked, ◌is◌, universe_of}
 use Rattle.cases.specs.Swept.{dots}
 
 -- all that an answer tells, with what is left in the room
-abbrev pub told : Written → List ℕ → List ℕ
+abbrev pub told : WrittenAnswer → List ℕ → List ℕ
 told answer left = answer.refusal ∷ answer.length ∷ left
 
 -- the octree of a quoted expression, and the expression of a quoted octree, into so much room

@@ -4,13 +4,13 @@
 use Rattle.std.specs.Prelude.{ℕ, ◌≡◌, cond, List, [], ◌∷◌, ◌++◌, map, ℤ, pos, replicate}
 use Rattle.universe.specs.declared.Universe.{Universe}
 use Rattle.csg.specs.Surfaces.{Surfaces, surfaces_of}
-use Rattle.pruned.specs.declared.answer.Conversion.{Conversion}
+use Rattle.pruned.specs.Told.{ConversionAnswer}
 use Rattle.pruned.specs.Answers.{raw_of_one_answer, raw_of_one_buffer, merged_of_one_answer, merged_of_one_buffer}
 use Rattle.pruned.specs.Answers.{raw_of_two_answer, raw_of_two_buffer}
 use Rattle.cases.specs.Cases.{minus, row, text}
 use Rattle.cases.specs.FrameBits.{Asked, ◌is◌, universe_of}
 
-abbrev pub told : Conversion → List ℕ → List ℕ
+abbrev pub told : ConversionAnswer → List ℕ → List ℕ
 told a room = a.refusal ∷ cond a.short_of_work 1 0 ∷ a.length ∷ a.looked ∷ room
 
 -- four frames and no place axis; rows: from frame 1 on, in every frame, from frame 3 on

@@ -1,12 +1,12 @@
 -- Rules 5.5 to 5.8, both sides of their edges: what a report answers and what it leaves of the row lent, as one list. A
 -- case is one line: what is asked, and what must be answered and stand there. Every place of the rows lent holds 9.
 use Rattle.std.specs.Prelude.{ℕ, ◌≡◌, List, [], ◌∷◌, ◌++◌, map, replicate}
-use Rattle.report.specs.declared.Report.{Report}
+use Rattle.report.specs.Told.{ReportAnswer}
 use Rattle.report.specs.Reports.{refused_report, short_report, done_report, report_answer, report_row}
 use Rattle.cases.specs.Cases.{universe, text}
 
 pub record Reported : Type 0 where
-  pub answer : Report
+  pub answer : ReportAnswer
   pub row : List ℕ
 
 pub record ReportCase : Type 0 where

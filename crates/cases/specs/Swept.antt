@@ -4,15 +4,15 @@
 use Rattle.std.specs.Prelude.{ℕ, ◌≡◌, List, [], ◌∷◌, ◌++◌, map, take, replicate}
 use Prim.Native.String.{String}
 use Rattle.universe.specs.declared.Universe.{Universe}
-use Rattle.bintree.specs.declared.Written.{Written}
+use Rattle.bintree.specs.Told.{WrittenAnswer}
 use Rattle.convert.specs.Answers.{merged_of_one_answer, merged_of_one_buffer, merged_of_two_answer, merged_of_two_buffer}
-use Rattle.sweep.specs.declared.Swept.{Swept}
+use Rattle.sweep.specs.Told.{SweptAnswer}
 use Rattle.sweep.specs.Answers.{swept_answer, swept_buffer}
 use Rattle.cases.specs.Cases.{text, square, strips, moving, standing}
 use Rattle.cases.specs.FrameBits.{Asked, ◌is◌, universe_of}
 
 -- all that an answer tells, with what is left in the room
-abbrev pub told : Swept → List ℕ → List ℕ
+abbrev pub told : SweptAnswer → List ℕ → List ℕ
 told answer left =
     answer.refusal
     ∷ answer.universe.axes
@@ -30,7 +30,7 @@ abbrev pub along : Universe → String → ℕ → ℕ → List ℕ
 along u s axis lent = told (swept_answer u (text s) axis (dots lent)) (swept_buffer u (text s) axis (dots lent))
 
 -- what is written of a tree of the program's scene, and of both intersected
-abbrev pub front : Written → List ℕ → List ℕ
+abbrev pub front : WrittenAnswer → List ℕ → List ℕ
 front answer left = take answer.length left
 
 abbrev pub of_one : List ℕ → List ℕ

@@ -2,11 +2,11 @@
 // the lent room, so that what was not to be written shows as the `.` it was.
 #![tactic(auto)]
 
-use bintree::{Verdict, Written};
+use bintree::Verdict;
 use convert::Clearance;
 use std::io;
 use std::io::Write;
-use universe::Universe;
+use universe::{Refusal, Universe, Unwritten};
 
 const LENT: usize = 20;
 
@@ -28,74 +28,55 @@ fn square() -> Universe {
     }
 }
 
-fn say(to: &mut impl Write, text: &[u8]) -> io::Result<()> {
-    to.write_all(text)
-}
-
-fn number(to: &mut impl Write, n: u64) -> io::Result<()> {
-    write!(to, "{n}")
-}
-
-// The front of the room that is lent.
+// An answer's number and its length, and the front of the room that is lent.
 fn show(
     to: &mut impl Write,
-    label: &[u8],
-    refusal: u64,
-    length: u64,
+    label: &str,
+    answer: Result<u64, Unwritten>,
     room: &[u8],
 ) -> io::Result<()> {
-    say(to, label)?;
-    say(to, b" ")?;
-    number(to, refusal)?;
-    say(to, b" ")?;
-    number(to, length)?;
-    say(to, b" ")?;
-    say(to, room)?;
-    say(to, b"\n")
-}
-
-fn written(to: &mut impl Write, label: &[u8], answer: Written, room: &[u8]) -> io::Result<()> {
-    show(to, label, answer.refusal, answer.length, room)
+    match answer {
+        Ok(length) => write!(to, "{label} 0 {length} ")?,
+        Err(why) => write!(to, "{label} {} {} ", why.number(), why.needed())?,
+    }
+    to.write_all(room)?;
+    writeln!(to)
 }
 
 // One tree, raw and merged.
-fn one_tree(to: &mut impl Write, label: &[u8], rows: &[i64], words: &[u16]) -> io::Result<()> {
-    say(to, label)?;
-    say(to, b"\n")?;
+fn one_tree(to: &mut impl Write, label: &str, rows: &[i64], words: &[u16]) -> io::Result<()> {
+    writeln!(to, "{label}")?;
     let mut room = [b'.'; LENT];
     let answer = convert::raw_of_one(square(), rows, &[], words, &mut room);
-    written(to, b"raw", answer, &room)?;
+    show(to, "raw", answer, &room)?;
     let mut room = [b'.'; LENT];
     let answer = convert::merged_of_one(square(), rows, &[], words, &mut room);
-    written(to, b"merged", answer, &room)
+    show(to, "merged", answer, &room)
 }
 
 // The program's scene, raw, in the room lent.
-fn two_trees(to: &mut impl Write, label: &[u8], room: &mut [u8]) -> io::Result<()> {
+fn two_trees(to: &mut impl Write, label: &str, room: &mut [u8]) -> io::Result<()> {
     let answer = convert::raw_of_two(square(), &MOVER_AND_WALL, &[], &MOVER, &WALL, room);
-    written(to, label, answer, room)
+    show(to, label, answer, room)
 }
 
-fn say_verdict(to: &mut impl Write, verdict: Verdict) -> io::Result<()> {
-    match verdict {
-        Verdict::Clear => say(to, b"clear"),
-        Verdict::Hit(contact) => {
-            say(to, b"hit ")?;
-            number(to, contact.first)?;
-            say(to, b" ")?;
-            number(to, contact.last)?;
-            say(to, b" ")?;
-            number(to, contact.voxels)
+// A verdict, which is clear where it is refused, and the answer's number and length.
+fn verdict(
+    to: &mut impl Write,
+    answer: Result<Clearance, Unwritten>,
+    room: &[u8],
+) -> io::Result<()> {
+    match answer.map(|judged| judged.verdict) {
+        Ok(Verdict::Hit(contact)) => {
+            write!(
+                to,
+                "hit {} {} {}",
+                contact.first, contact.last, contact.voxels
+            )?;
         }
+        Ok(Verdict::Clear) | Err(_) => write!(to, "clear")?,
     }
-}
-
-fn verdict(to: &mut impl Write, answer: Clearance, room: &[u8]) -> io::Result<()> {
-    let refusal = answer.refusal;
-    let length = answer.length;
-    let verdict = answer.verdict;
-    say_verdict(to, verdict)?;
-    show(to, b"", refusal, length, room)
+    show(to, "", answer.map(|judged| judged.length), room)
 }
 
 // The program's scene over a window, in the room lent.
@@ -105,11 +86,7 @@ fn window(
     last_frame: u64,
     room: &mut [u8],
 ) -> io::Result<()> {
-    say(to, b"window ")?;
-    number(to, first_frame)?;
-    say(to, b" ")?;
-    number(to, last_frame)?;
-    say(to, b" ")?;
+    write!(to, "window {first_frame} {last_frame} ")?;
     let answer = convert::verdict_of_two(
         square(),
         &MOVER_AND_WALL,
@@ -123,72 +100,65 @@ fn window(
     verdict(to, answer, room)
 }
 
-// A number behind a space.
-fn next_number(to: &mut impl Write, n: u64) -> io::Result<()> {
-    say(to, b" ")?;
-    number(to, n)
-}
-
 // The number that refuses a scene before room is asked for.
 fn scene(
     to: &mut impl Write,
-    label: &[u8],
+    label: &str,
     universe: Universe,
     rows: &[i64],
     first: &[u16],
     second: &[u16],
 ) -> io::Result<()> {
-    say(to, b"scene: ")?;
-    say(to, label)?;
-    next_number(
+    let checked = convert::check_scene(universe, rows, &[], first, second);
+    writeln!(
         to,
-        convert::scene_refusal(universe, rows, &[], first, second),
-    )?;
-    say(to, b"\n")
+        "scene: {label} {}",
+        checked.map_or_else(Refusal::number, |()| 0)
+    )
 }
 
 // Each number up to the rows', with all that comes later wrong too.
 fn scenes(to: &mut impl Write) -> io::Result<()> {
     let none: &[u16] = &[];
     let unknown: &[u16] = &[9];
-    scene(to, b"taken", square(), &[0, 0, 0, 0, 0], &[256], &[1])?;
+    scene(to, "taken", square(), &[0, 0, 0, 0, 0], &[256], &[1])?;
     scene(
         to,
-        b"universe",
+        "universe",
         Universe::with_equal_bits(5, 2),
         &[0],
         none,
         unknown,
     )?;
-    scene(to, b"rows", square(), &[0, 0, 0, 1, 0], none, unknown)
+    scene(to, "rows", square(), &[0, 0, 0, 1, 0], none, unknown)
 }
 
 // Each number of the trees.
 fn scene_trees(to: &mut impl Write) -> io::Result<()> {
     let none: &[i64] = &[];
     let pending: &[u16] = &[1; 33];
-    scene(to, b"tree 1", square(), none, &[9], pending)?;
-    scene(to, b"tree 2", square(), none, &[1], pending)
+    scene(to, "tree 1", square(), none, &[9], pending)?;
+    scene(to, "tree 2", square(), none, &[1], pending)
 }
 
 // Cases 1, 2 and 6: conversions of one tree.
 fn one_tree_cases(to: &mut impl Write) -> io::Result<()> {
-    one_tree(to, b"case 1", &[-2, 2, -1, 0, 0], &[256])?;
+    one_tree(to, "case 1", &[-2, 2, -1, 0, 0], &[256])?;
     one_tree(
         to,
-        b"case 2",
+        "case 2",
         &[-2, 1, 0, 0, 0, -2, 0, 1, 0, 0, 6, -1, -1, 0, 0],
         &[256, 257, 258, 3, 3],
     )?;
-    one_tree(to, b"case 6", &[0, 0, 0, 0, 0], &[256])
+    one_tree(to, "case 6", &[0, 0, 0, 0, 0], &[256])
 }
 
 // Cases 4 and 10: conversions of two trees.
 fn two_tree_cases(to: &mut impl Write) -> io::Result<()> {
-    two_trees(to, b"case 4", &mut [b'.'; LENT])?;
-    two_trees(to, b"case 10, 13 lent", &mut [b'.'; 13])?;
-    two_trees(to, b"case 10, 12 lent", &mut [b'.'; 12])?;
-    two_trees(to, b"none lent", &mut [])
+    two_trees(to, "case 4", &mut [b'.'; LENT])?;
+    two_trees(to, "case 10, 13 lent", &mut [b'.'; 13])?;
+    two_trees(to, "case 10, 12 lent", &mut [b'.'; 12])?;
+    two_trees(to, "none lent", &mut [])
 }
 
 // A window in room enough.
@@ -210,21 +180,21 @@ fn verdicts(to: &mut impl Write) -> io::Result<()> {
 }
 
 // One row, which is the tree.
-fn one_row(to: &mut impl Write, label: &[u8], row: [i64; 5]) -> io::Result<()> {
+fn one_row(to: &mut impl Write, label: &str, row: [i64; 5]) -> io::Result<()> {
     one_tree(to, label, &row, &[256])
 }
 
 // Refusals of rows, in their order, and numbers at their limits.
 fn refused_rows(to: &mut impl Write) -> io::Result<()> {
-    one_tree(to, b"a number short of fives", &[0, 0, 0, 0], &[9])?;
-    one_tree(to, b"nonzero above d", &[0, 0, 0, 1, 0], &[9])?;
-    one_row(to, b"a0 at its limit", [1_099_511_627_776, 0, 0, 0, 0])?;
-    one_row(to, b"a0 one over", [-1_099_511_627_777, 0, 0, 0, 0])?;
-    one_row(to, b"a1 at its limit", [0, -16_777_216, 0, 0, 0])?;
-    one_row(to, b"a1 one over", [0, 16_777_217, 0, 0, 0])?;
+    one_tree(to, "a number short of fives", &[0, 0, 0, 0], &[9])?;
+    one_tree(to, "nonzero above d", &[0, 0, 0, 1, 0], &[9])?;
+    one_row(to, "a0 at its limit", [1_099_511_627_776, 0, 0, 0, 0])?;
+    one_row(to, "a0 one over", [-1_099_511_627_777, 0, 0, 0, 0])?;
+    one_row(to, "a1 at its limit", [0, -16_777_216, 0, 0, 0])?;
+    one_row(to, "a1 one over", [0, 16_777_217, 0, 0, 0])?;
     one_row(
         to,
-        b"the least i64",
+        "the least i64",
         [-9_223_372_036_854_775_808, 0, 0, 0, 0],
     )
 }
@@ -232,18 +202,18 @@ fn refused_rows(to: &mut impl Write) -> io::Result<()> {
 // Refusals of words, in their order.
 fn refused_words(to: &mut impl Write) -> io::Result<()> {
     let none: &[i64] = &[];
-    one_tree(to, b"no words", none, &[])?;
-    one_tree(to, b"an unknown word", none, &[5])?;
-    one_tree(to, b"an index past the rows", &[0, 0, 0, 0, 0], &[257])?;
-    one_tree(to, b"an operator with one pending", none, &[1, 2])?;
-    one_tree(to, b"two left", none, &[1, 1])
+    one_tree(to, "no words", none, &[])?;
+    one_tree(to, "an unknown word", none, &[5])?;
+    one_tree(to, "an index past the rows", &[0, 0, 0, 0, 0], &[257])?;
+    one_tree(to, "an operator with one pending", none, &[1, 2])?;
+    one_tree(to, "two left", none, &[1, 1])
 }
 
 // A constant less another.
 fn constants(to: &mut impl Write) -> io::Result<()> {
     let none: &[i64] = &[];
-    one_tree(to, b"WHITE less BLACK", none, &[0, 1, 4])?;
-    one_tree(to, b"BLACK less WHITE", none, &[1, 0, 4])
+    one_tree(to, "WHITE less BLACK", none, &[0, 1, 4])?;
+    one_tree(to, "BLACK less WHITE", none, &[1, 0, 4])
 }
 
 // As many words as a tree may have.
@@ -290,7 +260,7 @@ fn push_deep(words: &mut [u16; MOST_WORDS], count: usize) -> usize {
 // A tree of so many words from the front.
 fn front(
     to: &mut impl Write,
-    label: &[u8],
+    label: &str,
     rows: &[i64],
     words: [u16; MOST_WORDS],
     count: usize,
@@ -307,22 +277,22 @@ fn long_cuts(to: &mut impl Write, rows: &[i64]) -> io::Result<()> {
     let once = push_long(&mut words, 0, 63);
     let twice = push_long(&mut words, once, 63);
     let end = push(&mut words, twice, 4);
-    front(to, b"127 words less themselves", rows, words, end)?;
+    front(to, "127 words less themselves", rows, words, end)?;
     let mut words = [0u16; MOST_WORDS];
     let once = push_deep(&mut words, 0);
-    front(to, b"32 shapes pending", rows, words, once)?;
+    front(to, "32 shapes pending", rows, words, once)?;
     let twice = push_deep(&mut words, once);
     let end = push(&mut words, twice, 4);
-    front(to, b"a 33rd shape", rows, words, end)
+    front(to, "a 33rd shape", rows, words, end)
 }
 
 // A prop of one word or one operator cut from itself leaves nothing, also where centres lie on its plane.
 fn short_cuts(to: &mut impl Write, rows: &[i64]) -> io::Result<()> {
-    one_tree(to, b"a plane less itself", rows, &[256, 256, 4])?;
-    one_tree(to, b"all-zero reversed", rows, &[1, 258, 4])?;
+    one_tree(to, "a plane less itself", rows, &[256, 256, 4])?;
+    one_tree(to, "all-zero reversed", rows, &[1, 258, 4])?;
     one_tree(
         to,
-        b"UNION less itself",
+        "UNION less itself",
         rows,
         &[256, 257, 2, 256, 257, 2, 4],
     )
@@ -332,19 +302,19 @@ fn short_cuts(to: &mut impl Write, rows: &[i64]) -> io::Result<()> {
 fn other_cuts(to: &mut impl Write, rows: &[i64]) -> io::Result<()> {
     one_tree(
         to,
-        b"INTERSECTION less itself",
+        "INTERSECTION less itself",
         rows,
         &[256, 257, 3, 256, 257, 3, 4],
     )?;
     one_tree(
         to,
-        b"MINUS less itself",
+        "MINUS less itself",
         rows,
         &[256, 257, 4, 256, 257, 4, 4],
     )?;
     one_tree(
         to,
-        b"constants less themselves",
+        "constants less themselves",
         rows,
         &[1, 256, 4, 0, 2, 1, 256, 4, 0, 2, 4],
     )

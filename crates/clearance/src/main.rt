@@ -11,6 +11,7 @@ fn read_full(from: &mut impl Read, room: &mut [u8]) -> usize
     ensures { result ≤ length room.new }
 {
     let mut got = 0;
+    // By no range: a turn reads as many bytes as come.
     while got < room.len() {
         match from.read(&mut room[got..]) {
             Ok(0) | Err(_) => break,

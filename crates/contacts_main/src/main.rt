@@ -11,19 +11,10 @@ const LENT: usize = 2_048;
 
 fn universe(axes: u64, bits: u64, frame_bits: u64) -> Universe {
     Universe {
-        axes: axes,
-        bits: bits,
-        frame_bits: frame_bits,
+        axes,
+        bits,
+        frame_bits,
     }
-}
-
-fn say(to: &mut impl Write, text: &[u8]) -> io::Result<()> {
-    to.write_all(text)
-}
-
-// A number behind a space.
-fn next_number(to: &mut impl Write, n: u64) -> io::Result<()> {
-    write!(to, " {n}")
 }
 
 // What the verdict of the same scene counts.
@@ -48,20 +39,17 @@ fn verdict(
         last_frame,
         &mut lent,
     );
-    let refusal = answer.refusal;
-    let verdict = answer.verdict;
-    say(to, b", verdict")?;
-    next_number(to, refusal)?;
-    match verdict {
-        Verdict::Clear => say(to, b" clear"),
-        Verdict::Hit(contact) => next_number(to, contact.voxels),
+    match answer.map(|clearance| clearance.verdict) {
+        Ok(Verdict::Clear) => write!(to, ", verdict 0 clear"),
+        Ok(Verdict::Hit(contact)) => write!(to, ", verdict 0 {}", contact.voxels),
+        Err(why) => write!(to, ", verdict {} clear", why.number()),
     }
 }
 
 // The counts of two trees over a window, and the verdict.
 fn over(
     to: &mut impl Write,
-    label: &[u8],
+    label: &str,
     universe: Universe,
     rows: &[i64],
     balls: &[i64],
@@ -79,12 +67,14 @@ fn over(
         first_frame,
         last_frame,
     );
-    say(to, label)?;
-    say(to, b":")?;
-    next_number(to, answer.refusal)?;
-    next_number(to, answer.sure)?;
-    next_number(to, answer.centre)?;
-    next_number(to, answer.possible)?;
+    match answer {
+        Ok(shared) => write!(
+            to,
+            "{label}: 0 {} {} {}",
+            shared.sure, shared.centre, shared.possible
+        )?,
+        Err(refusal) => write!(to, "{label}: {} 0 0 0", refusal.number())?,
+    }
     verdict(
         to,
         universe,
@@ -95,42 +85,42 @@ fn over(
         first_frame,
         last_frame,
     )?;
-    say(to, b"\n")
+    writeln!(to)
 }
 
 // One tree and BLACK over the four frames of four places.
-fn strip(to: &mut impl Write, label: &[u8], rows: &[i64], words: &[u16]) -> io::Result<()> {
+fn strip(to: &mut impl Write, label: &str, rows: &[i64], words: &[u16]) -> io::Result<()> {
     over(to, label, universe(2, 2, 2), rows, &[], words, &[1], 0, 3)
 }
 
 // A plane as it is and reversed.
-fn turned(to: &mut impl Write, label: &[u8], plane: &[i64]) -> io::Result<()> {
+fn turned(to: &mut impl Write, label: &str, plane: &[i64]) -> io::Result<()> {
     strip(to, label, plane, &[256])?;
-    strip(to, b"reversed", plane, &[1, 256, 4])
+    strip(to, "reversed", plane, &[1, 256, 4])
 }
 
 // The same, and less itself.
-fn cut(to: &mut impl Write, label: &[u8], plane: &[i64]) -> io::Result<()> {
+fn cut(to: &mut impl Write, label: &str, plane: &[i64]) -> io::Result<()> {
     turned(to, label, plane)?;
-    strip(to, b"less itself", plane, &[256, 256, 4])
+    strip(to, "less itself", plane, &[256, 256, 4])
 }
 
 // Planes through centres and through faces, and five zeros.
 fn planes(to: &mut impl Write) -> io::Result<()> {
-    cut(to, b"through centres", &[-3, 2, 0, 0, 0])?;
-    cut(to, b"through faces", &[-2, 1, 0, 0, 0])?;
-    turned(to, b"five zeros", &[0, 0, 0, 0, 0])
+    cut(to, "through centres", &[-3, 2, 0, 0, 0])?;
+    cut(to, "through faces", &[-2, 1, 0, 0, 0])?;
+    turned(to, "five zeros", &[0, 0, 0, 0, 0])
 }
 
 // A wall that ends inside a place.
 fn quarters(to: &mut impl Write) -> io::Result<()> {
     let rows: &[i64] = &[5, -4, 0, 0, 0, -1, 1, 0, 0, 0];
-    strip(to, b"a quarter of a place", rows, &[256, 257, 3])?;
-    strip(to, b"the places beside it", rows, &[256, 257, 2])
+    strip(to, "a quarter of a place", rows, &[256, 257, 3])?;
+    strip(to, "the places beside it", rows, &[256, 257, 2])
 }
 
 // A mover and a wall in a window.
-fn moved(to: &mut impl Write, label: &[u8], first_frame: u64, last_frame: u64) -> io::Result<()> {
+fn moved(to: &mut impl Write, label: &str, first_frame: u64, last_frame: u64) -> io::Result<()> {
     over(
         to,
         label,
@@ -148,19 +138,19 @@ fn moved(to: &mut impl Write, label: &[u8], first_frame: u64, last_frame: u64) -
 
 // Windows at both ends, within, and past the end.
 fn windows(to: &mut impl Write) -> io::Result<()> {
-    moved(to, b"frame 0", 0, 0)?;
-    moved(to, b"frame 1", 1, 1)?;
-    moved(to, b"frames 2 and 3", 2, 3)?;
-    moved(to, b"frame 3", 3, 3)?;
-    moved(to, b"all frames", 0, 3)?;
-    moved(to, b"past the last", 0, 4)?;
-    moved(to, b"first after last", 2, 1)
+    moved(to, "frame 0", 0, 0)?;
+    moved(to, "frame 1", 1, 1)?;
+    moved(to, "frames 2 and 3", 2, 3)?;
+    moved(to, "frame 3", 3, 3)?;
+    moved(to, "all frames", 0, 3)?;
+    moved(to, "past the last", 0, 4)?;
+    moved(to, "first after last", 2, 1)
 }
 
 // A tree of one ball alone, up to a frame.
 fn alone(
     to: &mut impl Write,
-    label: &[u8],
+    label: &str,
     universe: Universe,
     ball: [i64; 4],
     words: &[u16],
@@ -175,55 +165,34 @@ fn touching(to: &mut impl Write) -> io::Result<()> {
     let reversed: &[u16] = &[1, 512, 4];
     alone(
         to,
-        b"touches a place",
+        "touches a place",
         universe(2, 2, 1),
         [1, 0, 0, 1],
         ball,
         1,
     )?;
-    alone(
-        to,
-        b"reversed",
-        universe(2, 2, 1),
-        [1, 0, 0, 1],
-        reversed,
-        1,
-    )?;
-    alone(to, b"one voxel", universe(3, 2, 1), [4, 4, 0, 0], ball, 0)?;
-    alone(
-        to,
-        b"reversed",
-        universe(3, 2, 1),
-        [4, 4, 0, 0],
-        reversed,
-        0,
-    )
+    alone(to, "reversed", universe(2, 2, 1), [1, 0, 0, 1], reversed, 1)?;
+    alone(to, "one voxel", universe(3, 2, 1), [4, 4, 0, 0], ball, 0)?;
+    alone(to, "reversed", universe(3, 2, 1), [4, 4, 0, 0], reversed, 0)
 }
 
 // Balls on three place axes and on none.
 fn other_axes(to: &mut impl Write) -> io::Result<()> {
     let ball: &[u16] = &[512];
+    alone(to, "three places", universe(4, 2, 1), [2, 2, 2, 2], ball, 1)?;
     alone(
         to,
-        b"three places",
-        universe(4, 2, 1),
-        [2, 2, 2, 2],
-        ball,
-        1,
-    )?;
-    alone(
-        to,
-        b"less itself",
+        "less itself",
         universe(4, 2, 1),
         [2, 2, 2, 2],
         &[512, 512, 4],
         1,
     )?;
-    alone(to, b"no place", universe(1, 0, 2), [0, 0, 0, 0], ball, 3)
+    alone(to, "no place", universe(1, 0, 2), [0, 0, 0, 0], ball, 3)
 }
 
 // Two balls, one against the other.
-fn two_heads(to: &mut impl Write, label: &[u8], balls: [i64; 8]) -> io::Result<()> {
+fn two_heads(to: &mut impl Write, label: &str, balls: [i64; 8]) -> io::Result<()> {
     over(
         to,
         label,
@@ -239,14 +208,14 @@ fn two_heads(to: &mut impl Write, label: &[u8], balls: [i64; 8]) -> io::Result<(
 
 // Two heads.
 fn heads(to: &mut impl Write) -> io::Result<()> {
-    two_heads(to, b"heads that touch", [2, 4, 0, 2, 6, 4, 0, 2])?;
-    two_heads(to, b"heads that meet", [3, 4, 0, 2, 5, 4, 0, 2])
+    two_heads(to, "heads that touch", [2, 4, 0, 2, 6, 4, 0, 2])?;
+    two_heads(to, "heads that meet", [3, 4, 0, 2, 5, 4, 0, 2])
 }
 
 // A plane and BLACK from the first frame to a last.
 fn plane_over(
     to: &mut impl Write,
-    label: &[u8],
+    label: &str,
     universe: Universe,
     plane: [i64; 5],
     last_frame: u64,
@@ -267,7 +236,7 @@ fn plane_over(
 // BLACK and a constant in a window.
 fn black_over(
     to: &mut impl Write,
-    label: &[u8],
+    label: &str,
     universe: Universe,
     constant: u16,
     first_frame: u64,
@@ -290,16 +259,16 @@ fn black_over(
 fn smallest(to: &mut impl Write) -> io::Result<()> {
     plane_over(
         to,
-        b"one voxel in doubt",
+        "one voxel in doubt",
         universe(2, 0, 0),
         [-1, 2, 0, 0, 0],
         0,
     )?;
-    black_over(to, b"one voxel", universe(4, 0, 0), 1, 0, 0)?;
-    black_over(to, b"none", universe(4, 0, 0), 0, 0, 0)?;
-    plane_over(to, b"frames alone", universe(1, 0, 2), [-3, 2, 0, 0, 0], 3)?;
-    black_over(to, b"all of the largest", universe(4, 10, 12), 1, 0, 4_095)?;
-    black_over(to, b"its last frame", universe(4, 10, 12), 1, 4_095, 4_095)
+    black_over(to, "one voxel", universe(4, 0, 0), 1, 0, 0)?;
+    black_over(to, "none", universe(4, 0, 0), 0, 0, 0)?;
+    plane_over(to, "frames alone", universe(1, 0, 2), [-3, 2, 0, 0, 0], 3)?;
+    black_over(to, "all of the largest", universe(4, 10, 12), 1, 0, 4_095)?;
+    black_over(to, "its last frame", universe(4, 10, 12), 1, 4_095, 4_095)
 }
 
 // Each number up to the balls', with a fault behind it.
@@ -309,7 +278,7 @@ fn refused_surfaces(to: &mut impl Write) -> io::Result<()> {
     let black: &[u16] = &[1];
     over(
         to,
-        b"the universe",
+        "the universe",
         universe(5, 2, 2),
         torn,
         none,
@@ -320,7 +289,7 @@ fn refused_surfaces(to: &mut impl Write) -> io::Result<()> {
     )?;
     over(
         to,
-        b"the rows",
+        "the rows",
         universe(2, 2, 2),
         torn,
         torn,
@@ -331,7 +300,7 @@ fn refused_surfaces(to: &mut impl Write) -> io::Result<()> {
     )?;
     over(
         to,
-        b"the balls",
+        "the balls",
         universe(2, 2, 2),
         none,
         torn,
@@ -345,7 +314,7 @@ fn refused_surfaces(to: &mut impl Write) -> io::Result<()> {
 // Two trees over no rows and no balls, up to a frame.
 fn bare(
     to: &mut impl Write,
-    label: &[u8],
+    label: &str,
     first: &[u16],
     second: &[u16],
     last_frame: u64,
@@ -368,17 +337,17 @@ fn refused_trees(to: &mut impl Write) -> io::Result<()> {
     let none: &[u16] = &[];
     let black: &[u16] = &[1];
     let overfull: &[u16] = &[1; 256];
-    bare(to, b"tree 1", &[256], overfull, 3)?;
-    bare(to, b"tree 1 overfull", overfull, none, 3)?;
-    bare(to, b"tree 2", black, none, 4)?;
-    bare(to, b"tree 2 overfull", black, overfull, 4)?;
-    bare(to, b"the window", black, black, 4)
+    bare(to, "tree 1", &[256], overfull, 3)?;
+    bare(to, "tree 1 overfull", overfull, none, 3)?;
+    bare(to, "tree 2", black, none, 4)?;
+    bare(to, "tree 2 overfull", black, overfull, 4)?;
+    bare(to, "the window", black, black, 4)
 }
 
 // Two trees over planes that move and a ball, in a window.
 fn moving(
     to: &mut impl Write,
-    label: &[u8],
+    label: &str,
     universe: Universe,
     first: &[u16],
     second: &[u16],
@@ -401,10 +370,10 @@ fn moving(
 // Levels at both sides of a word's six, and windows that cut a word.
 fn levels(to: &mut impl Write) -> io::Result<()> {
     let plane: &[u16] = &[257];
-    moving(to, b"five levels", universe(3, 1, 3), &[512], plane, 1, 6)?;
+    moving(to, "five levels", universe(3, 1, 3), &[512], plane, 1, 6)?;
     moving(
         to,
-        b"six levels",
+        "six levels",
         universe(3, 2, 2),
         &[1, 256, 4],
         &[257, 512, 2],
@@ -413,7 +382,7 @@ fn levels(to: &mut impl Write) -> io::Result<()> {
     )?;
     moving(
         to,
-        b"seven levels",
+        "seven levels",
         universe(3, 2, 3),
         &[256, 512, 2],
         plane,
@@ -426,7 +395,7 @@ fn levels(to: &mut impl Write) -> io::Result<()> {
 fn more_levels(to: &mut impl Write) -> io::Result<()> {
     moving(
         to,
-        b"ten levels",
+        "ten levels",
         universe(3, 4, 2),
         &[257, 512, 4],
         &[1],
@@ -435,7 +404,7 @@ fn more_levels(to: &mut impl Write) -> io::Result<()> {
     )?;
     over(
         to,
-        b"twelve levels",
+        "twelve levels",
         universe(4, 2, 6),
         &[-7, 2, 1, -1, 0, 9, -1, -3, 2, -1],
         &[2, 1, 3, 2],
@@ -446,7 +415,7 @@ fn more_levels(to: &mut impl Write) -> io::Result<()> {
     )?;
     over(
         to,
-        b"nine levels of frames",
+        "nine levels of frames",
         universe(1, 0, 9),
         &[-201, 2, 0, 0, 0, 301, -1, 0, 0, 0],
         &[],

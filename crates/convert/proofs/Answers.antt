@@ -1,23 +1,27 @@
 -- The answers of the conversions. The first check that refuses is the answer's number, and where none refuses the recursion is ready. Room that is as
 -- large as the formula says suffices; else what was written into scratch room is copied, or written once more.
 use Prim.Native.Nat.{ℕ, ◌+◌, ◌≤◌, ◌<◌}
-use mathlib.Core.Path.{◌≡◌, refl, sym, ap, ap₂, ◌∙◌}
+use mathlib.Core.Path.{◌≡◌, refl, sym, ap, ◌∙◌}
 use mathlib.Core.Bool.{Bool, true, false}
-use mathlib.Core.List.{List}
+use mathlib.Core.List.{List, [], ◌∷◌}
+use native.Mathlib.Decide.{ℕ_discrete}
 use native.Mathlib.Omega.{arith}
 use borrow.Author.Tests.{eq-eqb, ne_eqb}
 use lib.ListN.{length, replicate, take}
 use lib.Seq.{sets, length-sets}
 use Rattle.universe.specs.declared.Universe.{Universe}
+use Rattle.universe.specs.Refusals.{first_refusal}
 use Rattle.universe.specs.Universe.{most_axes, universe_refusal}
 use Rattle.universe.specs.Questions.{levels_answer, axes_left}
-use Rattle.universe.specs.declared.room.RoomAnswer.{RoomAnswer}
+use Rattle.std.specs.Prelude.{Result, Ok, Err}
+use Rattle.std.specs.Result.{result_unwrap_or}
+use Rattle.universe.specs.declared.refusal.Refusal.{Refusal}
+use Rattle.universe.specs.Told.{RoomAnswer, room_told}
 use Rattle.universe.specs.Room.{room, room_answer}
-use Rattle.universe.proofs.Refusing.{last_check}
 use Rattle.universe.proofs.Questions.{levels_told}
 use Rattle.bintree.specs.Shape.{Shape, symbols}
 use Rattle.bintree.specs.Walks.{noted, laid}
-use Rattle.bintree.specs.declared.Written.{Written}
+use Rattle.bintree.specs.Told.{WrittenAnswer}
 use Rattle.bintree.specs.Answers.{refused_writing, short_writing, done_writing, written_answer, written_buffer}
 use Rattle.bintree.proofs.Shape.{length_symbols}
 use Rattle.bintree.proofs.Lays.{laid_noted}
@@ -39,43 +43,27 @@ use Rattle.convert.specs.Answers.{raw_of_two_answer, raw_of_two_buffer, merged_o
 use Rattle.convert.proofs.Blocks.{whole_standing, whole_is}
 use Rattle.convert.proofs.Shapes.{shape_small, shaped_size}
 
--- ---- the checks in their order
-module _ (u : Universe) (surfaces : Surfaces) (first second : List ℕ) where
-  abbrev Checked : ℕ → Type 0
-  Checked n = (n ≡ two_trees_refusal u surfaces first second) × (n ≡ 0 → Ready u surfaces first second)
+-- ---- the checks: where none refuses, the recursion is ready
+-- checks that give 0 all accept: the first does, and so do the others
+first_zero : (n : ℕ) (ns : List ℕ) → first_refusal (n ∷ ns) ≡ 0 → (n ≡ 0) × (first_refusal ns ≡ 0)
+first_zero n ns e = by (ℕ_discrete n 0)
+  where
+    by : Dec (n ≡ 0) → (n ≡ 0) × (first_refusal ns ≡ 0)
+    by (yes z) = (z, rw (eq-eqb n 0 z) at e)
+    by (no h) = absurd (h (rw (ne_eqb n 0 h) at e))
 
-  pub refused_universe : {n : ℕ} → n ≡ universe_refusal u → (n ≡ 0 → ⊥) → Checked n
-  unfolding two_trees_checks
-  refused_universe {n} e h = (rw (← e, ne_eqb n 0 h), λ z. absurd (h z))
-
-  module _ {a : ℕ} (ea : a ≡ universe_refusal u) (za : a ≡ 0) where
-    pub refused_rows : {n : ℕ} → n ≡ rows_refusal u surfaces.rows → (n ≡ 0 → ⊥) → Checked n
-    unfolding two_trees_checks
-    refused_rows {n} e h = (rw (← ea, eq-eqb a 0 za, ← e, ne_eqb n 0 h), λ z. absurd (h z))
-
-    module _ {b : ℕ} (eb : b ≡ rows_refusal u surfaces.rows) (zb : b ≡ 0) where
-      pub refused_balls : {n : ℕ} → n ≡ balls_refusal u surfaces.balls → (n ≡ 0 → ⊥) → Checked n
-      unfolding two_trees_checks
-      refused_balls {n} e h = (rw (← ea, eq-eqb a 0 za, ← eb, eq-eqb b 0 zb, ← e, ne_eqb n 0 h), λ z. absurd (h z))
-
-      module _ {f : ℕ} (ef : f ≡ balls_refusal u surfaces.balls) (zf : f ≡ 0) where
-        pub refused_first : {n : ℕ} → n ≡ tree_refusal (named surfaces) first → (n ≡ 0 → ⊥) → Checked n
-        unfolding two_trees_checks
-        refused_first {n} e h = (rw (← ea, eq-eqb a 0 za, ← eb, eq-eqb b 0 zb, ← ef, eq-eqb f 0 zf, ← e, ne_eqb n 0 h), λ z. absurd (h z))
-
-        module _ {d : ℕ} (ed : d ≡ tree_refusal (named surfaces) first) (zd : d ≡ 0) where
-          pub checked_second : {n : ℕ} → n ≡ tree_refusal (named surfaces) second → Checked n
-          unfolding two_trees_checks
-          checked_second {n} e = (
-            rw (← ea, eq-eqb a 0 za, ← eb, eq-eqb b 0 zb, ← ef, eq-eqb f 0 zf, ← ed, eq-eqb d 0 zd, ← e) (sym (last_check n)),
-            λ z. record {
-              accepted_universe = sym ea ∙ za;
-              accepted_rows = sym eb ∙ zb;
-              accepted_balls = sym ef ∙ zf;
-              accepted_first = sym ed ∙ zd;
-              accepted_second = sym e ∙ z;
-            },
-          )
+pub ready_of : (u : Universe) (surfaces : Surfaces) (first second : List ℕ) → 0 ≡ two_trees_refusal u surfaces first second → Ready u surfaces first second
+unfolding two_trees_checks
+ready_of u surfaces first second e =
+    let last : List ℕ = tree_refusal (named surfaces) second ∷ [] in
+    let trees : List ℕ = tree_refusal (named surfaces) first ∷ last in
+    let balls : List ℕ = balls_refusal u surfaces.balls ∷ trees in
+    let a = first_zero (universe_refusal u) (rows_refusal u surfaces.rows ∷ balls) (sym e) in
+    let b = first_zero (rows_refusal u surfaces.rows) balls a.1 in
+    let c = first_zero (balls_refusal u surfaces.balls) trees b.1 in
+    let d = first_zero (tree_refusal (named surfaces) first) last c.1 in
+    let f = first_zero (tree_refusal (named surfaces) second) [] d.1 in
+    record { accepted_universe = a.0; accepted_rows = b.0; accepted_balls = c.0; accepted_first = d.0; accepted_second = f.0 }
 
 -- ---- the whole universe's block, and what its recursion writes
 module _ {u : Universe} {surfaces : Surfaces} {first second : List ℕ} (r : Ready u surfaces first second) where
@@ -133,41 +121,47 @@ module _ {u : Universe} {surfaces : Surfaces} {first second : List ℕ} (r : Rea
         second_few = accepted_length (named surfaces) second r.accepted_second;
       }
 
--- the room question's answer, for leaves and balls that calls counted
-pub room_is : (u : Universe) (first second : List ℕ) {x y b d : ℕ} {answer : RoomAnswer} → universe_refusal u ≡ 0 →
-    x ≡ halfspace_words first → y ≡ halfspace_words second → b ≡ ball_words first → d ≡ ball_words second → answer ≡ room_answer u (x + y) (b + d) →
-    answer.symbols ≡ room u (halfspace_words first + halfspace_words second) (ball_words first + ball_words second)
+-- room, as what the room question answers tells it
+symbols_told : (answer : Result ℕ Refusal) → result_unwrap_or answer 0 ≡ (room_told answer).symbols
+symbols_told (Ok symbols) = refl
+symbols_told (Err r) = refl
+
+-- for leaves and balls that calls counted
+pub room_is : (u : Universe) (first second : List ℕ) (answer : Result ℕ Refusal) {x y b d : ℕ} → universe_refusal u ≡ 0 →
+    x ≡ halfspace_words first → y ≡ halfspace_words second → b ≡ ball_words first → d ≡ ball_words second → room_told answer ≡ room_answer u (x + y) (b + d) →
+    result_unwrap_or answer 0 ≡ room u (halfspace_words first + halfspace_words second) (ball_words first + ball_words second)
 unfolding room_answer
-room_is u first second z p q s t e = ap (λ (a : RoomAnswer). a.symbols) e ∙ rw (eq-eqb (universe_refusal u) 0 z, p, q, s, t)
+room_is u first second answer z p q s t e =
+    symbols_told answer ∙ ap (λ (a : RoomAnswer). a.symbols) e ∙ rw (eq-eqb (universe_refusal u) 0 z, p, q, s, t)
 
 -- ---- the ends of a conversion that writes these symbols
 module _ (out written : List ℕ) where
   -- its answer and the room as it leaves it, where the checks before 6 give n
-  abbrev pub Ends : ℕ → Written → List ℕ → Type 0
+  abbrev pub Ends : ℕ → WrittenAnswer → List ℕ → Type 0
   Ends n answer now = (answer ≡ written_answer n out written) × (now ≡ written_buffer n out written)
 
   -- a refusal by the checks, which gave m
-  pub ends_refused : {m n : ℕ} → m ≡ n → (m ≡ 0 → ⊥) → {answer : Written} → answer ≡ refused_writing m → Ends n answer out
+  pub ends_refused : {m n : ℕ} → m ≡ n → (m ≡ 0 → ⊥) → {answer : WrittenAnswer} → answer ≡ refused_writing m → Ends n answer out
   ends_refused {m} e h a = rw (a, ← e) (written_refused m out written h, kept_refused m out written h)
 
   -- where they gave 0, the answer after them is the answer
-  pub ends_accepted : {m n : ℕ} → m ≡ n → m ≡ 0 → {answer : Written} {now : List ℕ} → Ends 0 answer now → Ends n answer now
+  pub ends_accepted : {m n : ℕ} → m ≡ n → m ≡ 0 → {answer : WrittenAnswer} {now : List ℕ} → Ends 0 answer now → Ends n answer now
   ends_accepted e z p = rw (sym e ∙ z) p
 
   module _ {k : ℕ} (e : k ≡ length written) where
     -- too little room for k symbols
-    pub ends_short : length out < k → {answer : Written} → answer ≡ short_writing k → Ends 0 answer out
+    pub ends_short : length out < k → {answer : WrittenAnswer} → answer ≡ short_writing k → Ends 0 answer out
     ends_short h a = rw (a, e) (written_short 0 out written refl (omega arith), kept_short 0 out written refl (omega arith))
 
     -- k symbols written
-    pub ends_written : {now : List ℕ} → k ≤ length out → now ≡ sets out 0 written → {answer : Written} → answer ≡ done_writing k → Ends 0 answer now
+    pub ends_written : {now : List ℕ} → k ≤ length out → now ≡ sets out 0 written → {answer : WrittenAnswer} → answer ≡ done_writing k → Ends 0 answer now
     ends_written f h a =
         let g : length written ≤ length out = omega arith in
         rw (a, e, h) (written_all 0 out written refl g, sets_first written out g ∙ left_all 0 out written refl g)
 
     -- the same by way of scratch room that holds them all
     pub ends_copied : (scratch before : List ℕ) {now : List ℕ} → k ≤ length out → k ≤ length scratch → scratch ≡ sets before 0 written →
-        now ≡ sets out 0 (take k scratch) → {answer : Written} → answer ≡ done_writing k → Ends 0 answer now
+        now ≡ sets out 0 (take k scratch) → {answer : WrittenAnswer} → answer ≡ done_writing k → Ends 0 answer now
     ends_copied scratch before f g s p a =
         let h : length written ≤ length before = omega (arith, ap length s, length-sets before 0 written) in
         let same : take k scratch ≡ written = rw (e, s) (sets_front written before h) in
@@ -183,7 +177,7 @@ module _ (u : Universe) (surfaces : Surfaces) (first second : List ℕ) where
   unfolding written_of_two merged_of_two shaped
   merged_written = refl
 
-  module _ (out : List ℕ) {r : Written} {now : List ℕ} where
+  module _ (out : List ℕ) {r : WrittenAnswer} {now : List ℕ} where
     pub raw_ends : Ends out (written_of_two false u surfaces first second) (two_trees_refusal u surfaces first second) r now →
         (r ≡ raw_of_two_answer u surfaces first second out) × (now ≡ raw_of_two_buffer u surfaces first second out)
     unfolding raw_of_two_answer raw_of_two_buffer

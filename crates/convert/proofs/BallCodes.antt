@@ -1,7 +1,7 @@
 -- A ball's codes as the machine finds them. Along an axis the farther end of a block is as far as the greater of two differences, the nearest point is nearer
 -- by the block's length, and the square of the distance to a voxel's centre is a product and a quarter. Such numbers are small, so are their squares, and so
 -- are the sums of these over the place axes (`Walked`); what is added up is what the definitions add up.
-use Prim.Native.Nat.{ℕ, zero, suc, ◌+◌, ◌*◌, ◌-◌, ◌%◌, ◌≤◌, ◌<◌}
+use Prim.Native.Nat.{ℕ, zero, suc, ◌+◌, ◌*◌, ◌-◌, ◌≤◌, ◌<◌}
 use mathlib.Core.Path.{◌≡◌, refl, sym, ap, ap₂, subst, ◌∙◌}
 use mathlib.Core.Bool.{Bool, true, false, cond}
 use mathlib.Core.List.{List}
@@ -13,6 +13,7 @@ use borrow.Author.Tests.{le-leb, lt-leb}
 use lib.Dec.{T, leb, ltb}
 use lib.IntN.{ℤ, pos, negsuc, nat_abs, ◌-ℤ◌, ◌*ℤ◌}
 use lib.ListN.{get_or}
+use Rattle.std.specs.Int.{int_max}
 use lib.Signed.{◌≤ℤ◌, ◌<ℤ◌, lt_z, non_neg}
 use mir.Syntax.{w64}
 use mir.Val.{Fits, to_z, of_z}
@@ -22,11 +23,10 @@ use Rattle.lemmas.proofs.Whole.{up, dn, one_part, ι, ν, ◌⊖◌, ◌⊗◌, 
 use Rattle.universe.specs.Universe.{most_axes, longest_side, centre_limit, radius_limit}
 use Rattle.csg.specs.Ball.{Ball, ball_at, ball_count, square, radius_squared, gap, nearest, farthest, off}
 use Rattle.convert.specs.declared.ball.Squares.{Squares}
-use Rattle.convert.specs.Codes.{most_code, centre_unit, paired, tested_code, voxel_code}
+use Rattle.convert.specs.Codes.{most_code, paired, tested_code, voxel_code}
 use Rattle.convert.specs.Codes.{middle_square, squares_along, near_over, far_over, off_over, ball_code}
 use Rattle.convert.specs.Small.{SmallPlace, SmallPlaces, BallCentre, SmallBall, BallReady, gap_limit}
 use Rattle.convert.proofs.BallMarks.{ball_most}
-use Rattle.convert.proofs.Codes.{marks_left}
 
 -- what the machine reads of a number that it holds
 abbrev held : ℤ → ℤ
@@ -50,28 +50,22 @@ either a b most h k = by (leb a b)
     by true = k
     by false = h
 
--- ---- two differences that add up to a length: the greater is not negative, and the other no farther from 0
+-- ---- two differences that add up to a length: the smaller is no farther from 0
 module _ (x : ℤ) (s : ℕ) where
   abbrev y : ℤ
   y = pos s -ℤ x
 
-  pub later_most : x <ℤ y → nat_abs x ≤ nat_abs y
+  later_most : x ≤ℤ y → nat_abs x ≤ nat_abs y
   later_most h =
       one_part x (nat_abs x ≤ nat_abs y)
-      (λ e. omega (arith, nat_abs_parts x, nat_abs_parts y, (is_of (ν s ⊖ ι x)).is, lt_of (ι x) (ν s ⊖ ι x) h))
+      (λ e. omega (arith, nat_abs_parts x, nat_abs_parts y, (is_of (ν s ⊖ ι x)).is, le_of (ι x) (ν s ⊖ ι x) h))
       (λ e. omega (arith, nat_abs_parts x, nat_abs_parts y, (is_of (ν s ⊖ ι x)).is))
 
-  pub earlier_most : y ≤ℤ x → nat_abs y ≤ nat_abs x
+  earlier_most : y <ℤ x → nat_abs y ≤ nat_abs x
   earlier_most h =
       one_part y (nat_abs y ≤ nat_abs x)
-      (λ e. omega (arith, nat_abs_parts x, nat_abs_parts y, (is_of (ν s ⊖ ι x)).is, le_of (ν s ⊖ ι x) (ι x) h))
-      (λ e. omega (arith, nat_abs_parts x, nat_abs_parts y, (is_of (ν s ⊖ ι x)).is, le_of (ν s ⊖ ι x) (ι x) h))
-
-  pub later_positive : x <ℤ y → pos 0 ≤ℤ y
-  later_positive h = le_by (ν 0) (ν s ⊖ ι x) (omega (arith, lt_of (ι x) (ν s ⊖ ι x) h))
-
-  pub earlier_positive : y ≤ℤ x → pos 0 ≤ℤ x
-  earlier_positive h = le_by (ν 0) (ι x) (omega (arith, le_of (ν s ⊖ ι x) (ι x) h))
+      (λ e. omega (arith, nat_abs_parts x, nat_abs_parts y, (is_of (ν s ⊖ ι x)).is, lt_of (ν s ⊖ ι x) (ι x) h))
+      (λ e. omega (arith, nat_abs_parts x, nat_abs_parts y, (is_of (ν s ⊖ ι x)).is, lt_of (ν s ⊖ ι x) (ι x) h))
 
 -- ---- a place and a number, whichever is the greater
 module _ (x : ℕ) (c : ℤ) where
@@ -179,8 +173,8 @@ module _ {b : ℕ} {c : ℤ} (p : SmallPlace b) (k : BallCentre c) where
     after_held : Near (held (to_z w64 s -ℤ held (held c -ℤ to_z w64 b))) (pos s -ℤ here) (longest_side + reach)
     after_held = near_back {x = pos s -ℤ here} after_near tt
 
-    tested : {t : Bool} → lt_z (held (held c -ℤ to_z w64 b)) (held (to_z w64 s -ℤ held (held c -ℤ to_z w64 b))) ≡ t → lt_z here (pos s -ℤ here) ≡ t
-    tested e = sym (ap₂ lt_z before_held.same after_held.same) ∙ e
+    tested : {t : Bool} → lt_z (held (to_z w64 s -ℤ held (held c -ℤ to_z w64 b))) (held (held c -ℤ to_z w64 b)) ≡ t → lt_z (pos s -ℤ here) here ≡ t
+    tested e = sym (ap₂ lt_z after_held.same before_held.same) ∙ e
 
     gap_begin : gap b c ≡ nat_abs here
     gap_begin = ap nat_abs (eq_by (ν b ⊖ ι c) (⊝ (ι c ⊖ ν b)) (omega arith)) ∙ size_neg here
@@ -188,29 +182,20 @@ module _ {b : ℕ} {c : ℤ} (p : SmallPlace b) (k : BallCentre c) where
     gap_end : gap (b + s) c ≡ nat_abs (pos s -ℤ here)
     gap_end = ap nat_abs (eq_by (ν (b + s) ⊖ ι c) (ν s ⊖ (ι c ⊖ ν b)) (omega arith))
 
-    module _ (t : lt_z (held (held c -ℤ to_z w64 b)) (held (to_z w64 s -ℤ held (held c -ℤ to_z w64 b))) ≡ true) where
-      later : here <ℤ (pos s -ℤ here)
-      later = lt_z_true here (pos s -ℤ here) (tested t)
+    far_by : (t : Bool) → lt_z (held (to_z w64 s -ℤ held (held c -ℤ to_z w64 b))) (held (held c -ℤ to_z w64 b)) ≡ t →
+        nat_abs (held (cond t (held (held c -ℤ to_z w64 b)) (held (to_z w64 s -ℤ held (held c -ℤ to_z w64 b))))) ≡ farthest b (b + s) c
+    unfolding farthest
+    far_by true t =
+        let later = earlier_most here s (lt_z_true (pos s -ℤ here) here (tested t)) in
+        ap nat_abs (near_back {x = here} before_held tt).same ∙ sym gap_begin ∙ sym (lower (gap b c) (gap (b + s) c) (omega (arith, gap_begin, gap_end, later)))
+    far_by false t =
+        let later = later_most here s (lt_z_false (pos s -ℤ here) here (tested t)) in
+        ap nat_abs (near_back {x = pos s -ℤ here} after_held tt).same ∙ sym gap_end
+        ∙ sym (upper (gap b c) (gap (b + s) c) (omega (arith, gap_begin, gap_end, later)))
 
-      pub after_cast : T (non_neg (held (to_z w64 s -ℤ held (held c -ℤ to_z w64 b)))) × Fits w64 (nat_abs (held (to_z w64 s -ℤ held (held c -ℤ to_z w64 b))))
-      after_cast = near_unsigned {x = pos s -ℤ here} after_held tt (later_positive here s later)
-
-      pub after_is : nat_abs (held (to_z w64 s -ℤ held (held c -ℤ to_z w64 b))) ≡ farthest b (b + s) c
-      unfolding farthest
-      after_is =
-          ap nat_abs after_held.same ∙ sym gap_end ∙ sym (upper (gap b c) (gap (b + s) c) (omega (arith, gap_begin, gap_end, later_most here s later)))
-
-    module _ (t : lt_z (held (held c -ℤ to_z w64 b)) (held (to_z w64 s -ℤ held (held c -ℤ to_z w64 b))) ≡ false) where
-      earlier : (pos s -ℤ here) ≤ℤ here
-      earlier = lt_z_false here (pos s -ℤ here) (tested t)
-
-      pub before_cast : T (non_neg (held (held c -ℤ to_z w64 b))) × Fits w64 (nat_abs (held (held c -ℤ to_z w64 b)))
-      before_cast = near_unsigned {x = here} before_held tt (earlier_positive here s earlier)
-
-      pub before_is : nat_abs (held (held c -ℤ to_z w64 b)) ≡ farthest b (b + s) c
-      unfolding farthest
-      before_is =
-          ap nat_abs before_held.same ∙ sym gap_begin ∙ sym (lower (gap b c) (gap (b + s) c) (omega (arith, gap_begin, gap_end, earlier_most here s earlier)))
+    -- the greater of the two differences
+    pub farthest_is : {m : ℤ} → m ≡ int_max (held (held c -ℤ to_z w64 b)) (held (to_z w64 s -ℤ held (held c -ℤ to_z w64 b))) → nat_abs (held m) ≡ farthest b (b + s) c
+    farthest_is e = ap (λ (x : ℤ). nat_abs (held x)) e ∙ far_by _ refl
 
     far_few : farthest b (b + s) c ≤ gap_limit
     unfolding farthest
@@ -301,23 +286,8 @@ module _ {b : ℕ} {c : ℤ} (p : SmallPlace b) (k : BallCentre c) where
 
 -- ---- the radius of ball i
 module _ {ball : Ball} (small : SmallBall ball) where
-  radius_near : Near (held ball.radius) ball.radius radius_limit
-  radius_near = near (record { most = small.radius }) tt
-
-  pub radius_cast : T (non_neg (held ball.radius)) × Fits w64 (nat_abs (held ball.radius))
-  radius_cast = near_unsigned {x = ball.radius} radius_near tt small.positive
-
-  radius_same : nat_abs (held ball.radius) ≡ nat_abs ball.radius
-  radius_same = ap nat_abs radius_near.same
-
   radius_few : radius_squared ball ≤ radius_limit * radius_limit
   radius_few = mul-le-mul small.radius small.radius
-
-  pub radius_is : square (nat_abs (held ball.radius)) ≡ radius_squared ball
-  radius_is = ap square radius_same
-
-  pub radius_fits : Fits w64 (square (nat_abs (held ball.radius)))
-  radius_fits = record { fits = omega (arith, radius_is, radius_few) }
 
   pub radius_four : {most : ℕ} → most ≡ radius_squared ball → Fits w64 (4 * most)
   radius_four e = record { fits = omega (arith, radius_few) }
@@ -447,21 +417,6 @@ pub walks_end : {places i : ℕ} {balls : List ℤ} {low high side : List ℕ} {
     codes ≡ paired below above →
     codes ≡ paired (ball_code true places (ball_at balls i) low side) (ball_code true places (ball_at balls i) high side)
 walks_end r r' q w l m e f g = g ∙ ap₂ paired (walk_ends r q w.0 l m e) (walk_ends r' q w.1 l m f)
-
--- above level L the marks' codes alone
-pub marks_of_ball : {k : ℕ} (n : ℕ) (ball : Ball) (low high side : List ℕ) → k ≡ paired (ball_code true n ball low side) (ball_code true n ball high side) →
-    k % centre_unit ≡ paired (ball_code false n ball low side) (ball_code false n ball high side)
-marks_of_ball n ball low high side e =
-    ap (λ (x : ℕ). x % centre_unit) e ∙ marks_left (black low) (white low) (inside low) (black high) (white high) (inside high)
-  where
-    black : List ℕ → Bool
-    black l = leb (far_over n ball l side) (radius_squared ball)
-
-    white : List ℕ → Bool
-    white l = ltb (radius_squared ball) (near_over n ball l side)
-
-    inside : List ℕ → Bool
-    inside l = leb (off_over n ball l) (4 * radius_squared ball)
 
 pub axes_left_lem : {axis places : ℕ} → axis < places → places - (axis + 1) < places - axis
 axes_left_lem h = omega arith

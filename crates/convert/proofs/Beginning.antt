@@ -1,15 +1,14 @@
 -- What is carried of the whole universe. The array of slots holds the rows that the words name; grown along every axis, the values from the point at 0 on are
 -- the extremes over the whole block; and with zeros for amounts judging it is judging the block itself, twice, and going to it is staying.
-use Prim.Native.Nat.{ℕ, zero, suc, ◌+◌, ◌-◌, ◌*◌, ◌%◌, ◌≤◌, ◌<◌}
-use mathlib.Core.Path.{◌≡◌, refl, sym, ap, ap₂, ◌∙◌}
+use Prim.Native.Nat.{ℕ, zero, suc, ◌+◌, ◌*◌, ◌%◌, ◌≤◌, ◌<◌}
+use mathlib.Core.Path.{◌≡◌, ap, ◌∙◌}
 use mathlib.Core.Bool.{Bool, true, false, ◌&&◌}
 use mathlib.Core.List.{List, ◌++◌}
 use native.Mathlib.Omega.{arith}
-use native.Mathlib.Nat.{mul-le-mul_left}
 use borrow.Author.Tests.{leb-true}
 use lib.Dec.{eqb, leb}
 use lib.IntN.{ℤ, pos, ◌+ℤ◌, ◌-ℤ◌, +ℤ_idr}
-use lib.ListN.{length, get_or, drop, replicate, length-append, length-replicate, get_or-append}
+use lib.ListN.{length, get_or, drop, replicate, length-replicate, get_or-append}
 use lib.Seq.{sets}
 use Rattle.lemmas.specs.Sums.{sum, every}
 use Rattle.lemmas.proofs.Sums.{and_left, and_right, sum_cong, sum_zero}
@@ -21,18 +20,15 @@ use Rattle.universe.specs.Refusals.{bad_rows}
 use Rattle.universe.specs.Universe.{most_axes}
 use Rattle.universe.specs.Block.{low_along, length_along}
 use Rattle.universe.proofs.Refusing.{unless_holds}
-use Rattle.universe.proofs.Universes.{accepted}
 use Rattle.universe.proofs.Blocks.{zero_low}
 use Rattle.csg.specs.Halfspace.{Halfspace, least, greatest, row_at, row_count, row_length, most_rows, within_limits, rows_refusal}
 use Rattle.csg.specs.Surfaces.{Surfaces}
 use Rattle.csg.proofs.Halfspace.{axes_of, end_along, added, taken, rise, fall, least_is, greatest_is}
-use Rattle.convert.specs.Small.{SmallPlaces, SmallHalfspace}
-use Rattle.convert.specs.Slots.{rows_named, slots_of, row_in, part_of, least_to, greatest_to, Slotted, Growing, Movable, SmallValue, SmallAmount}
+use Rattle.convert.specs.Slots.{rows_named, slots_of, row_in, part_of, least_to, greatest_to, Slotted, Growing, SmallAmount}
 use Rattle.convert.specs.Slots.{most_slots, no_place, halved_by, Amounts}
 use Rattle.convert.specs.Codes.{bits_of}
 use Rattle.convert.specs.Blocks.{Ready, Standing, Halved, Carried, Judging, trees_of, block_left, whole_sides, judged}
 use Rattle.convert.specs.Shapes.{Laying, Half}
-use Rattle.convert.proofs.Blocks.{side_small}
 use Rattle.convert.proofs.Judging.{small_rows}
 use Rattle.convert.proofs.Slots.{halved_none}
 use Rattle.convert.proofs.Laying.{half_of}

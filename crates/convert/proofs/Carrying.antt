@@ -1,12 +1,12 @@
 -- What is carried across a halving. The amounts of a block's halves are the whole universe's, halved as often as the axis was; with them the extremes over the
 -- block become those over either half (the laws of csg), and both are small, so that nothing overflows.
-use Prim.Native.Nat.{ℕ, zero, suc, ◌+◌, ◌-◌, ◌*◌, ◌/◌, ◌^◌, ◌≤◌, ◌<◌}
+use Prim.Native.Nat.{ℕ, suc, ◌+◌, ◌-◌, ◌*◌, ◌/◌, ◌^◌, ◌≤◌, ◌<◌}
 use mathlib.Core.Path.{◌≡◌, refl, sym, ap, ap₂, ◌∙◌}
 use mathlib.Core.Bool.{Bool, true, false, cond, false≢true}
 use mathlib.Core.List.{List}
 use native.Mathlib.Omega.{arith}
 use native.Mathlib.Nat.{mul-le-mul_left, mul_assoc, div-eq_of_eq-mul_left}
-use native.Mathlib.Decide.{ℕ_discrete, dec_lt, dec_le}
+use native.Mathlib.Decide.{dec_le}
 use borrow.Author.Tests.{eq-eqb, le-leb, lt-ltb}
 use lib.Dec.{eqb}
 use lib.Pow.{pow_pos, pow-add}
@@ -15,15 +15,14 @@ use lib.IntN.{ℤ, pos, nat_abs, ◌+ℤ◌, ◌-ℤ◌, ◌*ℤ◌}
 use lib.ListN.{length, get_or}
 use mir.Syntax.{w64}
 use mir.Val.{to_z, of_z}
-use Rattle.lemmas.specs.Sums.{sum}
 use Rattle.lemmas.proofs.Sums.{sum_add, sum_mono, sum_same}
-use Rattle.lemmas.proofs.Whole.{up, dn, one_part, Is, is_eq, is_nat, is_self, is_add, is_sub, is_mul, ι, ν, ◌⊕◌, ◌⊖◌, eq_by}
+use Rattle.lemmas.proofs.Whole.{up, dn, one_part, Is, is_eq, is_nat, is_self, is_add, is_sub, is_mul}
 use Rattle.lemmas.proofs.Machine.{Near, near, nat_abs_parts}
 use Rattle.universe.specs.declared.Universe.{Universe}
 use Rattle.universe.specs.declared.Block.{Block}
 use Rattle.universe.specs.Universe.{least_axes, most_axes, longest_side, levels, universe_refusal, axis_at, bits_along, halvings, block_side}
 use Rattle.universe.specs.Questions.{side_answer}
-use Rattle.universe.specs.Block.{low_along, length_along, axis_of, low, high}
+use Rattle.universe.specs.Block.{low_along, axis_of, low, high}
 use Rattle.universe.proofs.Blocks.{half_length}
 use Rattle.universe.proofs.Universes.{accepted, bits_few, halvings_most}
 use Rattle.universe.proofs.Questions.{side_is}
@@ -35,17 +34,17 @@ use Rattle.csg.specs.Tree.{surface}
 use Rattle.csg.specs.Tree.{leaf as leafTree}
 use Rattle.csg.specs.Words.{first_halfspace, first_ball, names_halfspace, is_leaf, leaf_of}
 use Rattle.csg.proofs.Words.{among_is, Names, a_halfspace, a_ball, leaf_names, leaf_surface, below_halfspace, above_ball}
-use Rattle.csg.proofs.Halfspace.{axes_of, end_along, added, taken, rise, fall, least_is, greatest_is}
-use Rattle.csg.proofs.Extremes.{above_is, below_is, rise_over, fall_over, least_low, greatest_low, least_high, greatest_high}
+use Rattle.csg.proofs.Halfspace.{end_along, added, taken, rise, fall, least_is, greatest_is}
+use Rattle.csg.proofs.Extremes.{above_is, below_is, least_low, greatest_low, least_high, greatest_high}
 use Rattle.convert.specs.Small.{SmallHalfspace, SmallPlace, SmallPlaces, BallReady}
 use Rattle.convert.specs.Codes.{black_bits, white_bits, with_centres, paired, value_code, ball_code}
-use Rattle.convert.specs.Slots.{part_of, row_in, slots_of, raised, lowered, halved_by, fall_place, rise_place, most_slots, most_amounts}
+use Rattle.convert.specs.Slots.{part_of, row_in, slots_of, raised, lowered, halved_by, fall_place, rise_place, most_slots}
 use Rattle.convert.specs.Slots.{amount_limit, value_limit, SmallValue, SmallAmount, Amounts}
 use Rattle.convert.specs.Blocks.{Ready, Standing, Halved, Carried, Judging, block_left, whole_sides, half_side, halved_sides, high_lows, full_codes}
 use Rattle.convert.proofs.Slots.{stored_length, small_product, halved_at, raised_at, lowered_at}
 use Rattle.convert.proofs.Naming.{slots_few, slots_named}
 use Rattle.convert.proofs.BallCodes.{ball_ready}
-use Rattle.convert.proofs.Blocks.{low_small, side_small, axis_in, axis_few, half_is, side_even, side_set}
+use Rattle.convert.proofs.Blocks.{low_small, side_small, axis_in, axis_few, half_is}
 use Rattle.convert.proofs.Blocks.{lower_is, upper_is, lower_standing, upper_standing}
 use Rattle.convert.proofs.Judging.{small_rows, small_balls, white_codes, black_codes, row_code, ball_code_lem}
 
@@ -155,15 +154,6 @@ module _ {u : Universe} {surfaces : Surfaces} {first second : List ℕ} {left : 
     l : k < length slots
     l = in-slot.0
 
-    pub slot_few : k < most_slots
-    slot_few = omega (arith, in-slot.0, j.least_moves.few)
-
-    pub one_few : one + k < most_amounts
-    one_few = omega (arith, slot_few, j.least_moves.room)
-
-    pub other_few : other + k < most_amounts
-    other_few = omega (arith, slot_few, j.greatest_moves.room)
-
     least_held : Near (held (get_or leasts k (pos 0))) (get_or leasts k (pos 0)) value_limit
     least_held = near (record { most = (j.least_moves.value k l).most }) tt
 
@@ -185,9 +175,6 @@ module _ {u : Universe} {surfaces : Surfaces} {first second : List ℕ} {left : 
 
     small_row : SmallHalfspace (row_in surfaces.rows slots k)
     small_row = rw word_row (small_rows u surfaces.rows j.ready.accepted_rows (w - first_halfspace) word_there)
-
-    pub few_shifts : times < 64
-    few_shifts = j.least_moves.few_times
 
     -- the amounts as the machine shifts them
     abbrev one_by : ℕ

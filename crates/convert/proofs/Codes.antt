@@ -3,11 +3,11 @@
 use mathlib.Core.Path.{◌≡◌, refl, ap, ap₂, ◌∙◌}
 use mathlib.Core.Bool.{Bool, true, false, cond, ◌&&◌}
 use mathlib.Core.List.{List}
-use Prim.Native.Nat.{ℕ, ◌+◌, ◌*◌, ◌%◌, ◌^◌, ◌≤◌, ◌<◌}
+use Prim.Native.Nat.{ℕ, ◌+◌, ◌*◌, ◌^◌, ◌≤◌, ◌<◌}
 use native.Mathlib.Omega.{arith}
 use lib.Bits.{bit_and, bit_or, and_block, or_block, and_lt, or_lt}
 use lib.Dec.{T, lit≤, lit<, eqb, eqb→eq}
-use lib.IntN.{ℤ, pos, ◌+ℤ◌}
+use lib.IntN.{pos, ◌+ℤ◌}
 use lib.Signed.{le_z}
 use Rattle.universe.specs.declared.Universe.{Universe}
 use Rattle.universe.specs.declared.Block.{Block}
@@ -189,9 +189,3 @@ pub tested_most : (p q : Bool) → tested_code p q ≤ white_bit
 tested_most true q = lit≤ tt
 tested_most false true = lit≤ tt
 tested_most false false = lit≤ tt
-
--- the codes of two voxels' marks are what is left of both codes below the colours'
-pub marks_left : (p q r p' q' r' : Bool) →
-    paired (voxel_code (tested_code p q) (tested_code r true)) (voxel_code (tested_code p' q') (tested_code r' true)) % centre_unit
-    ≡ paired (tested_code p q) (tested_code p' q')
-marks_left p q r p' q' r' = omega (arith, tested_most p q, tested_most p' q')

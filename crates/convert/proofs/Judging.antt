@@ -18,16 +18,15 @@ use Rattle.lemmas.proofs.Machine.{nat_abs_parts}
 use Rattle.universe.specs.declared.Universe.{Universe}
 use Rattle.universe.specs.declared.Block.{Block}
 use Rattle.universe.specs.Refusals.{bad_rows}
-use Rattle.universe.specs.Universe.{most_axes, offset_limit, coefficient_limit, centre_limit, radius_limit, levels, block_side}
+use Rattle.universe.specs.Universe.{most_axes, offset_limit, coefficient_limit, centre_limit, radius_limit, levels}
 use Rattle.universe.specs.Block.{low, high}
 use Rattle.universe.specs.Voxel.{Within}
 use Rattle.universe.proofs.Refusing.{unless_holds}
-use Rattle.universe.proofs.Universes.{accepted, side_positive, side_last}
+use Rattle.universe.proofs.Universes.{side_positive, side_last}
 use Rattle.bintree.specs.declared.Colour.{Colour}
 use Rattle.bintree.specs.declared.Colour.TheVariants.{White, Black}
 use Rattle.bintree.specs.Shape.{leaf, halved}
 use Rattle.csg.specs.Halfspace.{Halfspace, Mark, decided, undecided, least, greatest, row_count, row_at, within_limits, rows_refusal, most_rows, row_length}
-use Rattle.csg.specs.Ball.{ball_mark, ball_colour}
 use Rattle.csg.specs.Ball.{Ball, place_axes, most_places, ball_length, most_balls, ball_count, ball_at, radius_within, ball_within, balls_refusal}
 use Rattle.csg.specs.Tree.{white, black, surface, intersection, Tree, plain}
 use Rattle.csg.specs.Tree.{leaf as leafTree}
@@ -41,7 +40,7 @@ use Rattle.csg.proofs.Raw.{examine_decided, examine_undecided, examine_voxel}
 use Rattle.convert.specs.Small.{SmallCoefficient, SmallHalfspace, SmallBall}
 use Rattle.convert.specs.Codes.{white_bit, black_bits, white_bits, with_centres, bits_of, paired, centre_unit, voxel_code}
 use Rattle.convert.specs.Codes.{judged_bits, value_code, ball_code, join_code}
-use Rattle.convert.specs.Blocks.{Ready, Standing, trees_of, block_left, judged, codes_of, full_code, full_codes}
+use Rattle.convert.specs.Blocks.{Standing, trees_of, block_left, judged, codes_of, full_code, full_codes}
 use Rattle.convert.proofs.BallMarks.{ball_over, ball_at_lem}
 use Rattle.convert.proofs.Codes.{pair_of, four_of, code_tree, code_voxels, code_of_marks, code_of_colours}
 
@@ -131,15 +130,6 @@ module _ (u : Universe) (balls : List ℤ) (e : balls_refusal u balls ≡ 0) whe
       ball_small u (ball_at balls i) (every_all (ball_count balls) within_ball (and_right shaped_balls (every (ball_count balls) within_ball) good_balls) i l)
 
 -- ---- a tree is judged by the marks of its surfaces, over a block or, at level L, at its centre
-abbrev marks_of : Surfaces → ℕ → Block → Surface → Mark
-marks_of surfaces zero b s = decided (surface_colour surfaces b.universe s b.low)
-marks_of surfaces (suc n) b s = surface_mark surfaces s b
-
-judged_by : (surfaces : Surfaces) (left : ℕ) (b : Block) (t : Tree) → judged surfaces t left b ≡ mark_by (marks_of surfaces left b) (plain t)
-unfolding judged
-judged_by surfaces zero b t = sym (mark_at surfaces b.universe b.low (plain t))
-judged_by surfaces (suc n) b t = sym (mark_over_lem surfaces b (plain t))
-
 -- so the codes of its leaves over two blocks, joined, are its own; at level L those of the marks and those of the colours above them
 marks_by : (surfaces : Surfaces) (b : Block) (t : Tree) → tree_mark surfaces t b ≡ mark_by (λ s. surface_mark surfaces s b) (plain t)
 marks_by surfaces b t = sym (mark_over_lem surfaces b (plain t))

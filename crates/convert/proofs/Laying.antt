@@ -1,20 +1,20 @@
 -- Laying the halves of a block, by what the calls of a step hand over: what is carried is moved to the block, both halves are judged, each is laid, and what is
 -- carried is moved back. Every law takes what has been handed over as equations with what stood before.
-use Prim.Native.Nat.{ℕ, zero, suc, ◌+◌, ◌-◌, ◌*◌, ◌/◌, ◌%◌, ◌^◌, ◌≤◌, ◌<◌}
-use mathlib.Core.Path.{◌≡◌, refl, sym, ap, ◌∙◌}
+use Prim.Native.Nat.{ℕ, zero, suc, ◌+◌, ◌-◌, ◌/◌, ◌%◌, ◌<◌}
+use mathlib.Core.Path.{◌≡◌, refl, ap, ◌∙◌}
 use mathlib.Core.List.{List}
 use native.Mathlib.Omega.{arith}
 use lib.IntN.{ℤ}
-use lib.ListN.{length, get_or, set, replicate}
+use lib.ListN.{length, get_or, set}
 use Rattle.lemmas.proofs.Stores.{restored}
 use Rattle.universe.specs.declared.Universe.{Universe}
-use Rattle.universe.specs.Universe.{most_axes}
+use Rattle.universe.specs.Universe.{most_axes, most_levels}
 use Rattle.csg.specs.Halfspace.{Mark, decided, undecided}
 use Rattle.bintree.specs.declared.Colour.TheVariants.{White, Black}
 use Rattle.csg.specs.Surfaces.{Surfaces}
 use Rattle.convert.specs.Codes.{bits_of, paired, pair_unit}
 use Rattle.convert.specs.Slots.{slots_of, most_slots, fall_place, rise_place, raised, lowered, halved_by, Movable, Amounts}
-use Rattle.convert.specs.Blocks.{Ready, Standing, Halved, Carried, Judging, trees_of, block_left, whole_sides, turns_left, axis_left}
+use Rattle.convert.specs.Blocks.{Ready, Halved, Carried, Judging, trees_of, block_left, whole_sides, turns_left, axis_left}
 use Rattle.convert.specs.Blocks.{half_side, halved_sides, high_lows, judged, codes_of}
 use Rattle.convert.specs.Shapes.{Laying, Half, Halving}
 use Rattle.convert.proofs.Slots.{lowered_raised, raised_lowered}
@@ -45,9 +45,6 @@ module _ {u : Universe} {surfaces : Surfaces} {first second axes turns : List �
 module _ {u : Universe} {surfaces : Surfaces} {first second axes turns : List ℕ} {left : ℕ} {low side : List ℕ} {leasts greatests : List ℤ} {amounts : List ℕ}
     {one other times at mark slots : ℕ} (h : Half u surfaces first second axes turns left low side leasts greatests amounts one other times at mark)
     (n : slots ≡ length (slots_of first second)) where
-  pub to_asks : Movable leasts amounts one times slots × Movable greatests amounts other times slots
-  to_asks = rw n (h.least_moves, h.greatest_moves)
-
   module _ {low₁ high₁ : List ℤ} (p : low₁ ≡ raised (halved_by times amounts) one slots leasts)
       (q : high₁ ≡ lowered (halved_by times amounts) other slots greatests) where
     gone : Carried u surfaces first second left low low₁ high₁ amounts
@@ -75,6 +72,12 @@ module _ {u : Universe} {surfaces : Surfaces} {first second axes turns : List �
         e.0 ∙ rw (m.0, p) (lowered_raised (halved_by times amounts) one slots leasts (omega (arith, n, h.least_moves.few, h.least_places))),
         e.1 ∙ rw (m.1, q) (raised_lowered (halved_by times amounts) other slots greatests (omega (arith, n, h.least_moves.few, h.greatest_places))),
       )
+
+-- a half that is undecided has a level below it, and an axis across which it is halved
+pub half_room : {u : Universe} {surfaces : Surfaces} {first second axes turns : List ℕ} {left : ℕ} {low side : List ℕ} {leasts greatests : List ℤ}
+    {amounts : List ℕ} {one other times at : ℕ} → Half u surfaces first second axes turns left low side leasts greatests amounts one other times at 0 →
+    (0 < left) × ((left - 1 < most_levels) × (axis_left axes left < most_axes))
+half_room h = let o = half_halving h refl refl refl refl in (omega (arith, o.some), (o.place, o.within))
 
 -- ---- both halves
 -- the two codes of a pair
@@ -111,9 +114,6 @@ judging {low = low} {side = side} {axis = axis} (suc n) o =
 module _ {u : Universe} {surfaces : Surfaces} {first second axes turns : List ℕ} {left : ℕ} {low side : List ℕ} {leasts greatests : List ℤ}
     {amounts : List ℕ} {axis at : ℕ}
     (o : Halving u surfaces first second axes turns left low side leasts greatests amounts axis at) where
-  pub high_asks : (length low ≡ most_axes) × ((axis < most_axes) × (get_or low axis 0 + half_side side axis < 2 ^ 64))
-  high_asks = (o.standing.low_places_lem, (o.within, o.ends))
-
   module _ {high : List ℕ} {fall rise : ℕ} (q : high ≡ high_lows low side axis) (f : fall ≡ fall_place axis) (g : rise ≡ fall + most_slots) where
     rise_is : rise ≡ rise_place axis
     rise_is = g ∙ ap (λ (k : ℕ). k + most_slots) f

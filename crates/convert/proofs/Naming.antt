@@ -1,24 +1,22 @@
 -- The slots of two accepted trees. Reading the words tells that each slot holds a row that is there, and that they are few: each operator takes one shape off,
 -- so that no tree has more leaves than half its words and one. The slot of a word holds its own row.
-use Prim.Native.Nat.{ℕ, zero, suc, ◌+◌, ◌-◌, ◌*◌, ◌≤◌, ◌<◌}
-use mathlib.Core.Path.{◌≡◌, refl, sym, ap, ◌∙◌}
-use mathlib.Core.Bool.{Bool, true, false, cond, false≢true}
+use Prim.Native.Nat.{ℕ, suc, ◌+◌, ◌-◌, ◌*◌, ◌≤◌, ◌<◌}
+use mathlib.Core.Path.{◌≡◌, refl, ap, ◌∙◌}
+use mathlib.Core.Bool.{Bool, true, false, cond}
 use mathlib.Core.List.{List, [], ◌∷◌, ◌++◌}
 use native.Mathlib.Omega.{arith}
 use borrow.Author.Tests.{leb-true, lt-leb}
 use lib.Dec.{leb}
-use lib.IntN.{ℤ}
-use lib.ListN.{length, get_or, drop, replicate, length-append, length-replicate, get_or-append}
-use lib.Seq.{sets, get_or_at}
+use lib.ListN.{length, get_or, drop, length-append, get_or-append}
+use lib.Seq.{get_or_at}
 use Rattle.lemmas.specs.Lists.{Below, none, more}
 use Rattle.lemmas.proofs.Lists.{below_append, below_at}
-use Rattle.lemmas.proofs.Sums.{and_left, and_right}
-use Rattle.lemmas.proofs.Stores.{sets_append, sets_front}
+use Rattle.lemmas.proofs.Sums.{and_right}
 use Rattle.universe.specs.declared.Universe.{Universe}
 use Rattle.csg.specs.Halfspace.{most_rows, row_count}
 use Rattle.csg.specs.Surfaces.{Named, Surfaces, named}
 use Rattle.csg.specs.Tree.{Leaf, Operator}
-use Rattle.csg.specs.Words.{most_words, first_halfspace, names_halfspace, is_operator, is_leaf, tree_refusal, tree_of, fold}
+use Rattle.csg.specs.Words.{first_halfspace, names_halfspace, is_operator, is_leaf, tree_refusal}
 use Rattle.csg.proofs.Words.{among_is, Names, a_halfspace, a_ball, leaf_names, accepted_length, accepted_run}
 use Rattle.csg.proofs.Words.{Reads, reads, left_one, leaf_next, two_pending, join_next}
 use Rattle.convert.specs.Slots.{rows_named, slots_of, most_slots}

@@ -9,7 +9,7 @@ use Rattle.universe.specs.Universe.{levels}
 use Rattle.universe.specs.Block.{whole_block, low, high}
 use Rattle.bintree.specs.declared.Colour.{Colour}
 use Rattle.bintree.specs.declared.Colour.TheVariants.{White, Black}
-use Rattle.bintree.specs.declared.Written.{Written}
+use Rattle.bintree.specs.Told.{WrittenAnswer}
 use Rattle.bintree.specs.Shape.{Shape, halved, symbols}
 use Rattle.bintree.specs.Merging.{merged}
 use Rattle.csg.specs.Halfspace.{Mark, decided, undecided}
@@ -96,7 +96,7 @@ module _ (u : Universe) (surfaces : Surfaces) (words : List ℕ) where
   merged_written = ap (λ s. symbols (merged s)) raw_same
 
   -- the answer and the room of two trees, the second of which is BLACK, are those of one
-  module _ (out : List ℕ) {r : Written} {now : List ℕ} where
+  module _ (out : List ℕ) {r : WrittenAnswer} {now : List ℕ} where
     pub raw_ends : Ends out (written_of_two false u surfaces words black_words) (two_trees_refusal u surfaces words black_words) r now →
         (r ≡ raw_of_one_answer u surfaces words out) × (now ≡ raw_of_one_buffer u surfaces words out)
     unfolding raw_of_one_answer raw_of_one_buffer

@@ -5,17 +5,16 @@ use mathlib.Core.Path.{◌≡◌, refl, sym, ap, ◌∙◌}
 use mathlib.Core.Bool.{Bool, true, false, cond}
 use mathlib.Core.List.{List}
 use native.Mathlib.Omega.{arith}
-use borrow.Author.Rules.{rules}
 use lib.IntN.{ℤ}
 use Rattle.universe.specs.declared.Universe.{Universe}
 use Rattle.bintree.specs.declared.Colour.TheVariants.{White, Black}
 use Rattle.bintree.specs.Shape.{Shape, leaf, halved, size}
-use Rattle.bintree.specs.Walks.{leaf_symbol, is_alike, joined_halves, laid}
+use Rattle.bintree.specs.Walks.{leaf_symbol, joined_halves, laid}
 use Rattle.bintree.proofs.Lays.{leaf_laid, apart_laid}
 use Rattle.csg.specs.Surfaces.{Surfaces}
 use Rattle.convert.specs.declared.lay.Piece.{Piece}
 use Rattle.convert.specs.Codes.{bits_of}
-use Rattle.convert.specs.Blocks.{Ready, trees_of, block_left, half_side, halved_sides, high_lows, judged}
+use Rattle.convert.specs.Blocks.{Ready, trees_of, block_left, halved_sides, high_lows, judged}
 use Rattle.convert.specs.Shapes.{shape_of, shaped, laid_shape, symbol_of_bits, piece_of, is_one, joined_piece, joined_room}
 use Rattle.convert.specs.Shapes.{held_unit, end_limit, packed, unpacked, Laying, Halving}
 use Rattle.convert.proofs.Shapes.{shaped_leaf, shaped_size, shaped_one, shaped_apart, closed}
@@ -34,14 +33,6 @@ pub unpacked_is : (at : ℕ) (s : Shape) {number : ℕ} {piece : Piece} → numb
 unpacked_is at s e f = f ∙ rw e (piece_eq (omega (arith, held_byte s)) (omega (arith, held_byte s)))
 
 -- ---- two pieces joined, by the test of what was held back of them
-pub one_merging : (m : Bool) (x y : ℕ) {f : Bool} → m ≡ true → f ≡ is_alike x y → f ≡ is_one m x y
-unfolding is_one
-one_merging m x y t e = e ∙ rw t
-
-pub one_raw : (m : Bool) (x y : ℕ) → m ≡ false → false ≡ is_one m x y
-unfolding is_one
-one_raw m x y t = rw t
-
 module _ (m : Bool) (out : List ℕ) (at : ℕ) (below above : Piece) {f : Bool} (e : f ≡ is_one m below.held above.held) where
   pub joined_one : f ≡ true →
       (◌≡◌ {A = Piece} (record { held = below.held; end = at + 1 }) (joined_piece m at below above)) × (out ≡ joined_room m out at below above)
@@ -52,8 +43,6 @@ module _ (m : Bool) (out : List ℕ) (at : ℕ) (below above : Piece) {f : Bool}
       (◌≡◌ {A = Piece} (record { held = 0; end = above.end }) (joined_piece m at below above)) × (now ≡ joined_room m out at below above)
   unfolding joined_piece joined_room
   joined_apart t g = rw (sym e ∙ t) (refl, g)
-
-pub ruleset one_laws = (rules, one_merging, one_raw)
 
 -- ---- a block that is judged BLACK or WHITE is held back
 pub piece_closed : {u : Universe} {surfaces : Surfaces} {first second : List ℕ} → Ready u surfaces first second →

@@ -8,27 +8,26 @@ use native.Mathlib.Omega.{arith}
 use native.Mathlib.Nat.{le_refl, le_trans, mul-le-mul, zero-div, div-one}
 use native.Mathlib.Numerals.{add-one}
 use native.Mathlib.Decide.{ℕ_discrete, dec_lt}
-use lib.Dec.{T, lit≤, leb}
+use lib.Dec.{leb}
 use borrow.Author.Tests.{leb-true}
 use lib.IntN.{ℤ, pos, neg_ℤ, nat_abs, ◌+ℤ◌, ◌-ℤ◌}
 use lib.ListN.{length, get_or, set, take, drop, replicate, length-replicate, length-set, length-append, take-append-drop}
-use lib.Signed.{le_z, lt_z, non_neg}
+use lib.Signed.{le_z}
 use lib.Seq.{sets, get_or-set_same, get_or-set_other, ext_get_or, take-suc, take_all}
 use mir.Syntax.{w64}
-use mir.Val.{Fits, SFits, to_z, of_z}
-use Rattle.lemmas.proofs.Machine.{Near, near, near_lit, near_nat, near_as, near_add, near_sub, near_back, near_cast, near_fits, near_unsigned}
+use mir.Val.{SFits, to_z, of_z}
+use Rattle.lemmas.proofs.Machine.{Near, near, near_nat, near_add, near_sub, near_back, near_cast, near_fits}
 use Rattle.lemmas.proofs.Machine.{size_add, size_neg}
 use Rattle.lemmas.proofs.Sums.{and_right}
 use Rattle.lemmas.proofs.Stores.{sets_append}
-use Rattle.lemmas.proofs.Whole.{ι, ν, ◌⊕◌, ◌⊖◌, eq_by, le_by, lt_z_true, lt_z_false, le_le_z, lt_le_z, negative_size}
+use Rattle.lemmas.proofs.Whole.{ι, ν, ◌⊕◌, ◌⊖◌, eq_by}
 use Rattle.universe.specs.Universe.{most_axes, offset_limit, coefficient_limit}
 use Rattle.universe.proofs.Blocks.{zero_low}
-use Rattle.csg.specs.Halfspace.{Halfspace, most_rows, row_count, row_length}
+use Rattle.csg.specs.Halfspace.{Halfspace, most_rows, row_length}
 use Rattle.csg.specs.Words.{is_operator, names_halfspace, first_halfspace}
 use Rattle.csg.proofs.Words.{among_is}
-use Rattle.convert.proofs.Codes.{tested_most}
 use Rattle.convert.specs.Small.{SmallCoefficient, SmallPlace, SmallPlaces, SmallHalfspace}
-use Rattle.convert.specs.Codes.{white_bit, paired, centre_unit, tested_code, mark_by_values, colour_by_values, value_code}
+use Rattle.convert.specs.Codes.{paired, centre_unit, mark_by_values, colour_by_values, value_code}
 use Rattle.convert.specs.Slots.{stored, raised, lowered, halved_by, rows_named, most_slots, most_amounts, part_of}
 use Rattle.convert.specs.Slots.{amount_limit, value_limit, SmallValue, SmallAmount, Movable, Slotted, row_in, least_to, greatest_to, Growing}
 use Rattle.convert.specs.Slots.{offsets_in, amounts_in, fall_place, rise_place, no_place}
@@ -72,9 +71,6 @@ module _ {A : Type 0} {f : ℕ → A} {from count : ℕ} {before : List A} where
   storing_start = record { reached = omega arith; now_is = refl }
 
   module _ {now : List A} {i : ℕ} (s : Storing f from count before now i) where
-    pub storing_long : length now ≡ length before
-    storing_long = ap length s.now_is ∙ stored_length f from i before
-
     pub storing_next : i < count → {x : A} → x ≡ f i → Storing f from count before (set now (from + i) x) (i + 1)
     unfolding stored
     storing_next l e = record { reached = omega arith; now_is = rw (e, s.now_is, add-one) }
@@ -102,37 +98,12 @@ sum_near {x} {a} s t = near_add {x = x} {y = pos a} (value_near s) (amount_near 
 rest_near : {x : ℤ} {a : ℕ} → SmallValue x → SmallAmount a → Near (held x -ℤ to_z w64 a) (x -ℤ pos a) (value_limit + amount_limit)
 rest_near {x} {a} s t = near_sub {x = x} {y = pos a} (value_near s) (amount_near t)
 
--- ---- the code by two values, as the machine computes it
-module _ {l g : ℤ} (s : SmallValue l) (t : SmallValue g) where
-  both_near : Near (held l +ℤ held g) (l +ℤ g) (value_limit + value_limit)
-  both_near = near_add {x = l} {y = g} (value_near s) (value_near t)
-
-  pub both_fits : SFits w64 (held l +ℤ held g)
-  both_fits = near_fits {x = l +ℤ g} both_near tt
-
-  pub mark_by_lem : {r : ℕ} → r ≡ tested_code (le_z (pos 0) (held l)) (le_z (held g) (pos 0)) → (r ≡ mark_by_values l g) × (r ≤ white_bit)
-  mark_by_lem e =
-      (e ∙ rw ((value_near s).same, (value_near t).same), rw e (tested_most (le_z (pos 0) (held l)) (le_z (held g) (pos 0))))
-
-  pub colour_by : {r : ℕ} → r ≡ tested_code (le_z (pos 0) (held (held l +ℤ held g))) true → (r ≡ colour_by_values l g) × (r ≤ white_bit)
-  colour_by e =
-      (e ∙ rw (near_back {x = l +ℤ g} both_near tt).same, rw e (tested_most (le_z (pos 0) (held (held l +ℤ held g))) true))
-
-pub moved_up_fits : {l : ℤ} {a : ℕ} → SmallValue l → SmallAmount a → SFits w64 (held l +ℤ to_z w64 a)
-moved_up_fits {l} {a} s t = near_fits {x = l +ℤ pos a} (sum_near s t) tt
-
-pub moved_down_fits : {g : ℤ} {a : ℕ} → SmallValue g → SmallAmount a → SFits w64 (held g -ℤ to_z w64 a)
-moved_down_fits {g} {a} s t = near_fits {x = g -ℤ pos a} (rest_near s t) tt
-
 module _ {l g : ℤ} {a o : ℕ} (s : SmallValue l) (t : SmallValue g) (p : SmallAmount a) (q : SmallAmount o) where
   up_is : held (held l +ℤ to_z w64 a) ≡ l +ℤ pos a
   up_is = (near_back {x = l +ℤ pos a} (sum_near s p) tt).same
 
   down_is : held (held g -ℤ to_z w64 o) ≡ g -ℤ pos o
   down_is = (near_back {x = g -ℤ pos o} (rest_near t q) tt).same
-
-  pub moved_asks : SmallValue (l +ℤ pos a) × SmallValue (g -ℤ pos o) → SmallValue (held (held l +ℤ to_z w64 a)) × SmallValue (held (held g -ℤ to_z w64 o))
-  moved_asks m = rw (up_is, down_is) m
 
   pub moved_mark : mark_by_values (held (held l +ℤ to_z w64 a)) (held (held g -ℤ to_z w64 o)) ≡ mark_by_values (l +ℤ pos a) (g -ℤ pos o)
   moved_mark = ap₂ mark_by_values up_is down_is
@@ -299,12 +270,6 @@ module _ {words : List ℕ} {from : ℕ} {before slots : List ℕ} {slot i : ℕ
       slot < most_slots
   naming_room r l e t = omega (arith, r, n.slot_is, named_place words i l (sym e ∙ t))
 
-  pub naming_least : {b : Bool} → b ≡ names_halfspace (get_or words i 0) → b ≡ true → first_halfspace ≤ get_or words i 0
-  naming_least e t = (among_is first_halfspace most_rows (get_or words i 0) (sym e ∙ t)).0
-
-  pub naming_most : {b : Bool} → b ≡ names_halfspace (get_or words i 0) → b ≡ true → get_or words i 0 < first_halfspace + most_rows
-  naming_most e t = (among_is first_halfspace most_rows (get_or words i 0) (sym e ∙ t)).1
-
   pub naming_one : i < length words → {b : Bool} → b ≡ names_halfspace (get_or words i 0) → b ≡ true →
       Naming words from before (set slots slot (get_or words i 0 - first_halfspace)) (slot + 1) (i + 1)
   naming_one l e t =
@@ -323,42 +288,6 @@ module _ {words : List ℕ} {from : ℕ} {before slots : List ℕ} {slot i : ℕ
   naming_end l =
       let e : named_by words i ≡ rows_named words = ap rows_named (take_all i words l) in
       (rw (← e) n.slot_is, rw (← e) n.now_is)
-
--- ---- the parts of a coefficient, as the machine computes them
-module _ {a : ℤ} (small : SmallCoefficient a) where
-  coefficient_near : Near (held a) a coefficient_limit
-  coefficient_near = near (record { most = small.most }) tt
-
-  below_zero : lt_z (held a) (pos 0) ≡ true → le_z (pos 0) a ≡ false
-  below_zero e = lt_le_z (lt_z_true a (pos 0) (rw coefficient_near.same at e))
-
-  not_below : lt_z (held a) (pos 0) ≡ false → le_z (pos 0) a ≡ true
-  not_below e = le_le_z (lt_z_false a (pos 0) (rw coefficient_near.same at e))
-
-  size_near : lt_z (held a) (pos 0) ≡ true → Near (pos 0 -ℤ held a) (pos (nat_abs a)) coefficient_limit
-  size_near e =
-      near_as {x = pos 0 -ℤ a} (near_sub {x = pos 0} {y = a} (near_lit (pos 0)) coefficient_near) (negative_size a (rw coefficient_near.same at e)) (lit≤ tt)
-
-  pub size_fits : lt_z (held a) (pos 0) ≡ true → SFits w64 (pos 0 -ℤ held a)
-  size_fits e = near_fits {x = pos (nat_abs a)} (size_near e) tt
-
-  pub size_cast : lt_z (held a) (pos 0) ≡ true → T (non_neg (held (pos 0 -ℤ held a))) × Fits w64 (nat_abs (held (pos 0 -ℤ held a)))
-  size_cast e = near_unsigned {x = pos (nat_abs a)} (near_back {x = pos (nat_abs a)} (size_near e) tt) tt (le_by (ν 0) (ν (nat_abs a)) (omega arith))
-
-  pub kept_cast : lt_z (held a) (pos 0) ≡ false → T (non_neg (held a)) × Fits w64 (nat_abs (held a))
-  kept_cast e = near_unsigned {x = a} coefficient_near tt (lt_z_false a (pos 0) (rw coefficient_near.same at e))
-
-  pub none_above : {above : Bool} → lt_z (held a) (pos 0) ≡ true → above ≡ true → 0 ≡ part_of above a
-  none_above e t = rw (t, below_zero e)
-
-  pub size_below : {above : Bool} → lt_z (held a) (pos 0) ≡ true → above ≡ false → nat_abs (held (pos 0 -ℤ held a)) ≡ part_of above a
-  size_below e t = rw (t, below_zero e) (ap nat_abs (near_back {x = pos (nat_abs a)} (size_near e) tt).same)
-
-  pub size_above : {above : Bool} → lt_z (held a) (pos 0) ≡ false → above ≡ true → nat_abs (held a) ≡ part_of above a
-  size_above e t = rw (t, not_below e) (ap nat_abs coefficient_near.same)
-
-  pub none_below : {above : Bool} → lt_z (held a) (pos 0) ≡ false → above ≡ false → 0 ≡ part_of above a
-  none_below e t = rw (t, not_below e)
 
 -- ---- a part of a small coefficient times a side
 pub part_most : (above : Bool) (a : ℤ) → part_of above a ≤ nat_abs a
@@ -383,13 +312,6 @@ module _ {rows : List ℤ} {slots : List ℕ} {count : ℕ} (s : Slotted rows sl
   module _ (axis : ℕ) (w : axis < most_axes) where
     pub coefficient_held : held ((row_in rows slots i).coefficient axis) ≡ (row_in rows slots i).coefficient axis
     coefficient_held = (near {b = coefficient_limit} (record { most = ((s.small i l).coefficient axis w).most }) tt).same
-
-  -- where a row's numbers stand
-  pub row_place : get_or slots i 0 < row_count rows
-  row_place = s.named i l
-
-  pub row_few : get_or slots i 0 < most_rows
-  row_few = omega (arith, s.named i l, s.few_rows)
 
 -- the next offset, and the next amount
 pub next_offset : {rows : List ℤ} {slots : List ℕ} {count : ℕ} → Slotted rows slots count → {before values : List ℤ} {i : ℕ} →

@@ -7,7 +7,7 @@ use Rattle.universe.specs.Universe.{universe_refusal}
 use Rattle.universe.specs.Voxel.{window_refusal}
 use Rattle.bintree.specs.declared.Verdict.{Verdict}
 use Rattle.bintree.specs.declared.Verdict.TheVariants.{Clear}
-use Rattle.bintree.specs.declared.Written.{Written}
+use Rattle.bintree.specs.Told.{WrittenAnswer}
 use Rattle.bintree.specs.Shape.{symbols}
 use Rattle.bintree.specs.Merging.{merged}
 use Rattle.bintree.specs.Verdicts.{verdict}
@@ -17,7 +17,7 @@ use Rattle.csg.specs.Ball.{balls_refusal}
 use Rattle.csg.specs.Surfaces.{Surfaces, named}
 use Rattle.csg.specs.Words.{tree_refusal, tree_of}
 use Rattle.csg.specs.Raw.{raw}
-use Rattle.convert.specs.declared.verdict.Clearance.{Clearance}
+use Rattle.convert.specs.Told.{ClearanceAnswer}
 use Rattle.convert.specs.Blocks.{trees_of}
 use Rattle.convert.specs.Shapes.{shaped}
 
@@ -64,13 +64,13 @@ unfoldable pub written_of_two : Bool → Universe → Surfaces → List ℕ → 
 written_of_two merging u surfaces first second = symbols (shaped merging (raw u surfaces (trees_of surfaces first second)))
 
 -- rules 8.3 and 8.4: what a conversion answers, and what it leaves of the room lent
-unfoldable pub raw_of_one_answer : Universe → Surfaces → List ℕ → List ℕ → Written
+unfoldable pub raw_of_one_answer : Universe → Surfaces → List ℕ → List ℕ → WrittenAnswer
 raw_of_one_answer u surfaces words out = written_answer (one_tree_refusal u surfaces words) out (raw_of_one u surfaces words)
 
 unfoldable pub raw_of_one_buffer : Universe → Surfaces → List ℕ → List ℕ → List ℕ
 raw_of_one_buffer u surfaces words out = written_buffer (one_tree_refusal u surfaces words) out (raw_of_one u surfaces words)
 
-unfoldable pub merged_of_one_answer : Universe → Surfaces → List ℕ → List ℕ → Written
+unfoldable pub merged_of_one_answer : Universe → Surfaces → List ℕ → List ℕ → WrittenAnswer
 merged_of_one_answer u surfaces words out =
     written_answer (one_tree_refusal u surfaces words) out (merged_of_one u surfaces words)
 
@@ -78,7 +78,7 @@ unfoldable pub merged_of_one_buffer : Universe → Surfaces → List ℕ → Lis
 merged_of_one_buffer u surfaces words out =
     written_buffer (one_tree_refusal u surfaces words) out (merged_of_one u surfaces words)
 
-unfoldable pub raw_of_two_answer : Universe → Surfaces → List ℕ → List ℕ → List ℕ → Written
+unfoldable pub raw_of_two_answer : Universe → Surfaces → List ℕ → List ℕ → List ℕ → WrittenAnswer
 raw_of_two_answer u surfaces first second out =
     written_answer (two_trees_refusal u surfaces first second) out (raw_of_two u surfaces first second)
 
@@ -86,7 +86,7 @@ unfoldable pub raw_of_two_buffer : Universe → Surfaces → List ℕ → List �
 raw_of_two_buffer u surfaces first second out =
     written_buffer (two_trees_refusal u surfaces first second) out (raw_of_two u surfaces first second)
 
-unfoldable pub merged_of_two_answer : Universe → Surfaces → List ℕ → List ℕ → List ℕ → Written
+unfoldable pub merged_of_two_answer : Universe → Surfaces → List ℕ → List ℕ → List ℕ → WrittenAnswer
 merged_of_two_answer u surfaces first second out =
     written_answer (two_trees_refusal u surfaces first second) out (merged_of_two u surfaces first second)
 
@@ -102,20 +102,20 @@ abbrev pub clearance_refusal : Universe → Surfaces → List ℕ → List ℕ �
 clearance_refusal u surfaces first second from to = first_refusal (clearance_checks u surfaces first second from to)
 
 -- a verdict is refused, and then Clear (rule 8.3), or done; the length is the raw expression's, needed on 6
-abbrev pub refused_clearance : ℕ → ℕ → Clearance
+abbrev pub refused_clearance : ℕ → ℕ → ClearanceAnswer
 refused_clearance number length = record { refusal = number; verdict = Clear; length = length }
 
-abbrev pub done_clearance : Verdict → ℕ → Clearance
+abbrev pub done_clearance : Verdict → ℕ → ClearanceAnswer
 done_clearance v length = record { refusal = 0; verdict = v; length = length }
 
 -- the verdict on what was written, where it was
-abbrev pub clearance_of : Written → Verdict → Clearance
+abbrev pub clearance_of : WrittenAnswer → Verdict → ClearanceAnswer
 clearance_of written v =
     cond (eqb written.refusal 0)
     (done_clearance v written.length)
     (refused_clearance written.refusal written.length)
 
-unfoldable pub clearance_answer : Universe → Surfaces → List ℕ → List ℕ → ℕ → ℕ → List ℕ → Clearance
+unfoldable pub clearance_answer : Universe → Surfaces → List ℕ → List ℕ → ℕ → ℕ → List ℕ → ClearanceAnswer
 clearance_answer u surfaces first second from to out =
     clearance_of
     (written_answer (clearance_refusal u surfaces first second from to) out (raw_of_two u surfaces first second))

@@ -4,4 +4,5 @@ pub mod Slots
 pub mod Codes
 pub mod Blocks
 pub mod Shapes
+pub mod Told
 pub mod Answers

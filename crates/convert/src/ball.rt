@@ -29,20 +29,7 @@ fn farthest(begin: u64, length: u64, centre: i64) -> u64
 {
     let before = centre - begin as i64;
     let after = length as i64 - before;
-    if before < after {
-        return after as u64;
-    }
-    before as u64
-}
-
-// How far its nearest point is: nearer by its length than the farthest, and 0 within it.
-fn nearest(far: u64, length: u64) -> u64
-    ensures { result ≡ far - length }
-{
-    if length < far {
-        return far - length;
-    }
-    0
+    before.max(after) as u64
 }
 
 // The square of the distance to the centre of the voxel that begins at a place, less a quarter.
@@ -63,7 +50,8 @@ fn squares_along(begin: u64, length: u64, centre: i64) -> Squares
     ensures { result ≡ squares_along begin length centre }
 {
     let far = farthest(begin, length, centre);
-    let near = nearest(far, length);
+    // The nearest point is nearer by the block's length than the farthest, and the distance 0 within the block.
+    let near = far.saturating_sub(length);
     Squares {
         near: near * near,
         far: far * far,
@@ -80,9 +68,10 @@ fn squares_beside(here: u64, squares: Squares, other: u64, length: u64, centre: 
     ensures { result ≡ squares_along other length centre }
 {
     if other == here {
-        return squares;
+        squares
+    } else {
+        squares_along(other, length, centre)
     }
-    squares_along(other, length, centre)
 }
 
 // The radius of ball i, squared.
@@ -132,8 +121,7 @@ fn codes_of_voxels(
     let mut high_near: u64 = 0;
     let mut high_far: u64 = 0;
     let mut high_middle: u64 = 0;
-    let mut axis: usize = 0;
-    while axis < places {
+    for axis in 0..places {
         let centre = balls[first + axis];
         let below = squares_along(low[axis], side[axis], centre);
         let above = squares_beside(low[axis], below, high[axis], side[axis], centre);
@@ -143,7 +131,6 @@ fn codes_of_voxels(
         high_near += above.near;
         high_far += above.far;
         high_middle += above.middle;
-        axis += 1;
     }
     // Four times the square to a centre is one more along each axis than what was added up.
     let most = radius_squared(balls, i);
@@ -179,8 +166,10 @@ pub(crate) fn codes_of_ball(
         result ≡ paired below above }
 {
     let places = axes - 1;
+    // Two calls, so that the compiler leaves what is of the centres out of the second.
     if centre {
-        return codes_of_voxels(places, balls, i, low, high, side);
+        codes_of_voxels(places, balls, i, low, high, side)
+    } else {
+        codes_of_voxels(places, balls, i, low, high, side) % CENTRE_UNIT
     }
-    codes_of_voxels(places, balls, i, low, high, side) % CENTRE_UNIT
 }

@@ -7,6 +7,7 @@ ghost use Rattle.convert.specs.Blocks.{whole_sides, Halved};
 use universe::Universe;
 
 // The sides of the whole universe; 0 along an axis that it lacks.
+#[tactic(auto, unfolding(lemmas::specs::Grid::listed))]
 pub(crate) fn whole_sides(universe: Universe) -> [u64; Universe::MOST_AXES as usize]
     ensures { result ≡ whole_sides universe }
 {
@@ -29,8 +30,8 @@ pub(crate) fn high_lows(
     requires half_bound { get_or low.now axis 0 + half < 2 ^ 64 }
     ensures { result ≡ set low.now axis (get_or low.now axis 0 + half) }
 {
-    let mut high = [low[0], low[1], low[2], low[3]];
-    high[axis] = low[axis] + half;
+    let mut high = *low;
+    high[axis] += half;
     high
 }
 
@@ -45,12 +46,10 @@ pub(crate) fn turns_left(
 {
     let mut turns = [0u64; Universe::MOST_LEVELS as usize];
     let mut counts = [0u64; Universe::MOST_AXES as usize];
-    let mut left = universe.levels();
-    while 0 < left {
-        left -= 1;
-        let axis = axes[left as usize];
-        counts[axis] = counts[axis] + 1;
-        turns[left as usize] = counts[axis];
+    for left in (0..universe.levels() as usize).rev() {
+        let axis = axes[left];
+        counts[axis] += 1;
+        turns[left] = counts[axis];
     }
     turns
 }

@@ -46,11 +46,9 @@ pub(crate) fn move_to(
     ensures greatest_after { let amounts = halved_by times amounts.entry.now in
         greatest.new ≡ lowered amounts other count greatest.old }
 {
-    let mut i: usize = 0;
-    while i < count {
-        least[i] = least[i] + (amounts[one + i] >> times) as i64;
-        greatest[i] = greatest[i] - (amounts[other + i] >> times) as i64;
-        i += 1;
+    for i in 0..count {
+        least[i] += (amounts[one + i] >> times) as i64;
+        greatest[i] -= (amounts[other + i] >> times) as i64;
     }
 }
 
@@ -71,12 +69,7 @@ pub(crate) fn move_back(
     ensures greatest_after { let amounts = halved_by times amounts.entry.now in
         greatest.new ≡ raised amounts other count greatest.old }
 {
-    let mut i: usize = 0;
-    while i < count {
-        least[i] = least[i] - (amounts[one + i] >> times) as i64;
-        greatest[i] = greatest[i] + (amounts[other + i] >> times) as i64;
-        i += 1;
-    }
+    move_to(greatest, least, amounts, other, one, times, count);
 }
 
 // One part of a coefficient: that above 0, or the size of that below.
@@ -84,26 +77,19 @@ fn part_of(above: bool, coefficient: i64) -> u64
     requires { SmallCoefficient coefficient }
     ensures { result ≡ part_of above coefficient }
 {
-    if coefficient < 0 {
-        if above {
-            return 0;
-        }
-        return (0 - coefficient) as u64;
-    }
-    if above {
-        return coefficient as u64;
-    }
-    0
+    let part = if above {
+        coefficient.max(0)
+    } else {
+        coefficient.min(0)
+    };
+    part.unsigned_abs()
 }
 
 // Whether a word names a halfspace.
 pub(crate) fn names_halfspace(word: u16) -> bool
     ensures { result ≡ names_halfspace word }
 {
-    if word < csg::FIRST_HALFSPACE {
-        return false;
-    }
-    word < csg::FIRST_BALL
+    csg::FIRST_HALFSPACE <= word && word < csg::FIRST_BALL
 }
 
 // The rows that a tree's words name, set into slots from one on; and the slot after them.
@@ -113,14 +99,11 @@ pub(crate) fn name_rows(words: &[u16], from: usize, slots: &mut [usize; MOST_SLO
     ensures slots_after { slots.new ≡ sets slots.old from (rows_named words.now) }
 {
     let mut slot = from;
-    let mut i: usize = 0;
-    while i < words.len() {
-        let word = words[i];
+    for &word in words {
         if names_halfspace(word) {
             slots[slot] = (word - csg::FIRST_HALFSPACE) as usize;
             slot += 1;
         }
-        i += 1;
     }
     slot
 }
@@ -136,10 +119,8 @@ fn set_offsets(
     ensures { let rows = rows.entry.now in
         values.new ≡ offsets_in rows slots.now count values.old }
 {
-    let mut i: usize = 0;
-    while i < count {
+    for i in 0..count {
         values[i] = rows[csg::ROW_LENGTH * slots[i]];
-        i += 1;
     }
 }
 
@@ -162,11 +143,9 @@ fn set_amounts(
         amounts.new
         ≡ amounts_in rows slots.now above axis side from count amounts.old }
 {
-    let mut i: usize = 0;
-    while i < count {
+    for i in 0..count {
         let coefficient = rows[csg::ROW_LENGTH * slots[i] + (axis + 1)];
         amounts[from + i] = part_of(above, coefficient) * side;
-        i += 1;
     }
 }
 
@@ -219,9 +198,7 @@ pub(crate) fn begin(
 {
     set_offsets(rows, slots, count, least);
     set_offsets(rows, slots, count, greatest);
-    let mut axis: usize = 0;
-    while axis < axes {
+    for axis in 0..axes {
         grow(rows, slots, count, axis, side, least, greatest, amounts);
-        axis += 1;
     }
 }

@@ -1,6 +1,7 @@
 // The conversions: the checks, then the expression of two trees intersected, raw or merged.
 ghost use Rattle.std.specs.Prelude.{◌≡◌};
 ghost use Rattle.bintree.specs.Answers.{written_answer, written_buffer};
+ghost use Rattle.bintree.specs.Told.{writing_told};
 ghost use Rattle.csg.specs.Surfaces.{surfaces_of};
 ghost use Rattle.convert.specs.Blocks.{Ready};
 ghost use Rattle.convert.specs.Answers.{
@@ -17,10 +18,9 @@ ghost use Rattle.convert.specs.Answers.{
 };
 
 use crate::lay::write_whole;
-use crate::scene::{checked, room_of};
+use crate::scene::{check_scene, room_of};
 use crate::scratch::{SHORT, long, short};
-use bintree::Written;
-use universe::Universe;
+use universe::{Universe, Unwritten};
 
 // The expression of two trees that no check refuses. Room that is as large as the room formula says suffices.
 pub(crate) fn written_of_two(
@@ -31,18 +31,18 @@ pub(crate) fn written_of_two(
     second: &[u16],
     merging: bool,
     out: &mut [u8],
-) -> Written
+) -> Result<u64, Unwritten>
     requires { Ready universe (surfaces_of rows.now balls.now) first.now second.now }
     ensures result_value { let surfaces = surfaces_of rows.now balls.now in
         let written = written_of_two merging universe surfaces first.now second.now in
-        result ≡ written_answer 0 out.old written }
+        writing_told result ≡ written_answer 0 out.old written }
     ensures out_after { let surfaces = surfaces_of rows.now balls.now in
         let written = written_of_two merging universe surfaces first.now second.now in
         out.new ≡ written_buffer 0 out.old written }
 {
     if room_of(universe, first, second) <= out.len() as u64 {
         let length = write_whole(universe, rows, balls, first, second, merging, out);
-        return Written::done(length as u64);
+        return Ok(length as u64);
     }
     if out.len() <= SHORT {
         return short(universe, rows, balls, first, second, merging, out);
@@ -59,12 +59,12 @@ fn of_two(
     second: &[u16],
     merging: bool,
     out: &mut [u8],
-) -> Written
+) -> Result<u64, Unwritten>
     ensures result_value { let surfaces = surfaces_of rows.now balls.now in
         let first = first.entry.now in
         let second = second.entry.now in
         let written = written_of_two merging universe surfaces first second in
-        result ≡ written_answer (two_trees_refusal universe surfaces first second) out.old written }
+        writing_told result ≡ written_answer (two_trees_refusal universe surfaces first second) out.old written }
     ensures out_after { let surfaces = surfaces_of rows.now balls.now in
         let first = first.entry.now in
         let second = second.entry.now in
@@ -72,14 +72,12 @@ fn of_two(
         out.new
         ≡ written_buffer (two_trees_refusal universe surfaces first second) out.old written }
 {
-    let refusal = checked(universe, rows, balls, first, second);
-    if refusal != 0 {
-        return Written::refused(refusal);
-    }
+    check_scene(universe, rows, balls, first, second)?;
     written_of_two(universe, rows, balls, first, second, merging, out)
 }
 
 // The raw expression of two trees intersected. Room that is as large as the room formula says suffices.
+#[tactic(auto, unfolding(crate::specs::Answers::raw_of_two_answer, crate::specs::Answers::raw_of_two_buffer, crate::specs::Answers::raw_of_two, crate::specs::Answers::written_of_two, crate::specs::Shapes::shaped))]
 pub fn raw_of_two(
     universe: Universe,
     rows: &[i64],
@@ -87,9 +85,9 @@ pub fn raw_of_two(
     first: &[u16],
     second: &[u16],
     out: &mut [u8],
-) -> Written
+) -> Result<u64, Unwritten>
     ensures result_value { let surfaces = surfaces_of rows.now balls.now in
-        result ≡ raw_of_two_answer universe surfaces first.now second.now out.old }
+        writing_told result ≡ raw_of_two_answer universe surfaces first.now second.now out.old }
     ensures out_after { let surfaces = surfaces_of rows.now balls.now in
         out.new
         ≡ raw_of_two_buffer universe surfaces first.now second.now out.old }
@@ -98,6 +96,7 @@ pub fn raw_of_two(
 }
 
 // The merged expression of two trees intersected. Room that is as large as the room formula says suffices.
+#[tactic(auto, unfolding(crate::specs::Answers::merged_of_two_answer, crate::specs::Answers::merged_of_two_buffer, crate::specs::Answers::merged_of_two, crate::specs::Answers::written_of_two, crate::specs::Shapes::shaped))]
 pub fn merged_of_two(
     universe: Universe,
     rows: &[i64],
@@ -105,9 +104,9 @@ pub fn merged_of_two(
     first: &[u16],
     second: &[u16],
     out: &mut [u8],
-) -> Written
+) -> Result<u64, Unwritten>
     ensures result_value { let surfaces = surfaces_of rows.now balls.now in
-        result ≡ merged_of_two_answer universe surfaces first.now second.now out.old }
+        writing_told result ≡ merged_of_two_answer universe surfaces first.now second.now out.old }
     ensures out_after { let surfaces = surfaces_of rows.now balls.now in
         out.new
         ≡ merged_of_two_buffer universe surfaces first.now second.now out.old }
@@ -122,9 +121,9 @@ pub fn raw_of_one(
     balls: &[i64],
     words: &[u16],
     out: &mut [u8],
-) -> Written
+) -> Result<u64, Unwritten>
     ensures result_value { let surfaces = surfaces_of rows.now balls.now in
-        result ≡ raw_of_one_answer universe surfaces words.now out.old }
+        writing_told result ≡ raw_of_one_answer universe surfaces words.now out.old }
     ensures out_after { let surfaces = surfaces_of rows.now balls.now in
         out.new ≡ raw_of_one_buffer universe surfaces words.now out.old }
 {
@@ -139,9 +138,9 @@ pub fn merged_of_one(
     balls: &[i64],
     words: &[u16],
     out: &mut [u8],
-) -> Written
+) -> Result<u64, Unwritten>
     ensures result_value { let surfaces = surfaces_of rows.now balls.now in
-        result ≡ merged_of_one_answer universe surfaces words.now out.old }
+        writing_told result ≡ merged_of_one_answer universe surfaces words.now out.old }
     ensures out_after { let surfaces = surfaces_of rows.now balls.now in
         out.new ≡ merged_of_one_buffer universe surfaces words.now out.old }
 {

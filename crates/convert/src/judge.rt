@@ -50,12 +50,12 @@ fn codes_of_values(least: i64, greatest: i64, one: u64, other: u64, centre: bool
     let below = mark_by_values(below_least, below_greatest);
     let above = mark_by_values(above_least, above_greatest);
     let marks = paired(below, above);
-    if centre {
-        let below_colour = colour_by_values(below_least, below_greatest);
-        let above_colour = colour_by_values(above_least, above_greatest);
-        return marks + CENTRE_UNIT * paired(below_colour, above_colour);
+    if !centre {
+        return marks;
     }
-    marks
+    let below_colour = colour_by_values(below_least, below_greatest);
+    let above_colour = colour_by_values(above_least, above_greatest);
+    marks + CENTRE_UNIT * paired(below_colour, above_colour)
 }
 
 // The codes over two blocks of a leaf that is one colour, by those of its marks.
@@ -64,9 +64,10 @@ fn plain_codes(codes: u8, centre: bool) -> u8
     ensures { result ≡ cond centre (with_centres codes) codes }
 {
     if centre {
-        return codes + CENTRE_UNIT * codes;
+        codes + CENTRE_UNIT * codes
+    } else {
+        codes
     }
-    codes
 }
 
 // The codes of a leaf's word over two blocks; the row of one that names a halfspace is in the slot.
@@ -126,19 +127,9 @@ fn slot_after(word: u16, slot: usize) -> usize
     ensures { result ≡ cond (names_halfspace word) (slot + 1) slot }
 {
     if names_halfspace(word) {
-        return slot + 1;
-    }
-    slot
-}
-
-// The word at a place; past the last one WHITE, which is no operator.
-fn word_at(words: &[u16], i: usize) -> u16
-    ensures { result ≡ get_or words.now i 0 }
-{
-    if i < words.len() {
-        words[i]
+        slot + 1
     } else {
-        csg::WHITE
+        slot
     }
 }
 
@@ -178,6 +169,7 @@ fn codes_of_tree(
     let mut top: u8 = 0;
     let mut n: usize = 0;
     let mut slot = from;
+    // By an index: a turn reads one word or two, which no adapter of the library does.
     let mut i: usize = 0;
     while i < words.len() {
         let word = words[i];
@@ -191,8 +183,9 @@ fn codes_of_tree(
                 amounts, one, other, times, left,
             );
             slot = slot_after(word, slot);
-            let next = word_at(words, i + 1);
-            if csg::is_operator(next) {
+            if let Some(&next) = words.get(i + 1)
+                && csg::is_operator(next)
+            {
                 top = join_code(next, top, code);
                 i += 2;
             } else {

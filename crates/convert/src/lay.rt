@@ -46,13 +46,11 @@ fn symbol_of(mark: u8) -> u8
 }
 
 // Whether two halves are held back as one: leaves of one colour, where shapes are merged.
+#[tactic(auto, unfolding(crate::specs::Shapes::is_one))]
 fn is_one(merging: bool, below: u8, above: u8) -> bool
     ensures { result ≡ is_one merging below above }
 {
-    if merging {
-        return bintree::is_alike(below, above);
-    }
-    false
+    merging && bintree::is_alike(below, above)
 }
 
 // Joins two halves that are laid behind the place of their `(`: they are held back as one, or `(` and what was held
@@ -193,8 +191,9 @@ fn lay_halves(
     ensures least_unchanged { (least.new ≡ least.old) × (greatest.new ≡ greatest.old) }
 {
     move_to(least, greatest, amounts, one, other, times, slots);
-    let axis = axes[(left - 1) as usize];
-    let next = turns[(left - 1) as usize];
+    let inner = left - 1;
+    let axis = axes[inner as usize];
+    let next = turns[inner as usize];
     let whole = side[axis];
     let half = whole / 2;
     let high = high_lows(low, axis, half);
@@ -202,22 +201,8 @@ fn lay_halves(
     let rise = fall + MOST_SLOTS;
     side[axis] = half;
     let codes = judge(
-        universe,
-        rows,
-        balls,
-        first,
-        second,
-        from,
-        low,
-        &high,
-        side,
-        least,
-        greatest,
-        amounts,
-        fall,
-        rise,
-        next,
-        left - 1,
+        universe, rows, balls, first, second, from, low, &high, side, least, greatest, amounts,
+        fall, rise, next, inner,
     );
     let below = unpacked(lay_half(
         universe,
@@ -237,7 +222,7 @@ fn lay_halves(
         fall,
         rise,
         next,
-        left - 1,
+        inner,
         merging,
         out,
         at + 1,
@@ -262,7 +247,7 @@ fn lay_halves(
         rise,
         fall,
         next,
-        left - 1,
+        inner,
         merging,
         out,
         middle,

@@ -1,5 +1,5 @@
-// The raw and the merged expression of a tree, or of two intersected, written into lent room. Read the refusal first:
-// the length is what was written where it is 0, what is needed where it is 6, and else 0.
+// The raw and the merged expression of a tree, or of two intersected, written into lent room: the length written, or
+// why nothing is.
 #![tactic(auto)]
 
 mod ball;
@@ -14,6 +14,6 @@ mod scratch;
 mod verdict;
 
 pub use conversion::{merged_of_one, merged_of_two, raw_of_one, raw_of_two};
-pub use scene::scene_refusal;
+pub use scene::check_scene;
 pub use scratch::MOST_SCRATCH;
 pub use verdict::{Clearance, verdict_of_two};

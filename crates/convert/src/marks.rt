@@ -55,14 +55,13 @@ fn opposite_code(code: u8) -> u8
 }
 
 // The codes of two shapes joined by an operator's word.
+#[tactic(auto, unfolding(crate::specs::Codes::join_code))]
 pub(crate) fn join_code(word: u16, a: u8, b: u8) -> u8
     ensures { result ≡ join_code (operator_of word) a b }
 {
-    if word == csg::UNION {
-        return mixed(BLACK_MASK, a, b);
+    match word {
+        csg::UNION => mixed(BLACK_MASK, a, b),
+        csg::INTERSECTION => mixed(WHITE_MASK, a, b),
+        _ => mixed(WHITE_MASK, a, opposite_code(b)),
     }
-    if word == csg::INTERSECTION {
-        return mixed(WHITE_MASK, a, b);
-    }
-    mixed(WHITE_MASK, a, opposite_code(b))
 }

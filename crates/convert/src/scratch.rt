@@ -3,12 +3,12 @@
 ghost use Rattle.std.specs.Prelude.{◌≡◌};
 ghost use Rattle.csg.specs.Surfaces.{surfaces_of};
 ghost use Rattle.bintree.specs.Answers.{written_answer, written_buffer};
+ghost use Rattle.bintree.specs.Told.{writing_told};
 ghost use Rattle.convert.specs.Answers.{written_of_two};
 ghost use Rattle.convert.specs.Blocks.{Ready};
 
 use crate::lay::write_whole;
-use bintree::Written;
-use universe::Universe;
+use universe::{Universe, Unwritten};
 
 // Scratch room for where no more than this is lent.
 pub(crate) const SHORT: usize = 4096;
@@ -26,25 +26,25 @@ fn through(
     merging: bool,
     scratch: &mut [u8],
     out: &mut [u8],
-) -> Written
+) -> Result<u64, Unwritten>
     requires { Ready universe (surfaces_of rows.now balls.now) first.now second.now }
     ensures result_value { let surfaces = surfaces_of rows.now balls.now in
         let written = written_of_two merging universe surfaces first.now second.now in
-        result ≡ written_answer 0 out.old written }
+        writing_told result ≡ written_answer 0 out.old written }
     ensures out_after { let surfaces = surfaces_of rows.now balls.now in
         let written = written_of_two merging universe surfaces first.now second.now in
         out.new ≡ written_buffer 0 out.old written }
 {
     let length = write_whole(universe, rows, balls, first, second, merging, scratch);
     if out.len() < length {
-        return Written::short(length as u64);
+        return Err(Unwritten::NoRoom(length as u64));
     }
     if length <= scratch.len() {
         bintree::copy(&scratch[..length], out, 0);
-        return Written::done(length as u64);
+        return Ok(length as u64);
     }
     write_whole(universe, rows, balls, first, second, merging, out);
-    Written::done(length as u64)
+    Ok(length as u64)
 }
 
 // The same with little scratch room, which suffices where little is lent.
@@ -56,11 +56,11 @@ pub(crate) fn short(
     second: &[u16],
     merging: bool,
     out: &mut [u8],
-) -> Written
+) -> Result<u64, Unwritten>
     requires { Ready universe (surfaces_of rows.now balls.now) first.now second.now }
     ensures result_value { let surfaces = surfaces_of rows.now balls.now in
         let written = written_of_two merging universe surfaces first.now second.now in
-        result ≡ written_answer 0 out.old written }
+        writing_told result ≡ written_answer 0 out.old written }
     ensures out_after { let surfaces = surfaces_of rows.now balls.now in
         let written = written_of_two merging universe surfaces first.now second.now in
         out.new ≡ written_buffer 0 out.old written }
@@ -87,11 +87,11 @@ pub(crate) fn long(
     second: &[u16],
     merging: bool,
     out: &mut [u8],
-) -> Written
+) -> Result<u64, Unwritten>
     requires { Ready universe (surfaces_of rows.now balls.now) first.now second.now }
     ensures result_value { let surfaces = surfaces_of rows.now balls.now in
         let written = written_of_two merging universe surfaces first.now second.now in
-        result ≡ written_answer 0 out.old written }
+        writing_told result ≡ written_answer 0 out.old written }
     ensures out_after { let surfaces = surfaces_of rows.now balls.now in
         let written = written_of_two merging universe surfaces first.now second.now in
         out.new ≡ written_buffer 0 out.old written }

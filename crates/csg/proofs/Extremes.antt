@@ -1,6 +1,6 @@
 -- Least and greatest over the halves of a block, from those over the block. A halving moves one end along one axis by half the block's length, so
 -- that each half keeps one of the two extremes and has the other moved by the coefficient's share of it: which of the two, the sign tells.
-use Prim.Native.Nat.{ℕ, suc, ◌+◌, ◌*◌, ◌<◌}
+use Prim.Native.Nat.{ℕ, ◌+◌, ◌*◌, ◌<◌}
 use mathlib.Core.Path.{◌≡◌, refl, sym, ap, subst}
 use mathlib.Core.Bool.{Bool, true, false, cond}
 use native.Mathlib.Omega.{arith}
@@ -13,7 +13,7 @@ use Rattle.lemmas.proofs.Sums.{sum_cong}
 use Rattle.lemmas.proofs.Whole.{up, dn, one_part, le_z_true, le_z_false, Is, is_eq, is_nat, is_self, is_add, is_sub, is_mul, le_is, lt_is}
 use Rattle.lemmas.proofs.Totals.{weighted_moved}
 use Rattle.universe.specs.declared.Block.{Block}
-use Rattle.universe.specs.Universe.{levels, block_side}
+use Rattle.universe.specs.Universe.{levels}
 use Rattle.universe.specs.Block.{low_along, length_along, axis_of, low, high}
 use Rattle.universe.proofs.Universes.{some_axes, axis_below, side_halved, side_kept}
 use Rattle.universe.proofs.Blocks.{half_length, high_here, high_kept}

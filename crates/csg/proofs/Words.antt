@@ -16,7 +16,7 @@ use Rattle.csg.specs.Halfspace.{most_rows}
 use Rattle.csg.specs.Ball.{most_balls}
 use Rattle.csg.specs.Surfaces.{Named, Surface, halfspace, ball, IsNamed, halfspace_named, ball_named, count_halfspace, count_ball}
 use Rattle.csg.specs.Tree.{Leaf, surface, Operator, Tree, leaf, node, count_leaves, leaves, ball_leaves}
-use Rattle.csg.specs.Words.{most_words, most_pending, Word, push, join, unknown, first_halfspace, first_ball, is_among, names_one, names_surface, surface_of}
+use Rattle.csg.specs.Words.{most_words, most_pending, Word, push, join, unknown, first_halfspace, first_ball, is_among, names_one, surface_of}
 use Rattle.csg.specs.Words.{meaning, is_operator, operator_of, is_leaf, leaf_of, Fault, malformed, overfull, Outcome, refused, made, and_then, map_outcome}
 use Rattle.csg.specs.Words.{step, finish, run, fold, parse, outcome_refusal, tree_refusal, or_white, tree_of, count_words, halfspace_words, ball_words}
 use Rattle.csg.specs.Words.{AllNamed, white_named, black_named, surface_named, node_named}

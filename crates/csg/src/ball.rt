@@ -1,10 +1,11 @@
 // Balls: whether numbers are balls of a universe.
 ghost use Rattle.std.specs.Prelude.{◌≡◌, ◌+◌, ◌*◌, ◌≤◌, ◌<◌, leb, nat_abs, length};
-ghost use Rattle.csg.specs.Ball.{most_places, ball_length, ball_at, centre_limit_along, radius_within, ball_within};
-ghost use Rattle.csg.specs.Ball.{balls_refusal};
+ghost use Rattle.lemmas.specs.Sums.{every};
+ghost use Rattle.csg.specs.Ball.{most_places, ball_length, ball_count, ball_at, centre_limit_along};
+ghost use Rattle.csg.specs.Ball.{radius_within, ball_within, balls_refusal};
+ghost use Rattle.universe.specs.Told.{number_told};
 
-use crate::between;
-use universe::{Universe, refusals};
+use universe::{Refusal, Universe};
 
 // How many place axes there are at the most (rule 2.6).
 pub const MOST_PLACES: usize = (Universe::MOST_AXES - 1) as usize;
@@ -18,7 +19,7 @@ pub const BALL_LENGTH: usize = MOST_PLACES + 1;
 fn radius_within(value: i64) -> bool
     ensures { result ≡ radius_within value }
 {
-    between(0, value, Universe::RADIUS_LIMIT)
+    (0..=Universe::RADIUS_LIMIT).contains(&value)
 }
 
 // Whether the centre's number along an axis is within its limit, which is 0 for an axis that is no place axis.
@@ -27,47 +28,42 @@ fn centre_within(universe: Universe, axis: u64, value: i64) -> bool
     ensures { result ≡ leb (nat_abs value) (centre_limit_along universe axis) }
 {
     if universe.axes <= axis + 1 {
-        return between(0, value, 0);
+        return value == 0;
     }
-    between(-Universe::CENTRE_LIMIT, value, Universe::CENTRE_LIMIT)
+    (-Universe::CENTRE_LIMIT..=Universe::CENTRE_LIMIT).contains(&value)
 }
 
-// Whether a ball of the balls, one that is there whole, is within the limits.
-fn ball_within(universe: Universe, balls: &[i64], ball: usize) -> bool
-    requires { ball_length * ball + ball_length ≤ length balls.now }
-    ensures { result ≡ ball_within universe (ball_at balls.now ball) }
+// Whether a ball is within the limits.
+fn ball_within(universe: Universe, ball: &[i64]) -> bool
+    requires { length ball.now ≡ ball_length }
+    ensures { result ≡ ball_within universe (ball_at ball.now 0) }
 {
-    let start = BALL_LENGTH * ball;
-    if !radius_within(balls[start + MOST_PLACES]) {
+    if !radius_within(ball[MOST_PLACES]) {
         return false;
     }
-    let mut axis: u64 = 0;
-    while axis < MOST_PLACES as u64 {
-        if !centre_within(universe, axis, balls[start + axis as usize]) {
-            return false;
-        }
-        axis += 1;
-    }
-    true
+    (0..MOST_PLACES as u64).all(|axis| centre_within(universe, axis, ball[axis as usize]))
 }
 
-// 3 where a ball is not whole, or there are too many balls, or one is outside a limit of the universe; else 0.
-pub fn check_balls(universe: Universe, balls: &[i64]) -> u64
-    ensures { result ≡ balls_refusal universe balls.now }
+// Whether all whole balls are within the limits.
+fn balls_within(universe: Universe, balls: &[i64]) -> bool
+    ensures { result
+        ≡ every (ball_count balls.now) (λ i. ball_within universe (ball_at balls.now i)) }
 {
-    if balls.len() % BALL_LENGTH != 0 {
-        return refusals::BAD_ROWS;
+    balls
+        .chunks_exact(BALL_LENGTH)
+        .all(|ball| ball_within(universe, ball))
+}
+
+// Refused where a ball is not whole, or there are too many balls, or one is outside a limit of the universe.
+#[tactic(auto, unfolding(crate::specs::Ball::balls_refusal))]
+pub fn check_balls(universe: Universe, balls: &[i64]) -> Result<(), Refusal>
+    ensures { number_told result ≡ balls_refusal universe balls.now }
+{
+    if balls.len() % BALL_LENGTH != 0
+        || MOST_BALLS < balls.len() / BALL_LENGTH
+        || !balls_within(universe, balls)
+    {
+        return Err(Refusal::BadRows);
     }
-    let count = balls.len() / BALL_LENGTH;
-    if MOST_BALLS < count {
-        return refusals::BAD_ROWS;
-    }
-    let mut ball: usize = 0;
-    while ball < count {
-        if !ball_within(universe, balls, ball) {
-            return refusals::BAD_ROWS;
-        }
-        ball += 1;
-    }
-    0
+    Ok(())
 }

@@ -7,12 +7,14 @@ mod ball;
 ghost use Rattle.std.specs.Prelude.{◌≡◌, cond, ◌&&◌, ◌+◌, ◌*◌, ◌≤◌, leb, ltb, nat_abs, length};
 ghost use Rattle.std.specs.Int.Signed.{le_z};
 ghost use Rattle.universe.specs.Universe.{offset_limit, coefficient_limit};
-ghost use Rattle.csg.specs.Halfspace.{row_length, row_at, within_limits, rows_refusal};
+ghost use Rattle.universe.specs.Told.{number_told};
+ghost use Rattle.lemmas.specs.Sums.{every};
+ghost use Rattle.csg.specs.Halfspace.{row_length, row_count, row_at, within_limits, rows_refusal};
 ghost use Rattle.csg.specs.Words.{is_operator, is_among, names_one, is_leaf, tree_refusal, count_words};
 ghost use Rattle.csg.specs.Words.{halfspace_words, ball_words};
 
 pub use ball::{BALL_LENGTH, MOST_BALLS, MOST_PLACES, check_balls};
-use universe::{Universe, refusals};
+use universe::{Refusal, Universe};
 
 // How many rows there may be, and the numbers of each (rule 2.5).
 pub const MOST_ROWS: usize = 256;
@@ -40,18 +42,11 @@ pub const FIRST_HALFSPACE: u16 = 256;
 
 pub const FIRST_BALL: u16 = 512;
 
-// Whether a number is from least to most.
-pub(crate) fn between(least: i64, value: i64, most: i64) -> bool
-    ensures { result ≡ (le_z least value && le_z value most) }
-{
-    if least <= value { value <= most } else { false }
-}
-
 // Whether a0 is within its limit.
 fn offset_within(value: i64) -> bool
     ensures { result ≡ leb (nat_abs value) offset_limit }
 {
-    between(-Universe::OFFSET_LIMIT, value, Universe::OFFSET_LIMIT)
+    (-Universe::OFFSET_LIMIT..=Universe::OFFSET_LIMIT).contains(&value)
 }
 
 // Whether the coefficient of an axis is within its limit, which is 0 above the universe's axes.
@@ -59,141 +54,118 @@ fn coefficient_within(axes: u64, axis: u64, value: i64) -> bool
     ensures { result ≡ leb (nat_abs value) (cond (ltb axis axes) coefficient_limit 0) }
 {
     if axes <= axis {
-        return between(0, value, 0);
+        return value == 0;
     }
-    between(
-        -Universe::COEFFICIENT_LIMIT,
-        value,
-        Universe::COEFFICIENT_LIMIT,
-    )
+    (-Universe::COEFFICIENT_LIMIT..=Universe::COEFFICIENT_LIMIT).contains(&value)
 }
 
-// Whether a row of the rows, one that is there whole, is within the limits.
-fn row_within(universe: Universe, rows: &[i64], row: usize) -> bool
-    requires { row_length * row + row_length ≤ length rows.now }
-    ensures { result ≡ within_limits universe (row_at rows.now row) }
+// Whether a row is within the limits.
+fn row_within(universe: Universe, row: &[i64]) -> bool
+    requires { length row.now ≡ row_length }
+    ensures { result ≡ within_limits universe (row_at row.now 0) }
 {
-    let start = ROW_LENGTH * row;
-    if !offset_within(rows[start]) {
+    if !offset_within(row[0]) {
         return false;
     }
-    let mut axis: u64 = 0;
-    while axis < Universe::MOST_AXES {
-        if !coefficient_within(universe.axes, axis, rows[start + 1 + axis as usize]) {
-            return false;
-        }
-        axis += 1;
-    }
-    true
+    (0..Universe::MOST_AXES).all(|axis| coefficient_within(
+        universe.axes,
+        axis,
+        row[1 + axis as usize],
+    ))
 }
 
-// 3 where a row is not whole, or there are too many rows, or one exceeds a limit of the universe; else 0.
-pub fn check_rows(universe: Universe, rows: &[i64]) -> u64
-    ensures { result ≡ rows_refusal universe rows.now }
+// Whether all whole rows are within the limits.
+fn rows_within(universe: Universe, rows: &[i64]) -> bool
+    ensures { result
+        ≡ every (row_count rows.now) (λ i. within_limits universe (row_at rows.now i)) }
 {
-    if rows.len() % ROW_LENGTH != 0 {
-        return refusals::BAD_ROWS;
+    rows.chunks_exact(ROW_LENGTH)
+        .all(|row| row_within(universe, row))
+}
+
+// Refused where a row is not whole, or there are too many rows, or one exceeds a limit of the universe.
+#[tactic(auto, unfolding(crate::specs::Halfspace::rows_refusal))]
+pub fn check_rows(universe: Universe, rows: &[i64]) -> Result<(), Refusal>
+    ensures { number_told result ≡ rows_refusal universe rows.now }
+{
+    if rows.len() % ROW_LENGTH != 0
+        || MOST_ROWS < rows.len() / ROW_LENGTH
+        || !rows_within(universe, rows)
+    {
+        return Err(Refusal::BadRows);
     }
-    let count = rows.len() / ROW_LENGTH;
-    if MOST_ROWS < count {
-        return refusals::BAD_ROWS;
-    }
-    let mut row: usize = 0;
-    while row < count {
-        if !row_within(universe, rows, row) {
-            return refusals::BAD_ROWS;
-        }
-        row += 1;
-    }
-    0
+    Ok(())
 }
 
 // Whether a word joins two shapes.
 pub fn is_operator(word: u16) -> bool
     ensures { result ≡ is_operator word }
 {
-    if word < UNION {
-        return false;
-    }
-    word <= MINUS
+    (UNION..=MINUS).contains(&word)
 }
 
 // Whether a word is one of so many from the first on.
 fn is_among(first: u16, most: usize, word: u16) -> bool
     ensures { result ≡ is_among first most word }
 {
-    if word < first {
-        return false;
-    }
-    ((word - first) as usize) < most
+    first <= word && ((word - first) as usize) < most
 }
 
 // Whether it is, and names one of those that there are.
 fn names_one(first: u16, most: usize, there: u64, word: u16) -> bool
     ensures { result ≡ names_one first most there word }
 {
-    if !is_among(first, most, word) {
-        return false;
-    }
-    ((word - first) as u64) < there
+    is_among(first, most, word) && ((word - first) as u64) < there
 }
 
 // Whether a word pushes a shape, where there are so many rows and balls.
 fn is_leaf(rows: u64, balls: u64, word: u16) -> bool
     ensures { result ≡ is_leaf (record { halfspaces = rows; balls = balls }) word }
 {
-    if word <= BLACK {
-        return true;
-    }
-    if names_one(FIRST_HALFSPACE, MOST_ROWS, rows, word) {
-        return true;
-    }
-    names_one(FIRST_BALL, MOST_BALLS, balls, word)
+    word <= BLACK
+        || names_one(FIRST_HALFSPACE, MOST_ROWS, rows, word)
+        || names_one(FIRST_BALL, MOST_BALLS, balls, word)
 }
 
-// 5 where a tree has too many words or shapes pending, 4 where words are no tree over so many rows and balls, else 0.
-pub fn check_tree(rows: u64, balls: u64, words: &[u16]) -> u64
-    ensures { result ≡ tree_refusal (record { halfspaces = rows; balls = balls }) words.now }
+// Refused where a tree has too many words or shapes pending, or words are no tree over so many rows and balls.
+pub fn check_tree(rows: u64, balls: u64, words: &[u16]) -> Result<(), Refusal>
+    ensures { number_told result ≡ tree_refusal (record { halfspaces = rows; balls = balls }) words.now }
 {
     if MOST_WORDS < words.len() {
-        return refusals::OVERFULL_TREE;
+        return Err(Refusal::OverfullTree);
     }
     let mut pending: usize = 0;
-    let mut i: usize = 0;
-    while i < words.len() {
-        let word = words[i];
-        if is_operator(word) {
+    for word in words {
+        if is_operator(*word) {
             if pending < 2 {
-                return refusals::BAD_TREE;
+                return Err(Refusal::BadTree);
             }
             pending -= 1;
         } else {
-            if !is_leaf(rows, balls, word) {
-                return refusals::BAD_TREE;
+            if !is_leaf(rows, balls, *word) {
+                return Err(Refusal::BadTree);
             }
             if MOST_PENDING <= pending {
-                return refusals::OVERFULL_TREE;
+                return Err(Refusal::OverfullTree);
             }
             pending += 1;
         }
-        i += 1;
     }
-    if pending == 1 { 0 } else { refusals::BAD_TREE }
+    if pending != 1 {
+        return Err(Refusal::BadTree);
+    }
+    Ok(())
 }
 
 // How many of the words are among so many from the first on.
+#[tactic(auto, using(crate::proofs::Checking::count_told))]
 fn count_words(first: u16, most: usize, words: &[u16]) -> u64
     ensures { result ≡ count_words first most words.now }
 {
-    let mut count: u64 = 0;
-    let mut i: usize = 0;
-    while i < words.len() {
-        if is_among(first, most, words[i]) {
-            count += 1;
-        }
-        i += 1;
-    }
-    count
+    words
+        .iter()
+        .filter(|word| is_among(first, most, **word))
+        .count() as u64
 }
 
 // How many of the words name a halfspace.

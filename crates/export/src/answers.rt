@@ -4,31 +4,30 @@ ghost use Rattle.csg.specs.Surfaces.{surfaces_of};
 ghost use Rattle.at_once.specs.Answers.{verdict_at_once, ends_at_once};
 ghost use Rattle.export.specs.Arrays.{universe_of, judged_array, ends_of, spanned_array};
 
+use crate::universe_of;
 use crate::verdicts::told_of;
-use at_once::Span;
-use universe::Universe;
 
 // The ends of a verdict as three numbers: hit (0 Clear, 1 Hit), first frame, last frame.
 #[derive(Clone, Copy)]
-pub(crate) struct Ends {
-    pub(crate) hit: u64,
-    pub(crate) first: u64,
-    pub(crate) last: u64,
+struct Ends {
+    hit: u64,
+    first: u64,
+    last: u64,
 }
 
-pub(crate) fn ends_of(span: Span) -> Ends
+fn ends_of(span: Option<at_once::Ends>) -> Ends
     ensures { result ≡ ends_of span }
 {
     match span {
-        Span::Clear => Ends {
+        None => Ends {
             hit: 0,
             first: 0,
             last: 0,
         },
-        Span::Hit(first, last) => Ends {
+        Some(ends) => Ends {
             hit: 1,
-            first: first,
-            last: last,
+            first: ends.first,
+            last: ends.last,
         },
     }
 }
@@ -54,12 +53,8 @@ pub fn durbizhan_verdict_at_once(
         let surfaces = surfaces_of rows.now balls.now in
         answer.new ≡ judged_array (verdict_at_once u surfaces first.now second.now first_frame last_frame) }
 {
-    let universe = Universe {
-        axes: axes,
-        bits: bits,
-        frame_bits: frame_bits,
-    };
-    let found = at_once::verdict_at_once(
+    let universe = universe_of(axes, bits, frame_bits);
+    match at_once::verdict_at_once(
         universe,
         rows,
         balls,
@@ -67,11 +62,17 @@ pub fn durbizhan_verdict_at_once(
         second,
         first_frame,
         last_frame,
-    );
-    let verdict = found.verdict;
-    let told = told_of(verdict);
-    *answer = [told.hit, told.first, told.last, told.voxels];
-    found.refusal
+    ) {
+        Ok(verdict) => {
+            let told = told_of(verdict);
+            *answer = [told.hit, told.first, told.last, told.voxels];
+            0
+        }
+        Err(refusal) => {
+            *answer = [0; 4];
+            refusal.number()
+        }
+    }
 }
 
 // The first and the last frame of a window, both ends in, in which two trees share space, with no room lent. Read the
@@ -95,12 +96,8 @@ pub fn durbizhan_ends_at_once(
         let surfaces = surfaces_of rows.now balls.now in
         answer.new ≡ spanned_array (ends_at_once u surfaces first.now second.now first_frame last_frame) }
 {
-    let universe = Universe {
-        axes: axes,
-        bits: bits,
-        frame_bits: frame_bits,
-    };
-    let found = at_once::ends_at_once(
+    let universe = universe_of(axes, bits, frame_bits);
+    match at_once::ends_at_once(
         universe,
         rows,
         balls,
@@ -108,9 +105,15 @@ pub fn durbizhan_ends_at_once(
         second,
         first_frame,
         last_frame,
-    );
-    let span = found.span;
-    let ends = ends_of(span);
-    *answer = [ends.hit, ends.first, ends.last];
-    found.refusal
+    ) {
+        Ok(span) => {
+            let ends = ends_of(span);
+            *answer = [ends.hit, ends.first, ends.last];
+            0
+        }
+        Err(refusal) => {
+            *answer = [0; 3];
+            refusal.number()
+        }
+    }
 }

@@ -5,10 +5,11 @@ ghost use Rattle.files.specs.Shapes.{read_answer, read_buffer, write_answer, wri
 ghost use Rattle.lines.specs.Program.{program_lines};
 ghost use Rattle.export.specs.Arrays.{universe_of, length_array, scene_array, shape_array};
 
+use crate::conversions::length_told;
+use crate::universe_of;
 use csg::MOST_WORDS;
 use files::{MOST_BALL_NUMBERS, MOST_NUMBERS};
 use lines::MOST_BYTES;
-use universe::Universe;
 
 // Reads a scene: its rows, its balls and the words of its two trees go to the front of the lent arrays.
 pub fn durbizhan_scene(
@@ -26,23 +27,27 @@ pub fn durbizhan_scene(
     ensures first_after { first.new ≡ first_words_after bytes.now first.old }
     ensures second_after { second.new ≡ second_words_after bytes.now second.old }
 {
-    let scene = files::read_scene(bytes, rows, balls, first, second);
-    let universe = scene.universe;
-    let counts = scene.counts;
-    let window = scene.window;
-    *answer = [
-        scene.version,
-        universe.axes,
-        universe.bits,
-        universe.frame_bits,
-        counts.rows,
-        counts.balls,
-        counts.first,
-        counts.second,
-        window.first,
-        window.last,
-    ];
-    scene.refusal
+    match files::read_scene(bytes, rows, balls, first, second) {
+        Ok(scene) => {
+            *answer = [
+                scene.version,
+                scene.universe.axes,
+                scene.universe.bits,
+                scene.universe.frame_bits,
+                scene.counts.rows,
+                scene.counts.balls,
+                scene.counts.first,
+                scene.counts.second,
+                scene.window.first,
+                scene.window.last,
+            ];
+            0
+        }
+        Err(refusal) => {
+            *answer = [0; 10];
+            refusal.number()
+        }
+    }
 }
 
 // The lines that the program prints for a scene go to the front of the lent array; returns how many bytes that is.
@@ -60,15 +65,22 @@ pub fn durbizhan_shape_read(bytes: &[u8], out: &mut [u8], answer: &mut [u64; 4])
     ensures answer_after { answer.new ≡ shape_array (read_answer bytes.now out.old) }
     ensures out_after { out.new ≡ read_buffer bytes.now out.old }
 {
-    let shape = files::read_shape(bytes, out);
-    let universe = shape.universe;
-    *answer = [
-        universe.axes,
-        universe.bits,
-        universe.frame_bits,
-        shape.length,
-    ];
-    shape.refusal
+    match files::read_shape(bytes, out) {
+        Ok(shape) => {
+            let universe = shape.universe;
+            *answer = [
+                universe.axes,
+                universe.bits,
+                universe.frame_bits,
+                shape.length,
+            ];
+            0
+        }
+        Err(unwritten) => {
+            *answer = [0, 0, 0, unwritten.needed()];
+            unwritten.number()
+        }
+    }
 }
 
 // Writes the shape file of a merged expression.
@@ -87,12 +99,6 @@ pub fn durbizhan_shape_write(
     ensures out_after { let u = universe_of axes bits frame_bits in
         out.new ≡ write_buffer u expression.now out.old }
 {
-    let universe = Universe {
-        axes: axes,
-        bits: bits,
-        frame_bits: frame_bits,
-    };
-    let written = files::write_shape(universe, expression, out);
-    *answer = [written.length];
-    written.refusal
+    let universe = universe_of(axes, bits, frame_bits);
+    length_told(files::write_shape(universe, expression, out), answer)
 }

@@ -1,24 +1,32 @@
 // Questions to a lent expression, and its merging.
 ghost use Rattle.std.specs.Prelude.{◌≡◌, [], ◌∷◌};
+ghost use Rattle.universe.specs.Told.{number_told};
 ghost use Rattle.bintree.specs.Answers.{well_formed_refusal};
 ghost use Rattle.bintree.specs.Parts.{colour_answer, place_answer};
 ghost use Rattle.bintree.specs.Merging.{merge_answer, merge_buffer};
 ghost use Rattle.export.specs.Arrays.{universe_of, merged_array};
 ghost use Rattle.export.specs.Arrays.{colour_number, colour_array, place_array};
 
+use crate::universe_of;
 use bintree::Colour;
-use universe::Universe;
+use universe::Refusal;
+
+// The number of what a check answers: 0 where it accepts.
+pub(crate) fn refusal_of(checked: Result<(), Refusal>) -> u64
+    ensures { result ≡ number_told checked }
+{
+    match checked {
+        Ok(()) => 0,
+        Err(refusal) => refusal.number(),
+    }
+}
 
 // Whether an expression is well-formed.
 pub fn durbizhan_well_formed(axes: u64, bits: u64, frame_bits: u64, expression: &[u8]) -> u64
     ensures { result ≡ well_formed_refusal (universe_of axes bits frame_bits) expression.now }
 {
-    let universe = Universe {
-        axes: axes,
-        bits: bits,
-        frame_bits: frame_bits,
-    };
-    bintree::well_formed(universe, expression)
+    let universe = universe_of(axes, bits, frame_bits);
+    refusal_of(bintree::well_formed(universe, expression))
 }
 
 // 0 for WHITE and 1 for BLACK.
@@ -48,15 +56,17 @@ pub fn durbizhan_colour(
     ensures answer_after { let u = universe_of axes bits frame_bits in
         answer.new ≡ colour_array (colour_answer u expression.now (x ∷ y ∷ z ∷ t ∷ [])) }
 {
-    let universe = Universe {
-        axes: axes,
-        bits: bits,
-        frame_bits: frame_bits,
-    };
-    let shown = bintree::colour_at(universe, expression, [x, y, z, t]);
-    let colour = shown.colour;
-    *answer = [number_of(colour)];
-    shown.refusal
+    let universe = universe_of(axes, bits, frame_bits);
+    match bintree::colour_at(universe, expression, [x, y, z, t]) {
+        Ok(colour) => {
+            *answer = [number_of(colour)];
+            0
+        }
+        Err(refusal) => {
+            *answer = [0];
+            refusal.number()
+        }
+    }
 }
 
 // Where the part for the block at the end of a path stands in an expression, and its length.
@@ -73,14 +83,17 @@ pub fn durbizhan_part(
     ensures answer_after { let u = universe_of axes bits frame_bits in
         answer.new ≡ place_array (place_answer u expression.now path.now) }
 {
-    let universe = Universe {
-        axes: axes,
-        bits: bits,
-        frame_bits: frame_bits,
-    };
-    let placed = bintree::part_place(universe, expression, path);
-    *answer = [placed.start, placed.length];
-    placed.refusal
+    let universe = universe_of(axes, bits, frame_bits);
+    match bintree::part_place(universe, expression, path) {
+        Ok(placed) => {
+            *answer = [placed.start, placed.length];
+            0
+        }
+        Err(refusal) => {
+            *answer = [0; 2];
+            refusal.number()
+        }
+    }
 }
 
 // The merged expression of a lent one, and the largest count of symbols that are held back.
@@ -99,12 +112,15 @@ pub fn durbizhan_merge(
     ensures out_after { let u = universe_of axes bits frame_bits in
         out.new ≡ merge_buffer u expression.now out.old }
 {
-    let universe = Universe {
-        axes: axes,
-        bits: bits,
-        frame_bits: frame_bits,
-    };
-    let merged = bintree::merge(universe, expression, out);
-    *answer = [merged.length, merged.held];
-    merged.refusal
+    let universe = universe_of(axes, bits, frame_bits);
+    match bintree::merge(universe, expression, out) {
+        Ok(merged) => {
+            *answer = [merged.length, merged.held];
+            0
+        }
+        Err(unwritten) => {
+            *answer = [unwritten.needed(), 0];
+            unwritten.number()
+        }
+    }
 }

@@ -5,9 +5,9 @@ ghost use Rattle.mover.specs.Keys.{mover_of};
 ghost use Rattle.mover.specs.Answers.{mover_answer, mover_buffer};
 ghost use Rattle.export.specs.Arrays.{universe_of, triple_of, box_of, clearance_array};
 
-use crate::verdicts::told_of;
-use standin::{Corners, Proxy, Solid, Triple};
-use universe::Universe;
+use crate::proxies::{box_of, triple_of};
+use crate::universe_of;
+use crate::verdicts::clearance_told;
 
 // Whether a mover and a static tree share space, every frame by its own stretch; each stretch's raw expression is
 // written into lent room over the one before. Read the number first: a refused verdict is Clear.
@@ -54,37 +54,11 @@ pub fn durbizhan_mover(
         let surfaces = surfaces_of rows.now balls.now in
         out.new ≡ mover_buffer u m surfaces words.now out.old }
 {
-    let universe = Universe {
-        axes: axes,
-        bits: bits,
-        frame_bits: frame_bits,
-    };
-    let near = Triple {
-        x: near_x,
-        y: near_y,
-        z: near_z,
-    };
-    let far = Triple {
-        x: far_x,
-        y: far_y,
-        z: far_z,
-    };
-    let displacement = Triple {
-        x: displacement_x,
-        y: displacement_y,
-        z: displacement_z,
-    };
-    let between = Corners {
-        near: near,
-        far: far,
-    };
-    let size = Proxy {
-        solid: Solid::Box(between),
-        displacement: displacement,
-    };
+    let universe = universe_of(axes, bits, frame_bits);
+    let near = triple_of(near_x, near_y, near_z);
+    let far = triple_of(far_x, far_y, far_z);
+    let displacement = triple_of(displacement_x, displacement_y, displacement_z);
+    let size = box_of(near, far, displacement);
     let found = mover::verdict_of_mover(universe, size, moments, corners, rows, balls, words, out);
-    let verdict = found.verdict;
-    let told = told_of(verdict);
-    *answer = [told.hit, told.first, told.last, told.voxels, found.length];
-    found.refusal
+    clearance_told(found, answer)
 }

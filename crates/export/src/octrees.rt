@@ -3,7 +3,8 @@ ghost use Rattle.std.specs.Prelude.{◌≡◌};
 ghost use Rattle.octree.specs.Answers.{export_answer, export_buffer, import_answer, import_buffer};
 ghost use Rattle.export.specs.Arrays.{universe_of, length_array};
 
-use universe::Universe;
+use crate::conversions::length_told;
+use crate::universe_of;
 
 // The reduced octree of an expression.
 pub fn durbizhan_octree_export(
@@ -21,14 +22,8 @@ pub fn durbizhan_octree_export(
     ensures out_after { let u = universe_of axes bits frame_bits in
         out.new ≡ export_buffer u expression.now out.old }
 {
-    let universe = Universe {
-        axes: axes,
-        bits: bits,
-        frame_bits: frame_bits,
-    };
-    let written = octree::export_octree(universe, expression, out);
-    *answer = [written.length];
-    written.refusal
+    let universe = universe_of(axes, bits, frame_bits);
+    length_told(octree::export_octree(universe, expression, out), answer)
 }
 
 // The merged expression of an octree.
@@ -47,12 +42,6 @@ pub fn durbizhan_octree_import(
     ensures out_after { let u = universe_of axes bits frame_bits in
         out.new ≡ import_buffer u octree.now out.old }
 {
-    let universe = Universe {
-        axes: axes,
-        bits: bits,
-        frame_bits: frame_bits,
-    };
-    let written = octree::import_octree(universe, octree, out);
-    *answer = [written.length];
-    written.refusal
+    let universe = universe_of(axes, bits, frame_bits);
+    length_told(octree::import_octree(universe, octree, out), answer)
 }

@@ -3,7 +3,35 @@ ghost use Rattle.std.specs.Prelude.{◌≡◌};
 ghost use Rattle.standin.specs.Rows.{proxy_refusal, box_rows, cut_row};
 ghost use Rattle.export.specs.Arrays.{triple_of, box_of, cut_of};
 
+use crate::expressions::refusal_of;
 use standin::{Corners, Plane, Proxy, Solid, Triple};
+
+// A corner, a normal or a displacement of its three floats.
+pub(crate) fn triple_of(x: f64, y: f64, z: f64) -> Triple
+    ensures { result ≡ triple_of x y z }
+{
+    Triple { x, y, z }
+}
+
+// A Box of its two corners, and its displacement.
+pub(crate) fn box_of(near: Triple, far: Triple, displacement: Triple) -> Proxy
+    ensures { result ≡ box_of near far displacement }
+{
+    Proxy {
+        solid: Solid::Box(Corners { near, far }),
+        displacement,
+    }
+}
+
+// A Cut of its normal and its offset, and its displacement.
+fn cut_of(normal: Triple, offset: f64, displacement: Triple) -> Proxy
+    ensures { result ≡ cut_of normal offset displacement }
+{
+    Proxy {
+        solid: Solid::Cut(Plane { normal, offset }),
+        displacement,
+    }
+}
 
 // The six rows of a Box one after the other, zeros where it is refused.
 pub fn durbizhan_box(
@@ -27,31 +55,12 @@ pub fn durbizhan_box(
         let step = triple_of displacement_x displacement_y displacement_z in
         rows.new ≡ box_rows (box_of near far step) }
 {
-    let near = Triple {
-        x: near_x,
-        y: near_y,
-        z: near_z,
-    };
-    let far = Triple {
-        x: far_x,
-        y: far_y,
-        z: far_z,
-    };
-    let displacement = Triple {
-        x: displacement_x,
-        y: displacement_y,
-        z: displacement_z,
-    };
-    let corners = Corners {
-        near: near,
-        far: far,
-    };
-    let proxy = Proxy {
-        solid: Solid::Box(corners),
-        displacement: displacement,
-    };
+    let near = triple_of(near_x, near_y, near_z);
+    let far = triple_of(far_x, far_y, far_z);
+    let displacement = triple_of(displacement_x, displacement_y, displacement_z);
+    let proxy = box_of(near, far, displacement);
     *rows = standin::box_rows(proxy);
-    standin::refusal(proxy)
+    refusal_of(standin::check(proxy))
 }
 
 // The row of a Cut, zeros where it is refused.
@@ -72,24 +81,9 @@ pub fn durbizhan_cut(
         let step = triple_of displacement_x displacement_y displacement_z in
         row.new ≡ cut_row (cut_of normal offset step) }
 {
-    let normal = Triple {
-        x: normal_x,
-        y: normal_y,
-        z: normal_z,
-    };
-    let displacement = Triple {
-        x: displacement_x,
-        y: displacement_y,
-        z: displacement_z,
-    };
-    let plane = Plane {
-        normal: normal,
-        offset: offset,
-    };
-    let proxy = Proxy {
-        solid: Solid::Cut(plane),
-        displacement: displacement,
-    };
+    let normal = triple_of(normal_x, normal_y, normal_z);
+    let displacement = triple_of(displacement_x, displacement_y, displacement_z);
+    let proxy = cut_of(normal, offset, displacement);
     *row = standin::cut_row(proxy);
-    standin::refusal(proxy)
+    refusal_of(standin::check(proxy))
 }

@@ -4,15 +4,28 @@ ghost use Rattle.csg.specs.Surfaces.{surfaces_of};
 ghost use Rattle.pruned.specs.Answers.{raw_of_one_answer, raw_of_one_buffer, raw_of_two_answer, raw_of_two_buffer};
 ghost use Rattle.pruned.specs.Answers.{merged_of_one_answer, merged_of_one_buffer, merged_of_two_answer, merged_of_two_buffer};
 ghost use Rattle.pruned.specs.Answers.{work_of_one, work_of_two};
-ghost use Rattle.export.specs.Arrays.{universe_of, lack_number, conversion_array};
+ghost use Rattle.pruned.specs.Told.{conversion_told};
+ghost use Rattle.export.specs.Arrays.{universe_of, conversion_array};
 
-use universe::Universe;
+use crate::universe_of;
+use pruned::{Conversion, Unconverted};
 
-// Whether work room is lacking, as a number.
-fn lack_number(lack: bool) -> u64
-    ensures { result ≡ lack_number lack }
+// The number with which a pruned conversion answers; whether work room is lacking, the length, or how much is needed,
+// and the nodes looked at go into the array.
+fn conversion_told(found: Result<Conversion, Unconverted>, answer: &mut [u64; 3]) -> u64
+    ensures value { result ≡ (conversion_told found).refusal }
+    ensures answer_after { answer.new ≡ conversion_array (conversion_told found) }
 {
-    if lack { 1 } else { 0 }
+    match found {
+        Ok(done) => {
+            *answer = [0, done.length, done.looked];
+            0
+        }
+        Err(unconverted) => {
+            *answer = [u64::from(unconverted.lacks_work()), unconverted.needed(), 0];
+            unconverted.number()
+        }
+    }
 }
 
 // The raw expression of one tree, pruned; three numbers of work room for a node.
@@ -41,15 +54,9 @@ pub fn durbizhan_pruned_raw_one(
         let surfaces = surfaces_of rows.now balls.now in
         ((work_of_one u surfaces words.now work.old ≡ 0 → ⊥) → work.new ≡ work.old) }
 {
-    let universe = Universe {
-        axes: axes,
-        bits: bits,
-        frame_bits: frame_bits,
-    };
+    let universe = universe_of(axes, bits, frame_bits);
     let found = pruned::raw_of_one(universe, rows, balls, words, work, out);
-    let lack = lack_number(found.short_of_work);
-    *answer = [lack, found.length, found.looked];
-    found.refusal
+    conversion_told(found, answer)
 }
 
 // The raw expression of two trees intersected, pruned; three numbers of work room for a node.
@@ -79,15 +86,9 @@ pub fn durbizhan_pruned_raw_two(
         let surfaces = surfaces_of rows.now balls.now in
         ((work_of_two u surfaces first.now second.now work.old ≡ 0 → ⊥) → work.new ≡ work.old) }
 {
-    let universe = Universe {
-        axes: axes,
-        bits: bits,
-        frame_bits: frame_bits,
-    };
+    let universe = universe_of(axes, bits, frame_bits);
     let found = pruned::raw_of_two(universe, rows, balls, first, second, work, out);
-    let lack = lack_number(found.short_of_work);
-    *answer = [lack, found.length, found.looked];
-    found.refusal
+    conversion_told(found, answer)
 }
 
 // The merged expression of one tree, pruned; three numbers of work room for a node.
@@ -116,15 +117,9 @@ pub fn durbizhan_pruned_merged_one(
         let surfaces = surfaces_of rows.now balls.now in
         ((work_of_one u surfaces words.now work.old ≡ 0 → ⊥) → work.new ≡ work.old) }
 {
-    let universe = Universe {
-        axes: axes,
-        bits: bits,
-        frame_bits: frame_bits,
-    };
+    let universe = universe_of(axes, bits, frame_bits);
     let found = pruned::merged_of_one(universe, rows, balls, words, work, out);
-    let lack = lack_number(found.short_of_work);
-    *answer = [lack, found.length, found.looked];
-    found.refusal
+    conversion_told(found, answer)
 }
 
 // The merged expression of two trees intersected, pruned; three numbers of work room for a node.
@@ -154,13 +149,7 @@ pub fn durbizhan_pruned_merged_two(
         let surfaces = surfaces_of rows.now balls.now in
         ((work_of_two u surfaces first.now second.now work.old ≡ 0 → ⊥) → work.new ≡ work.old) }
 {
-    let universe = Universe {
-        axes: axes,
-        bits: bits,
-        frame_bits: frame_bits,
-    };
+    let universe = universe_of(axes, bits, frame_bits);
     let found = pruned::merged_of_two(universe, rows, balls, first, second, work, out);
-    let lack = lack_number(found.short_of_work);
-    *answer = [lack, found.length, found.looked];
-    found.refusal
+    conversion_told(found, answer)
 }

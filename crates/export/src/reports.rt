@@ -3,7 +3,7 @@ ghost use Rattle.std.specs.Prelude.{◌≡◌};
 ghost use Rattle.report.specs.Reports.{report_answer, report_row};
 ghost use Rattle.export.specs.Arrays.{universe_of, report_array};
 
-use universe::Universe;
+use crate::universe_of;
 
 // The black voxels of each frame of a window, both ends in, summed over a list of expressions, one straight after
 // another: one count for each frame, at the front of the row that is lent.
@@ -28,12 +28,15 @@ pub fn durbizhan_report(
         let row = counts.old in
         counts.new ≡ report_row u expressions.now first_frame last_frame row }
 {
-    let universe = Universe {
-        axes: axes,
-        bits: bits,
-        frame_bits: frame_bits,
-    };
-    let report = report::report_of(universe, expressions, first_frame, last_frame, counts);
-    *answer = [report.frames, report.total];
-    report.refusal
+    let universe = universe_of(axes, bits, frame_bits);
+    match report::report_of(universe, expressions, first_frame, last_frame, counts) {
+        Ok(report) => {
+            *answer = [report.frames, report.total];
+            0
+        }
+        Err(unwritten) => {
+            *answer = [unwritten.needed(), 0];
+            unwritten.number()
+        }
+    }
 }

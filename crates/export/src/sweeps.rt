@@ -3,7 +3,7 @@ ghost use Rattle.std.specs.Prelude.{◌≡◌};
 ghost use Rattle.sweep.specs.Answers.{swept_answer, swept_buffer};
 ghost use Rattle.export.specs.Arrays.{universe_of, swept_array};
 
-use universe::Universe;
+use crate::universe_of;
 
 // The merged sweep of an expression along an axis, counted from 1, and the universe that it is of.
 pub fn durbizhan_sweep(
@@ -22,13 +22,16 @@ pub fn durbizhan_sweep(
     ensures out_after { let u = universe_of axes bits frame_bits in
         out.new ≡ swept_buffer u expression.now axis out.old }
 {
-    let universe = Universe {
-        axes: axes,
-        bits: bits,
-        frame_bits: frame_bits,
-    };
-    let swept = sweep::sweep_along(universe, expression, axis, out);
-    let below = swept.universe;
-    *answer = [below.axes, below.bits, below.frame_bits, swept.length];
-    swept.refusal
+    let universe = universe_of(axes, bits, frame_bits);
+    match sweep::sweep_along(universe, expression, axis, out) {
+        Ok(swept) => {
+            let below = swept.universe;
+            *answer = [below.axes, below.bits, below.frame_bits, swept.length];
+            0
+        }
+        Err(unwritten) => {
+            *answer = [0, 0, 0, unwritten.needed()];
+            unwritten.number()
+        }
+    }
 }

@@ -3,12 +3,15 @@
 ghost use Rattle.std.specs.Prelude.{◌≡◌};
 ghost use Rattle.csg.specs.Surfaces.{surfaces_of};
 ghost use Rattle.bintree.specs.Verdicts.{numbers_answer};
+ghost use Rattle.convert.specs.Told.{clearance_told};
 ghost use Rattle.convert.specs.Answers.{clearance_answer, clearance_buffer};
 ghost use Rattle.at_once.specs.Contacts.{contacts_answer};
 ghost use Rattle.export.specs.Arrays.{universe_of, told_of, clearance_array, contacts_array, numbers_array};
 
+use crate::universe_of;
 use bintree::Verdict;
-use universe::Universe;
+use convert::Clearance;
+use universe::Unwritten;
 
 // A verdict as four numbers: hit (0 Clear, 1 Hit), first frame, last frame, voxels.
 #[derive(Clone, Copy)]
@@ -35,6 +38,31 @@ pub(crate) fn told_of(verdict: Verdict) -> Told
             last: contact.last,
             voxels: contact.voxels,
         },
+    }
+}
+
+// The number with which a verdict that needs room answers; its four numbers, and its length or how much is needed, go
+// into the array.
+pub(crate) fn clearance_told(found: Result<Clearance, Unwritten>, answer: &mut [u64; 5]) -> u64
+    ensures value { result ≡ (clearance_told found).refusal }
+    ensures answer_after { answer.new ≡ clearance_array (clearance_told found) }
+{
+    match found {
+        Ok(clearance) => {
+            let told = told_of(clearance.verdict);
+            *answer = [
+                told.hit,
+                told.first,
+                told.last,
+                told.voxels,
+                clearance.length,
+            ];
+            0
+        }
+        Err(unwritten) => {
+            *answer = [0, 0, 0, 0, unwritten.needed()];
+            unwritten.number()
+        }
     }
 }
 
@@ -65,11 +93,7 @@ pub fn durbizhan_verdict(
         out.new
         ≡ clearance_buffer u surfaces first.now second.now first_frame last_frame out.old }
 {
-    let universe = Universe {
-        axes: axes,
-        bits: bits,
-        frame_bits: frame_bits,
-    };
+    let universe = universe_of(axes, bits, frame_bits);
     let found = local::verdict_of_two(
         universe,
         rows,
@@ -80,10 +104,7 @@ pub fn durbizhan_verdict(
         last_frame,
         out,
     );
-    let verdict = found.verdict;
-    let told = told_of(verdict);
-    *answer = [told.hit, told.first, told.last, told.voxels, found.length];
-    found.refusal
+    clearance_told(found, answer)
 }
 
 // The voxels of a window of frames, both ends in, that two trees surely share, share at their centres, and possibly
@@ -107,12 +128,8 @@ pub fn durbizhan_contacts(
         let surfaces = surfaces_of rows.now balls.now in
         answer.new ≡ contacts_array (contacts_answer u surfaces first.now second.now first_frame last_frame) }
 {
-    let universe = Universe {
-        axes: axes,
-        bits: bits,
-        frame_bits: frame_bits,
-    };
-    let found = at_once::contacts_of_two(
+    let universe = universe_of(axes, bits, frame_bits);
+    match at_once::contacts_of_two(
         universe,
         rows,
         balls,
@@ -120,9 +137,16 @@ pub fn durbizhan_contacts(
         second,
         first_frame,
         last_frame,
-    );
-    *answer = [found.sure, found.centre, found.possible];
-    found.refusal
+    ) {
+        Ok(found) => {
+            *answer = [found.sure, found.centre, found.possible];
+            0
+        }
+        Err(refusal) => {
+            *answer = [0; 3];
+            refusal.number()
+        }
+    }
 }
 
 // The black voxels of an expression in the whole universe, and whether it has one in a window of frames, both ends in.
@@ -142,14 +166,16 @@ pub fn durbizhan_numbers(
         let numbers = numbers_answer u expression.now first_frame last_frame in
         answer.new ≡ numbers_array numbers }
 {
-    let universe = Universe {
-        axes: axes,
-        bits: bits,
-        frame_bits: frame_bits,
-    };
-    let numbers = bintree::numbers_of(universe, expression, first_frame, last_frame);
-    let verdict = numbers.verdict;
-    let told = told_of(verdict);
-    *answer = [numbers.volume, told.hit, told.first, told.last, told.voxels];
-    numbers.refusal
+    let universe = universe_of(axes, bits, frame_bits);
+    match bintree::numbers_of(universe, expression, first_frame, last_frame) {
+        Ok(numbers) => {
+            let told = told_of(numbers.verdict);
+            *answer = [numbers.volume, told.hit, told.first, told.last, told.voxels];
+            0
+        }
+        Err(refusal) => {
+            *answer = [0; 5];
+            refusal.number()
+        }
+    }
 }

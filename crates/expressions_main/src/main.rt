@@ -2,13 +2,16 @@
 // room, so that what was not to be written shows as the `.` it was.
 #![tactic(auto)]
 
-use bintree::Verdict;
+use bintree::{Colour, Numbers, Verdict};
 use reader::Symbol;
 use std::io;
 use std::io::Write;
-use universe::Universe;
+use universe::{Refusal, Universe};
 
 const LENT: usize = 20;
+
+// How many symbols each reader is asked for.
+const STEPS: usize = 5;
 
 // d 2, k 2, f 2.
 fn square() -> Universe {
@@ -19,43 +22,11 @@ fn square() -> Universe {
     }
 }
 
-fn say(to: &mut impl Write, text: &[u8]) -> io::Result<()> {
-    to.write_all(text)
-}
-
-fn number(to: &mut impl Write, n: u64) -> io::Result<()> {
-    write!(to, "{n}")
-}
-
-// The front of the room that is lent.
-fn show(
-    to: &mut impl Write,
-    label: &[u8],
-    refusal: u64,
-    length: u64,
-    room: &[u8],
-) -> io::Result<()> {
-    say(to, label)?;
-    say(to, b" ")?;
-    number(to, refusal)?;
-    say(to, b" ")?;
-    number(to, length)?;
-    say(to, b" ")?;
-    say(to, room)?;
-    say(to, b"\n")
-}
-
-fn say_verdict(to: &mut impl Write, verdict: Verdict) -> io::Result<()> {
-    match verdict {
-        Verdict::Clear => say(to, b"clear"),
-        Verdict::Hit(contact) => {
-            say(to, b"hit ")?;
-            number(to, contact.first)?;
-            say(to, b" ")?;
-            number(to, contact.last)?;
-            say(to, b" ")?;
-            number(to, contact.voxels)
-        }
+// The number of a check's answer.
+fn number(checked: Result<(), Refusal>) -> u64 {
+    match checked {
+        Ok(()) => 0,
+        Err(refusal) => refusal.number(),
     }
 }
 
@@ -63,113 +34,112 @@ fn say_verdict(to: &mut impl Write, verdict: Verdict) -> io::Result<()> {
 fn numbers(
     to: &mut impl Write,
     universe: Universe,
-    expression: &[u8],
+    expression: &str,
     first_frame: u64,
     last_frame: u64,
 ) -> io::Result<()> {
-    let answer = bintree::numbers_of(universe, expression, first_frame, last_frame);
-    let refusal = answer.refusal;
-    let volume = answer.volume;
-    let verdict = answer.verdict;
-    say(to, b" numbers ")?;
-    number(to, refusal)?;
-    say(to, b" ")?;
-    number(to, volume)?;
-    say(to, b" ")?;
-    say_verdict(to, verdict)
+    match bintree::numbers_of(universe, expression.as_bytes(), first_frame, last_frame) {
+        Ok(Numbers { volume, verdict }) => match verdict {
+            Verdict::Clear => write!(to, " numbers 0 {volume} clear"),
+            Verdict::Hit(contact) => write!(
+                to,
+                " numbers 0 {volume} hit {} {} {}",
+                contact.first, contact.last, contact.voxels
+            ),
+        },
+        Err(refusal) => write!(to, " numbers {} 0 clear", refusal.number()),
+    }
 }
 
 // The questions over an expression: well-formed, numbers, the colour at (3, 2) and (3, 3), merged, the part for a path.
-fn questions(to: &mut impl Write, expression: &[u8], path: &[u8]) -> io::Result<()> {
-    say(to, expression)?;
-    say(to, b" well-formed ")?;
-    number(to, bintree::well_formed(square(), expression))?;
+fn questions(to: &mut impl Write, expression: &str, path: &[u8]) -> io::Result<()> {
+    let symbols = expression.as_bytes();
+    write!(
+        to,
+        "{expression} well-formed {}",
+        number(bintree::well_formed(square(), symbols))
+    )?;
     numbers(to, square(), expression, 0, 3)?;
-    colour(to, expression, [3, 2, 0, 0])?;
-    colour(to, expression, [3, 3, 0, 0])?;
-    colour(to, expression, [4, 0, 0, 0])?;
-    colour(to, expression, [0, 0, 1, 0])?;
-    say(to, b" part ")?;
-    number(to, bintree::part_refusal(square(), expression, path))?;
-    say(to, b" ")?;
-    say(to, bintree::part(square(), expression, path))?;
-    say(to, b"\n")?;
+    for voxel in [[3, 2, 0, 0], [3, 3, 0, 0], [4, 0, 0, 0], [0, 0, 1, 0]] {
+        colour(to, symbols, voxel)?;
+    }
+    write!(
+        to,
+        " part {} ",
+        number(bintree::check_part(square(), symbols, path))
+    )?;
+    to.write_all(bintree::part(square(), symbols, path))?;
     let mut room = [b'.'; LENT];
-    let answer = bintree::merge(square(), expression, &mut room);
-    show(to, b"  merge", answer.refusal, answer.length, &room)
+    match bintree::merge(square(), symbols, &mut room) {
+        Ok(merged) => write!(to, "\n  merge 0 {} ", merged.length)?,
+        Err(why) => write!(to, "\n  merge {} {} ", why.number(), why.needed())?,
+    }
+    to.write_all(&room)?;
+    writeln!(to)
 }
 
 fn colour(
     to: &mut impl Write,
-    expression: &[u8],
+    symbols: &[u8],
     voxel: [u64; Universe::MOST_AXES as usize],
 ) -> io::Result<()> {
-    let answer = bintree::colour_at(square(), expression, voxel);
-    let refusal = answer.refusal;
-    let colour = answer.colour;
-    say(to, b" colour ")?;
-    number(to, refusal)?;
-    match colour {
-        bintree::Colour::Black => say(to, b" BLACK"),
-        bintree::Colour::White => say(to, b" WHITE"),
+    match bintree::colour_at(square(), symbols, voxel) {
+        Ok(Colour::Black) => write!(to, " colour 0 BLACK"),
+        Ok(Colour::White) => write!(to, " colour 0 WHITE"),
+        Err(refusal) => write!(to, " colour {} WHITE", refusal.number()),
     }
 }
 
-fn symbol(to: &mut impl Write, given: Symbol) -> io::Result<()> {
-    match given {
-        Symbol::Halved => say(to, b"("),
-        Symbol::Black => say(to, b"B"),
-        Symbol::White => say(to, b"W"),
-        Symbol::End => say(to, b" End"),
+fn name(symbol: Option<Symbol>) -> &'static str {
+    match symbol {
+        Some(Symbol::Halved) => "(",
+        Some(Symbol::Black) => "B",
+        Some(Symbol::White) => "W",
+        None => " End",
     }
-}
-
-// The symbol at a place, and the place that a reader goes on to.
-fn step(to: &mut impl Write, held: &[u8], place: usize) -> io::Result<usize> {
-    symbol(to, reader::symbol_at(held, place))?;
-    Ok(reader::place_after(held, place))
 }
 
 // A reader: its number, its first symbol, and five symbols in turn.
-fn read_on(to: &mut impl Write, universe: Universe, expression: &[u8]) -> io::Result<()> {
-    say(to, expression)?;
-    say(to, b" reader ")?;
-    number(to, reader::refusal(universe, expression))?;
-    say(to, b" ")?;
-    symbol(to, reader::first(universe, expression))?;
-    say(to, b" then ")?;
-    let held = reader::held(universe, expression);
-    let second = step(to, held, 0)?;
-    let third = step(to, held, second)?;
-    let fourth = step(to, held, third)?;
-    let fifth = step(to, held, fourth)?;
-    step(to, held, fifth)?;
-    say(to, b"\n")
+fn read_on(to: &mut impl Write, universe: Universe, expression: &str) -> io::Result<()> {
+    let symbols = expression.as_bytes();
+    write!(
+        to,
+        "{expression} reader {} {} then ",
+        number(reader::check(universe, symbols)),
+        name(reader::first(universe, symbols))
+    )?;
+    let held = reader::held(universe, symbols);
+    let mut place = 0;
+    for _ in 0..STEPS {
+        write!(to, "{}", name(reader::symbol_at(held, place)))?;
+        place = reader::place_after(held, place);
+    }
+    writeln!(to)
 }
 
 // Readers of expressions that are taken, and that are refused 7 and 2.
 fn readers(to: &mut impl Write) -> io::Result<()> {
-    read_on(to, square(), b"(BW")?;
-    read_on(to, square(), b"(B(WB")?;
-    read_on(to, square(), b"(B")?;
-    read_on(to, Universe::with_equal_bits(0, 2), b"B")
+    read_on(to, square(), "(BW")?;
+    read_on(to, square(), "(B(WB")?;
+    read_on(to, square(), "(B")?;
+    read_on(to, Universe::with_equal_bits(0, 2), "B")
 }
 
 // Cases 3, 9 and 11: questions.
 fn readings(to: &mut impl Write) -> io::Result<()> {
-    questions(to, b"(W(W((BB(BW", &[1, 1])?;
-    questions(to, b"(W(W(B(BW", &[1, 1, 1, 0])?;
-    questions(to, b"(BB", &[])?;
-    questions(to, b"(BB", &[2])
+    questions(to, "(W(W((BB(BW", &[1, 1])?;
+    questions(to, "(W(W(B(BW", &[1, 1, 1, 0])?;
+    questions(to, "(BB", &[])?;
+    questions(to, "(BB", &[2])
 }
 
 // Expressions that are refused, and paths of as many steps as there are levels and one more.
 fn refused_readings(to: &mut impl Write) -> io::Result<()> {
     let root: &[u8] = &[];
-    let black: &[u8] = b"B";
-    questions(to, b"", root)?;
-    questions(to, b"(B", root)?;
-    questions(to, b"BB", root)?;
+    let black = "B";
+    questions(to, "", root)?;
+    questions(to, "(B", root)?;
+    questions(to, "BB", root)?;
     questions(to, black, &[0, 1, 0, 1])?;
     questions(to, black, &[0, 1, 0, 1, 0])
 }
@@ -178,23 +148,17 @@ fn refused_readings(to: &mut impl Write) -> io::Result<()> {
 fn over(
     to: &mut impl Write,
     universe: Universe,
-    expression: &[u8],
+    expression: &str,
     first_frame: u64,
     last_frame: u64,
 ) -> io::Result<()> {
-    number(to, universe.axes)?;
-    say(to, b" ")?;
-    number(to, universe.bits)?;
-    say(to, b" ")?;
-    number(to, universe.frame_bits)?;
-    say(to, b" ")?;
-    say(to, expression)?;
-    say(to, b" over ")?;
-    number(to, first_frame)?;
-    say(to, b" ")?;
-    number(to, last_frame)?;
+    write!(
+        to,
+        "{} {} {} {expression} over {first_frame} {last_frame}",
+        universe.axes, universe.bits, universe.frame_bits
+    )?;
     numbers(to, universe, expression, first_frame, last_frame)?;
-    say(to, b"\n")
+    writeln!(to)
 }
 
 // The same where every axis has so many bits.
@@ -202,7 +166,7 @@ fn equal(
     to: &mut impl Write,
     axes: u64,
     bits: u64,
-    expression: &[u8],
+    expression: &str,
     first_frame: u64,
     last_frame: u64,
 ) -> io::Result<()> {
@@ -220,34 +184,34 @@ fn framed(
     to: &mut impl Write,
     bits: u64,
     frame_bits: u64,
-    expression: &[u8],
+    expression: &str,
     first_frame: u64,
     last_frame: u64,
 ) -> io::Result<()> {
     let universe = Universe {
         axes: 2,
-        bits: bits,
-        frame_bits: frame_bits,
+        bits,
+        frame_bits,
     };
     over(to, universe, expression, first_frame, last_frame)
 }
 
 // Frames without space and space without frames, and used-up axes passed over.
 fn long_shots(to: &mut impl Write) -> io::Result<()> {
-    let last: &[u8] = b"(W(WB";
-    let slope: &[u8] = b"(((BWW(B(BW";
+    let last = "(W(WB";
+    let slope = "(((BWW(B(BW";
     framed(to, 0, 2, last, 0, 3)?;
     framed(to, 2, 0, last, 0, 0)?;
     framed(to, 2, 0, last, 0, 1)?;
     framed(to, 1, 2, slope, 0, 3)?;
     framed(to, 1, 2, slope, 3, 3)?;
-    framed(to, 1, 2, b"(((BWW(B((BWW", 0, 3)?;
-    framed(to, 2, 1, b"((B(WBB", 1, 1)
+    framed(to, 1, 2, "(((BWW(B((BWW", 0, 3)?;
+    framed(to, 2, 1, "((B(WBB", 1, 1)
 }
 
 // The last of 4,096 frames, and universes that are refused.
 fn longest(to: &mut impl Write) -> io::Result<()> {
-    let black: &[u8] = b"B";
+    let black = "B";
     framed(to, 10, 12, black, 4_095, 4_095)?;
     framed(to, 10, 12, black, 0, 4_096)?;
     framed(to, 10, 13, black, 0, 0)?;
@@ -266,22 +230,22 @@ fn longest(to: &mut impl Write) -> io::Result<()> {
 
 // Windows at both ends, and one with no black voxel.
 fn windows(to: &mut impl Write) -> io::Result<()> {
-    let slopes: &[u8] = b"(((W(BWW(B((BWB";
-    let corner: &[u8] = b"(W(W(B(BW";
+    let slopes = "(((W(BWW(B((BWB";
+    let corner = "(W(W(B(BW";
     equal(to, 2, 2, slopes, 0, 3)?;
     equal(to, 2, 2, slopes, 0, 0)?;
     equal(to, 2, 2, slopes, 3, 3)?;
-    equal(to, 2, 2, b"(W(W((BB(BW", 3, 3)?;
+    equal(to, 2, 2, "(W(W((BB(BW", 3, 3)?;
     equal(to, 2, 2, corner, 2, 2)?;
     equal(to, 2, 2, corner, 0, 1)
 }
 
 // No bits, one axis, the most voxels.
 fn edges(to: &mut impl Write) -> io::Result<()> {
-    let black: &[u8] = b"B";
-    let frames: &[u8] = b"((WBB";
+    let black = "B";
+    let frames = "((WBB";
     equal(to, 4, 0, black, 0, 0)?;
-    equal(to, 4, 0, b"W", 0, 0)?;
+    equal(to, 4, 0, "W", 0, 0)?;
     equal(to, 1, 2, frames, 0, 3)?;
     equal(to, 1, 2, frames, 0, 0)?;
     equal(to, 4, 10, black, 1_023, 1_023)
@@ -289,12 +253,12 @@ fn edges(to: &mut impl Write) -> io::Result<()> {
 
 // 2, 7 and 9, each with another fault behind it.
 fn refusals(to: &mut impl Write) -> io::Result<()> {
-    let black: &[u8] = b"B";
-    let half: &[u8] = b"(B";
+    let black = "B";
+    let half = "(B";
     equal(to, 5, 2, half, 2, 1)?;
     equal(to, 2, 11, black, 2, 1)?;
     equal(to, 2, 2, half, 2, 1)?;
-    equal(to, 2, 2, b"BB", 0, 4)?;
+    equal(to, 2, 2, "BB", 0, 4)?;
     equal(to, 2, 2, black, 2, 1)?;
     equal(to, 2, 2, black, 0, 4)?;
     equal(to, 4, 0, black, 0, 1)

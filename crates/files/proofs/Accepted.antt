@@ -18,15 +18,15 @@ use Rattle.bintree.proofs.Answers.{is_refused, is_done, number_of}
 use Rattle.csg.specs.Halfspace.{most_rows, row_length, row_count, rows_refusal}
 use Rattle.csg.specs.Ball.{most_balls, ball_length, ball_count, balls_refusal}
 use Rattle.csg.specs.Words.{tree_refusal}
-use Rattle.files.specs.declared.Scene.{Scene}
-use Rattle.files.specs.Scenes.{is_scene, scene_header_of, no_scene_header}
-use Rattle.files.specs.Scenes.{scene_header, rows_of, balls_of, first_words_of, second_words_of, named_by, scene_refusal, refused_scene, scene_answer}
+use Rattle.files.specs.Told.{SceneAnswer, refused_scene, no_scene_header}
+use Rattle.files.specs.Scenes.{is_scene, scene_header_of}
+use Rattle.files.specs.Scenes.{scene_header, rows_of, balls_of, first_words_of, second_words_of, named_by, scene_refusal, scene_answer}
 use Rattle.files.specs.Scenes.{rows_after, balls_after, first_words_after, second_words_after}
 use Rattle.files.proofs.Numbers.{front_is}
 use Rattle.files.proofs.Scenes.{scene_accepts, header_rows_few, header_balls_few}
 
 -- a scene with its rows, balls and words that every check accepts
-pub record Ready (s : Scene) (numbers spheres : List ℤ) (first second : List ℕ) : Type 0 where
+pub record Ready (s : SceneAnswer) (numbers spheres : List ℤ) (first second : List ℕ) : Type 0 where
   pub universe : universe_refusal s.universe ≡ 0
   pub rows : rows_refusal s.universe numbers ≡ 0
   pub balls : balls_refusal s.universe spheres ≡ 0
@@ -39,7 +39,7 @@ pub record Ready (s : Scene) (numbers spheres : List ℤ) (first second : List �
   pub few_balls : s.counts.balls ≤ most_balls
 
 -- what the header tells of is ready
-abbrev HeaderReady : List ℕ → Scene → Type 0
+abbrev HeaderReady : List ℕ → SceneAnswer → Type 0
 HeaderReady bytes s =
     let h = scene_header bytes in Ready s (rows_of bytes h) (balls_of bytes h) (first_words_of bytes h) (second_words_of bytes h)
 
@@ -68,15 +68,15 @@ Held n now = (n ≤ length now) × (n ≡ length (take n now))
 held : {A : Type 0} (n : ℕ) (now : List A) (f : ℕ → A) → take n now ≡ listed n f → Held n now
 held n now f e = let k : n ≡ length (take n now) = sym (ap length e ∙ listed_length n f) in (omega (arith, length-take n now), k)
 
-module _ (bytes : List ℕ) {s : Scene} (e : s ≡ scene_answer bytes) where
+module _ (bytes : List ℕ) {s : SceneAnswer} (e : s ≡ scene_answer bytes) where
   pub answer_number : s.refusal ≡ scene_refusal bytes
   unfolding scene_answer
   answer_number =
-      ap (λ (r : Scene). r.refusal) e ∙ by (ℕ_discrete (scene_refusal bytes) 0)
+      ap (λ (r : SceneAnswer). r.refusal) e ∙ by (ℕ_discrete (scene_refusal bytes) 0)
     where
       by : Dec (scene_refusal bytes ≡ 0) → (scene_answer bytes).refusal ≡ scene_refusal bytes
       by (yes z) = number_of refused_scene (scene_header bytes).scene (scene_refusal bytes) (λ r. r.refusal) (λ m. refl) (scene_accepts bytes z).file
-      by (no n) = sym (ap (λ (r : Scene). r.refusal) (is_refused refused_scene (scene_header bytes).scene (scene_refusal bytes) n))
+      by (no n) = sym (ap (λ (r : SceneAnswer). r.refusal) (is_refused refused_scene (scene_header bytes).scene (scene_refusal bytes) n))
 
   module _ (accepted : s.refusal ≡ 0) where
     none : scene_refusal bytes ≡ 0

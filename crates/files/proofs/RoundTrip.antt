@@ -18,13 +18,12 @@ use Rattle.universe.specs.declared.Universe.{Universe}
 use Rattle.universe.specs.Universe.{equal_bits}
 use Rattle.universe.specs.Lent.{overwritten}
 use Rattle.universe.proofs.Lent.{written}
-use Rattle.bintree.specs.declared.Written.{Written}
-use Rattle.files.specs.declared.ShapeRead.{ShapeRead}
-use Rattle.files.specs.declared.ShapeHeader.{ShapeHeader}
+use Rattle.bintree.specs.Told.{WrittenAnswer}
+use Rattle.files.specs.Told.{ShapeAnswer, ShapeHeaderAnswer, no_shape_header}
 use Rattle.files.specs.Numbers.{u32_at, version_of, has_header}
 use Rattle.files.specs.Shapes.{shape_mark, shape_version, shape_header_length, symbol_count, shape_length, most_symbols, symbols_refusal}
 use Rattle.files.specs.Shapes.{shape_header_bytes, shape_bytes}
-use Rattle.files.specs.Shapes.{write_answer, write_buffer, is_shape, shape_header_of, no_shape_header, shape_header, symbols_of, shape_refusal}
+use Rattle.files.specs.Shapes.{write_answer, write_buffer, is_shape, shape_header_of, shape_header, symbols_of, shape_refusal}
 use Rattle.files.specs.Shapes.{read_answer, read_buffer}
 use Rattle.files.proofs.Refusals.{left_last, left_next, left_accepts, left_others}
 use Rattle.files.proofs.Numbers.{first_universe, later_universe, mark_at, u32_back, first_byte, second_byte, third_byte, fourth_byte}
@@ -47,7 +46,7 @@ module _ (u : Universe) (s : List ℕ) (few : length s ≤ most_symbols) where
       rw (le-leb (shape_length 0) (length file) (omega arith), eq-eqb (length file) (shape_length (symbol_count file)) (omega (arith, count_back)))
 
   -- the header itself
-  abbrev told : ShapeHeader
+  abbrev told : ShapeHeaderAnswer
   told = record { shape = record { refusal = 0; universe = u; length = length s }; place = shape_length 0 }
 
   told_is : told ≡ shape_header (shape_bytes u s)
@@ -65,12 +64,12 @@ module _ (u : Universe) (s : List ℕ) (few : length s ≤ most_symbols) where
         sym (left_last (left_next (shape_checks_lem (shape_bytes u s) told_is) refl refl) (sym (ap (symbols_refusal u) told_symbols ∙ accepted)))
 
     pub written_read : (out : List ℕ) → length s ≤ length out → read_answer (shape_bytes u s) out ≡ record { refusal = 0; universe = u; length = length s }
-    written_read out h = sym (read_all (shape_bytes u s) out (sym written_accepted) refl told_is h)
+    written_read out h = sym (read_all (shape_bytes u s) out (sym written_accepted) told_is h)
 
     pub written_copied : (out : List ℕ) → length s ≤ length out → read_buffer (shape_bytes u s) out ≡ s ++ drop (length s) out
     written_copied out h =
         let file = shape_bytes u s in
-        let r = ap (λ (x : ShapeRead). x.refusal) (written_read out h) in
+        let r = ap (λ (x : ShapeAnswer). x.refusal) (written_read out h) in
         ap (λ (v : List ℕ). overwritten (read_answer file out).refusal v out) (ap (symbols_of file) (sym told_is) ∙ told_symbols)
         ∙ sym (written s out r refl)
 
@@ -122,11 +121,11 @@ module _ (bytes : List ℕ) (small : (i : ℕ) → get_or bytes i 0 < 256) (acce
     read_written =
         let z = left_accepts (left_others (shape_checks_lem bytes refl) accepted) accepted in
         let at = shape_header_length (version_of bytes) - 4 in
-        sym (write_all _ _ out refl z (omega (arith, symbols_long, small at, small (at + 1), small (at + 2), small (at + 2 + 1))) room refl)
+        sym (write_all _ _ out (sym z) (omega (arith, symbols_long, small at, small (at + 1), small (at + 2), small (at + 2 + 1))) room)
 
     pub read_left : write_buffer read_universe read_symbols out ≡ shape_bytes read_universe read_symbols ++ drop (shape_length (length read_symbols)) out
     read_left =
-        sym (written (shape_bytes read_universe read_symbols) out (ap (λ (w : Written). w.refusal) read_written) (file_long read_universe read_symbols))
+        sym (written (shape_bytes read_universe read_symbols) out (ap (λ (w : WrittenAnswer). w.refusal) read_written) (file_long read_universe read_symbols))
 
   -- THEOREM: of a file of version 2 that is the file itself
   module _ (second : version_of bytes ≡ shape_version) where
@@ -135,7 +134,7 @@ module _ (bytes : List ℕ) (small : (i : ℕ) → get_or bytes i 0 < 256) (acce
 
     own_said : read_universe ≡ own
     own_said =
-        ap (λ (h : ShapeHeader). h.shape.universe) header_said ∙ sym (later_universe bytes refl refl refl (λ e. omega arith) refl)
+        ap (λ (h : ShapeHeaderAnswer). h.shape.universe) header_said ∙ sym (later_universe bytes refl refl refl (λ e. omega arith) refl)
 
     own_symbols : read_symbols ≡ drop (shape_length 0) bytes
     own_symbols = symbols_said ∙ ap (λ (v : ℕ). drop (shape_header_length v) bytes) second
@@ -183,6 +182,6 @@ module _ (bytes : List ℕ) (small : (i : ℕ) → get_or bytes i 0 < 256) (acce
     pub first_bytes : shape_bytes read_universe read_symbols ≡ shape_bytes (equal_bits (get_or bytes 5 0) (get_or bytes 6 0)) (drop 11 bytes)
     first_bytes =
         ap (λ (u : Universe). shape_bytes u read_symbols)
-        (ap (λ (h : ShapeHeader). h.shape.universe) header_said ∙ sym (first_universe bytes refl refl refl first refl))
+        (ap (λ (h : ShapeHeaderAnswer). h.shape.universe) header_said ∙ sym (first_universe bytes refl refl refl first refl))
         ∙ ap (shape_bytes (equal_bits (get_or bytes 5 0) (get_or bytes 6 0)))
         (symbols_said ∙ ap (λ (v : ℕ). drop (shape_header_length v) bytes) first)

@@ -1,13 +1,12 @@
 -- Scene files: what a header tells of is there; each check decides where those before it accept; an accepted scene is accepted by every check
 -- (`scene_accepts`); and the answer and the lent arrays of both outcomes.
-use Prim.Native.Nat.{ℕ, ◌+◌, ◌*◌, ◌^◌, ◌≤◌, ◌<◌}
+use Prim.Native.Nat.{ℕ, ◌+◌, ◌*◌, ◌≤◌, ◌<◌}
 use native.Mathlib.Omega.{arith}
 use mathlib.Core.Path.{◌≡◌, refl, sym, ap, ◌∙◌}
 use mathlib.Core.Bool.{Bool, true, false, cond}
 use mathlib.Core.List.{List, ◌++◌}
 use lib.IntN.{ℤ}
-use lib.ListN.{length, take, drop}
-use borrow.Author.Rules.{rules}
+use lib.ListN.{length, drop}
 use Rattle.lemmas.specs.Grid.{listed}
 use Rattle.lemmas.proofs.Grid.{listed_length}
 use Rattle.universe.specs.declared.Universe.{Universe}
@@ -16,6 +15,7 @@ use Rattle.universe.specs.Lent.{overwritten}
 use Rattle.universe.specs.Universe.{universe_refusal}
 use Rattle.universe.specs.Voxel.{window_refusal}
 use Rattle.universe.proofs.Lent.{untouched, written}
+use Rattle.universe.proofs.Telling.{number-pos, number-not_zero}
 use Rattle.bintree.proofs.Answers.{is_refused, is_done}
 use Rattle.csg.specs.Halfspace.{most_rows, row_length, rows_refusal}
 use Rattle.csg.specs.Ball.{most_balls, ball_length, balls_refusal}
@@ -24,15 +24,15 @@ use Rattle.csg.specs.Words.{most_words, tree_refusal}
 use Rattle.csg.proofs.Rows.{rows_too_many}
 use Rattle.csg.proofs.BallChecks.{balls_too_many}
 use Rattle.csg.proofs.Words.{too_long}
-use Rattle.files.specs.declared.Scene.{Scene}
-use Rattle.files.specs.declared.SceneHeader.{SceneHeader}
-use Rattle.files.specs.Numbers.{number_bytes, word_bytes, short_bytes}
+use Rattle.universe.specs.declared.refusal.Refusal.{Refusal}
+use Rattle.universe.specs.Told.{number_of}
+use Rattle.files.specs.Told.{SceneHeaderAnswer, refused_scene, refused_scene_header, no_scene_header}
+use Rattle.files.specs.Numbers.{word_bytes}
 use Rattle.files.specs.Scenes.{row_bytes, ball_bytes, is_scene}
-use Rattle.files.specs.Scenes.{refused_scene, scene_header_of, no_scene_header, scene_header}
+use Rattle.files.specs.Scenes.{scene_header_of, scene_header}
 use Rattle.files.specs.Scenes.{rows_of, balls_of, first_words_of, second_words_of, named_by, scene_checks, scene_refusal, scene_answer}
 use Rattle.files.specs.Scenes.{rows_after, balls_after, first_words_after, second_words_after}
-use Rattle.files.proofs.Refusals.{Left, left_refused, left_next, left_last, left_accepts, left_others}
-use Rattle.files.proofs.Numbers.{front_is, front_length}
+use Rattle.files.proofs.Refusals.{Left, left_refused, left_accepts, left_others}
 use Rattle.files.proofs.SceneHeaders.{scene_whole}
 
 -- ---- rows, balls and words
@@ -51,20 +51,6 @@ balls_many u n f h =
 pub words_many : (names : Named) (n : ℕ) (f : ℕ → ℕ) → most_words < n → overfull_tree ≡ tree_refusal names (listed n f)
 words_many names n f h = sym (too_long names (listed n f) (omega (arith, listed_length n f)))
 
--- the others are judged as they stand in the array that they were read into
-module _ (n : ℕ) where
-  pub rows_judged : {x : ℕ} {rows : List ℤ} (u : Universe) (f : ℕ → ℤ) (rest : List ℤ) →
-      rows ≡ listed n f ++ rest → x ≡ rows_refusal u (take n rows) → x ≡ rows_refusal u (listed n f)
-  rows_judged u f rest e g = g ∙ ap (rows_refusal u) (front_is n f rest e)
-
-  pub balls_judged : {x : ℕ} {balls : List ℤ} (u : Universe) (f : ℕ → ℤ) (rest : List ℤ) →
-      balls ≡ listed n f ++ rest → x ≡ balls_refusal u (take n balls) → x ≡ balls_refusal u (listed n f)
-  balls_judged u f rest e g = g ∙ ap (balls_refusal u) (front_is n f rest e)
-
-  pub words_judged : {x : ℕ} {words : List ℕ} (names : Named) (f : ℕ → ℕ) (rest : List ℕ) →
-      words ≡ listed n f ++ rest → x ≡ tree_refusal names (take n words) → x ≡ tree_refusal names (listed n f)
-  words_judged names f rest e g = g ∙ ap (tree_refusal names) (front_is n f rest e)
-
 -- those that are accepted fit the lent arrays
 rows_few : (u : Universe) (n : ℕ) (f : ℕ → ℤ) → rows_refusal u (listed (row_length * n) f) ≡ 0 → n ≤ most_rows
 rows_few u n f e = let few : most_rows < n → ⊥ = λ h. omega (arith, rows_many u n f h) in omega arith
@@ -76,7 +62,7 @@ words_few : (names : Named) (n : ℕ) (f : ℕ → ℕ) → tree_refusal names (
 words_few names n f e = let few : most_words < n → ⊥ = λ h. omega (arith, words_many names n f h) in omega arith
 
 -- the rows, balls and words that a header tells of are there
-record Holds (bytes : List ℕ) (h : SceneHeader) : Type 0 where
+record Holds (bytes : List ℕ) (h : SceneHeaderAnswer) : Type 0 where
   rows : h.places.rows + row_bytes * h.scene.counts.rows ≤ length bytes
   balls : h.places.balls + ball_bytes * h.scene.counts.balls ≤ length bytes
   first : h.places.first + word_bytes * h.scene.counts.first ≤ length bytes
@@ -88,7 +74,7 @@ holds bytes true is =
     record { rows = omega arith; balls = omega arith; first = omega arith; second = omega arith }
 holds bytes false is = record { rows = omega arith; balls = omega arith; first = omega arith; second = omega arith }
 
-module _ (bytes : List ℕ) {h : SceneHeader} (e : h ≡ scene_header bytes) where
+module _ (bytes : List ℕ) {h : SceneHeaderAnswer} (e : h ≡ scene_header bytes) where
   header_holds : Holds bytes h
   unfolding scene_header
   header_holds = rw e (holds bytes (is_scene bytes) refl)
@@ -105,47 +91,17 @@ module _ (bytes : List ℕ) {h : SceneHeader} (e : h ≡ scene_header bytes) whe
   pub second_there : h.places.second + word_bytes * h.scene.counts.second ≤ length bytes
   second_there = header_holds.second
 
--- ---- the checks of a scene, one after the other: each refuses where those before it accept
+-- ---- the checks of a scene, one after the other
 
-module _ (bytes : List ℕ) {h : SceneHeader} (e : h ≡ scene_header bytes) where
+module _ (bytes : List ℕ) {h : SceneHeaderAnswer} (e : h ≡ scene_header bytes) where
   scene_checks_lem : Left (scene_refusal bytes) (scene_checks bytes h)
   unfolding scene_refusal
-  scene_checks_lem = record { same = ap (λ (g : SceneHeader). first_refusal (scene_checks bytes g)) (sym e) }
-
-  pub scene_by_file : (h.scene.refusal ≡ 0 → ⊥) → h.scene.refusal ≡ scene_refusal bytes
-  scene_by_file n = left_refused scene_checks_lem refl n
-
-  module _ {x : ℕ} (a : h.scene.refusal ≡ 0) (universe : x ≡ universe_refusal h.scene.universe) where
-    pub scene_by_universe : (x ≡ 0 → ⊥) → x ≡ scene_refusal bytes
-    scene_by_universe n = left_refused (left_next scene_checks_lem refl a) universe n
-
-    module _ {y : ℕ} (b : x ≡ 0) (rows : y ≡ rows_refusal h.scene.universe (rows_of bytes h)) where
-      pub scene_by_rows : (y ≡ 0 → ⊥) → y ≡ scene_refusal bytes
-      scene_by_rows n = left_refused (left_next (left_next scene_checks_lem refl a) universe b) rows n
-
-      module _ {k : ℕ} (c : y ≡ 0) (balls : k ≡ balls_refusal h.scene.universe (balls_of bytes h)) where
-        pub scene_by_balls : (k ≡ 0 → ⊥) → k ≡ scene_refusal bytes
-        scene_by_balls n = left_refused (left_next (left_next (left_next scene_checks_lem refl a) universe b) rows c) balls n
-
-        module _ {v : ℕ} (d : k ≡ 0) (first : v ≡ tree_refusal (named_by h.scene.counts) (first_words_of bytes h)) where
-          trees_left : Left (scene_refusal bytes) (drop 4 (scene_checks bytes h))
-          trees_left = left_next (left_next (left_next (left_next scene_checks_lem refl a) universe b) rows c) balls d
-
-          pub scene_by_first : (v ≡ 0 → ⊥) → v ≡ scene_refusal bytes
-          scene_by_first n = left_refused trees_left first n
-
-          module _ {w : ℕ} (f : v ≡ 0) (second : w ≡ tree_refusal (named_by h.scene.counts) (second_words_of bytes h)) where
-            pub scene_by_second : (w ≡ 0 → ⊥) → w ≡ scene_refusal bytes
-            scene_by_second n = left_refused (left_next trees_left first f) second n
-
-            pub scene_by_window : {m : ℕ} → w ≡ 0 → m ≡ window_refusal h.scene.universe h.scene.window.first h.scene.window.last →
-                m ≡ scene_refusal bytes
-            scene_by_window z window = left_last (left_next (left_next trees_left first f) second z) window
+  scene_checks_lem = record { same = ap (λ (g : SceneHeaderAnswer). first_refusal (scene_checks bytes g)) (sym e) }
 
 -- ---- acceptance
 
 -- an accepted scene: every check accepts what is read, and it fits the lent arrays
-pub record Accepts (bytes : List ℕ) (h : SceneHeader) : Type 0 where
+pub record Accepts (bytes : List ℕ) (h : SceneHeaderAnswer) : Type 0 where
   pub file : h.scene.refusal ≡ 0
   pub universe : universe_refusal h.scene.universe ≡ 0
   pub rows : rows_refusal h.scene.universe (rows_of bytes h) ≡ 0
@@ -154,7 +110,7 @@ pub record Accepts (bytes : List ℕ) (h : SceneHeader) : Type 0 where
   pub second : tree_refusal (named_by h.scene.counts) (second_words_of bytes h) ≡ 0
   pub window : window_refusal h.scene.universe h.scene.window.first h.scene.window.last ≡ 0
 
-module _ (bytes : List ℕ) {h : SceneHeader} (e : h ≡ scene_header bytes) (z : scene_refusal bytes ≡ 0) where
+module _ (bytes : List ℕ) {h : SceneHeaderAnswer} (e : h ≡ scene_header bytes) (z : scene_refusal bytes ≡ 0) where
   header_accepts : Accepts bytes h
   header_accepts =
       let a = scene_checks_lem bytes e in
@@ -191,97 +147,93 @@ scene_accepts bytes z = header_accepts bytes refl z
 
 -- ---- the answer and the lent memory of a refused scene, and of an accepted one
 
-module _ (bytes : List ℕ) {x : ℕ} (number : x ≡ scene_refusal bytes) where
-  module _ (refuses : x ≡ 0 → ⊥) where
-    pub answer_refused : {s : Scene} → s ≡ refused_scene x → s ≡ scene_answer bytes
-    unfolding scene_answer
-    answer_refused g = g ∙ rw (← number) (is_refused refused_scene _ x refuses)
+-- a file with no header is refused by that
+pub header_refused : (bytes : List ℕ) (r : Refusal) → refused_scene_header (number_of r) ≡ scene_header bytes → number_of r ≡ scene_refusal bytes
+header_refused bytes r e = left_refused (scene_checks_lem bytes e) refl (number-not_zero r)
 
-    pub memory_refused : {A : Type 0} (values before : List A) → before ≡ overwritten (scene_refusal bytes) values before
-    memory_refused values before = untouched values before (λ z. refuses (number ∙ z))
+module _ (bytes : List ℕ) (r : Refusal) (number : number_of r ≡ scene_refusal bytes) where
+  pub answer_refused : refused_scene (number_of r) ≡ scene_answer bytes
+  unfolding scene_answer
+  answer_refused = rw (← number) (is_refused refused_scene _ (number_of r) (number-not_zero r))
 
-  module _ {h : SceneHeader} (z : x ≡ 0) (e : h ≡ scene_header bytes) where
-    pub answer_accepted : h.scene ≡ scene_answer bytes
-    unfolding scene_answer
-    answer_accepted = ap (λ (g : SceneHeader). g.scene) e ∙ rw (← number) (is_done refused_scene _ x z)
+module _ (bytes : List ℕ) (refuses : 0 < scene_refusal bytes) where
+  kept : {A : Type 0} (values before : List A) → before ≡ overwritten (scene_refusal bytes) values before
+  kept values before = untouched values before (λ z. absurd (omega arith))
 
-    filled : {A : Type 0} (n : ℕ) (f : ℕ → A) (before : List A) → listed n f ++ drop n before ≡ overwritten (scene_refusal bytes) (listed n f) before
-    filled n f before = written (listed n f) before (sym number ∙ z) (sym (listed_length n f))
+  pub rows_kept : (before : List ℤ) → before ≡ rows_after bytes before
+  rows_kept before = kept _ before
 
-    pub rows_accepted : (before : List ℤ) {now : List ℤ} → now ≡ rows_of bytes h ++ drop (row_length * h.scene.counts.rows) before →
-        now ≡ rows_after bytes before
-    rows_accepted before q = rw (← e) (q ∙ filled _ _ before)
+  pub balls_kept : (before : List ℤ) → before ≡ balls_after bytes before
+  balls_kept before = kept _ before
 
-    pub balls_accepted : (before : List ℤ) {now : List ℤ} → now ≡ balls_of bytes h ++ drop (ball_length * h.scene.counts.balls) before →
-        now ≡ balls_after bytes before
-    balls_accepted before q = rw (← e) (q ∙ filled _ _ before)
+  pub first_kept : (before : List ℕ) → before ≡ first_words_after bytes before
+  first_kept before = kept _ before
 
-    pub first_accepted : (before : List ℕ) {now : List ℕ} → now ≡ first_words_of bytes h ++ drop h.scene.counts.first before →
-        now ≡ first_words_after bytes before
-    first_accepted before q = rw (← e) (q ∙ filled _ _ before)
+  pub second_kept : (before : List ℕ) → before ≡ second_words_after bytes before
+  second_kept before = kept _ before
 
-    pub second_accepted : (before : List ℕ) {now : List ℕ} → now ≡ second_words_of bytes h ++ drop h.scene.counts.second before →
-        now ≡ second_words_after bytes before
-    second_accepted before q = rw (← e) (q ∙ filled _ _ before)
+module _ (bytes : List ℕ) {h : SceneHeaderAnswer} (e : h ≡ scene_header bytes) (accepts : 0 ≡ scene_refusal bytes) where
+  pub answer_accepted : h.scene ≡ scene_answer bytes
+  unfolding scene_answer
+  answer_accepted = ap (λ (g : SceneHeaderAnswer). g.scene) e ∙ rw (← accepts) (is_done refused_scene _ 0 refl)
 
-    -- what is read fits the lent arrays
-    accepted : scene_refusal bytes ≡ 0
-    accepted = sym number ∙ z
+  filled : {A : Type 0} (n : ℕ) (f : ℕ → A) (before : List A) → listed n f ++ drop n before ≡ overwritten (scene_refusal bytes) (listed n f) before
+  filled n f before = written (listed n f) before (sym accepts) (sym (listed_length n f))
 
-    pub numbers_fit : row_length * h.scene.counts.rows < 2 ^ 64
-    numbers_fit = omega (arith, header_rows_few bytes e accepted)
+  pub rows_accepted : (before : List ℤ) {now : List ℤ}
+      → now ≡ rows_of bytes h ++ drop (row_length * h.scene.counts.rows) before
+      → now ≡ rows_after bytes before
+  rows_accepted before q = rw (← e) (q ∙ filled _ _ before)
 
-    pub numbers_place : h.places.rows + number_bytes * (row_length * h.scene.counts.rows) ≤ length bytes
-    numbers_place = omega (arith, rows_there bytes e)
+  pub balls_accepted : (before : List ℤ) {now : List ℤ}
+      → now ≡ balls_of bytes h ++ drop (ball_length * h.scene.counts.balls) before
+      → now ≡ balls_after bytes before
+  balls_accepted before q = rw (← e) (q ∙ filled _ _ before)
 
-    pub balls_place_lem : h.places.balls + short_bytes * (ball_length * h.scene.counts.balls) ≤ length bytes
-    balls_place_lem = omega (arith, balls_there bytes e)
+  pub first_accepted : (before : List ℕ) {now : List ℕ}
+      → now ≡ first_words_of bytes h ++ drop h.scene.counts.first before
+      → now ≡ first_words_after bytes before
+  first_accepted before q = rw (← e) (q ∙ filled _ _ before)
 
-    pub rows_room : (out : List ℤ) → length out ≡ row_length * most_rows → row_length * h.scene.counts.rows ≤ length out
-    rows_room out l = omega (arith, header_rows_few bytes e accepted)
+  pub second_accepted : (before : List ℕ) {now : List ℕ}
+      → now ≡ second_words_of bytes h ++ drop h.scene.counts.second before
+      → now ≡ second_words_after bytes before
+  second_accepted before q = rw (← e) (q ∙ filled _ _ before)
 
-    pub balls_room : (out : List ℤ) → length out ≡ ball_length * most_balls → ball_length * h.scene.counts.balls ≤ length out
-    balls_room out l = omega (arith, header_balls_few bytes e accepted)
+  -- what is read fits the lent arrays
+  pub few_rows : h.scene.counts.rows ≤ most_rows
+  few_rows = header_rows_few bytes e (sym accepts)
 
-    pub first_room : (out : List ℕ) → length out ≡ most_words → h.scene.counts.first ≤ length out
-    first_room out l = omega (arith, header_first_few bytes e accepted)
+  pub few_balls : h.scene.counts.balls ≤ most_balls
+  few_balls = header_balls_few bytes e (sym accepts)
 
-    pub second_room : (out : List ℕ) → length out ≡ most_words → h.scene.counts.second ≤ length out
-    second_room out l = omega (arith, header_second_few bytes e accepted)
+  pub few_first : h.scene.counts.first ≤ most_words
+  few_first = header_first_few bytes e (sym accepts)
 
-pub ruleset array_laws = (rules, front_length, rows_many, rows_judged, balls_many, balls_judged, words_many, words_judged)
+  pub few_second : h.scene.counts.second ≤ most_words
+  few_second = header_second_few bytes e (sym accepts)
 
-pub ruleset refusal_laws = (
-  rules,
+pub ruleset refusal_laws = (rows_there, balls_there, first_there, second_there, number-not_zero)
+
+pub ruleset read_laws = (
   rows_there,
   balls_there,
   first_there,
   second_there,
-  scene_by_file,
-  scene_by_universe,
-  scene_by_rows,
-  scene_by_balls,
-  scene_by_first,
-  scene_by_second,
-  scene_by_window,
-)
-
-pub ruleset read_laws = (
-  rules,
+  header_refused,
   answer_refused,
-  memory_refused,
+  number-pos,
+  rows_kept,
+  balls_kept,
+  first_kept,
+  second_kept,
   answer_accepted,
   rows_accepted,
   balls_accepted,
   first_accepted,
   second_accepted,
-  numbers_fit,
-  numbers_place,
-  balls_place_lem,
-  first_there,
-  second_there,
-  rows_room,
-  balls_room,
-  first_room,
-  second_room,
+  few_rows,
+  few_balls,
+  few_first,
+  few_second,
 )

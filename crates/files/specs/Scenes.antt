@@ -1,7 +1,7 @@
 -- Rules 7.2 and 7.4 to 7.6: the scene. Behind what every file begins with, `scene_header`, by `is_scene` and
 -- `scene_header_of`, alone knows its versions and places.
 use Rattle.std.specs.Prelude.{ℕ, ◌+◌, ◌*◌, Bool, cond, ◌&&◌, ◌||◌, List, [], ◌∷◌, eqb, ℤ, length, get_or}
-use Rattle.universe.specs.Refusals.{first_refusal, bad_file}
+use Rattle.universe.specs.Refusals.{first_refusal}
 use Rattle.universe.specs.Lent.{overwritten}
 use Rattle.universe.specs.Universe.{universe_refusal}
 use Rattle.universe.specs.Voxel.{window_refusal}
@@ -11,8 +11,7 @@ use Rattle.csg.specs.Ball.{ball_length, balls_refusal}
 use Rattle.csg.specs.Surfaces.{Named}
 use Rattle.csg.specs.Words.{tree_refusal}
 use Rattle.files.specs.declared.Counts.{Counts}
-use Rattle.files.specs.declared.Scene.{Scene}
-use Rattle.files.specs.declared.SceneHeader.{SceneHeader}
+use Rattle.files.specs.Told.{SceneAnswer, SceneHeaderAnswer, refused_scene, no_scene_header}
 use Rattle.files.specs.Numbers.{u16_at, i64s_at, u16s_at, balls_at, number_bytes, word_bytes, short_bytes}
 use Rattle.files.specs.Numbers.{mark_of, version_of, universe_said, has_header}
 
@@ -62,19 +61,8 @@ unfoldable pub is_scene : List ℕ → Bool
 is_scene bytes =
     has_header bytes (rows_place bytes) scene_mark && has_version bytes && eqb (length bytes) (scene_length bytes)
 
--- rule 8.3: a number, and zeros
-abbrev pub refused_scene : ℕ → Scene
-refused_scene number =
-    record {
-      refusal = number;
-      version = 0;
-      universe = record { axes = 0; bits = 0; frame_bits = 0 };
-      counts = record { rows = 0; balls = 0; first = 0; second = 0 };
-      window = record { first = 0; last = 0 };
-    }
-
 -- what the header says of the scene, and where the rows, the balls, the words of tree 1 and those of tree 2 begin
-abbrev pub scene_header_of : List ℕ → SceneHeader
+abbrev pub scene_header_of : List ℕ → SceneHeaderAnswer
 scene_header_of bytes =
     record {
       scene =
@@ -100,25 +88,20 @@ scene_header_of bytes =
           };
     }
 
--- rule 8.1, number 1: the file is no scene
-abbrev pub no_scene_header : SceneHeader
-no_scene_header =
-    record { scene = refused_scene bad_file; places = record { rows = 0; balls = 0; first = 0; second = 0 } }
-
-unfoldable pub scene_header : List ℕ → SceneHeader
+unfoldable pub scene_header : List ℕ → SceneHeaderAnswer
 scene_header bytes = cond (is_scene bytes) (scene_header_of bytes) no_scene_header
 
 -- the rows, the balls, and the words of each tree
-abbrev pub rows_of : List ℕ → SceneHeader → List ℤ
+abbrev pub rows_of : List ℕ → SceneHeaderAnswer → List ℤ
 rows_of bytes h = i64s_at bytes h.places.rows (row_length * h.scene.counts.rows)
 
-abbrev pub balls_of : List ℕ → SceneHeader → List ℤ
+abbrev pub balls_of : List ℕ → SceneHeaderAnswer → List ℤ
 balls_of bytes h = balls_at bytes h.places.balls h.scene.counts.balls
 
-abbrev pub first_words_of : List ℕ → SceneHeader → List ℕ
+abbrev pub first_words_of : List ℕ → SceneHeaderAnswer → List ℕ
 first_words_of bytes h = u16s_at bytes h.places.first h.scene.counts.first
 
-abbrev pub second_words_of : List ℕ → SceneHeader → List ℕ
+abbrev pub second_words_of : List ℕ → SceneHeaderAnswer → List ℕ
 second_words_of bytes h = u16s_at bytes h.places.second h.scene.counts.second
 
 -- what the words of both trees may name
@@ -126,7 +109,7 @@ abbrev pub named_by : Counts → Named
 named_by counts = record { halfspaces = counts.rows; balls = counts.balls }
 
 -- rule 8.5: 1, 2, 3 for the rows, 3 for the balls, tree 1, tree 2, 9
-abbrev pub scene_checks : List ℕ → SceneHeader → List ℕ
+abbrev pub scene_checks : List ℕ → SceneHeaderAnswer → List ℕ
 scene_checks bytes h =
     h.scene.refusal
     ∷ universe_refusal h.scene.universe
@@ -141,7 +124,7 @@ unfoldable pub scene_refusal : List ℕ → ℕ
 scene_refusal bytes = first_refusal (scene_checks bytes (scene_header bytes))
 
 -- rule 7.4: what reading a scene answers
-unfoldable pub scene_answer : List ℕ → Scene
+unfoldable pub scene_answer : List ℕ → SceneAnswer
 scene_answer bytes = unless_refused (scene_refusal bytes) refused_scene (scene_header bytes).scene
 
 -- what the lent arrays hold afterwards

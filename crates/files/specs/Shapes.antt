@@ -2,14 +2,13 @@
 -- `shape_header_of`, and `shape_header_bytes` alone know its versions and its places.
 use Rattle.std.specs.Prelude.{ℕ, ◌+◌, ◌-◌, Bool, true, cond, ◌&&◌, ◌||◌, List, [], ◌∷◌, ◌++◌, leb, eqb, length, take, drop}
 use Rattle.universe.specs.declared.Universe.{Universe}
-use Rattle.universe.specs.Refusals.{first_refusal, unless, bad_file, no_room, not_merged}
+use Rattle.universe.specs.Refusals.{first_refusal, unless, no_room, not_merged}
 use Rattle.universe.specs.Lent.{overwritten, room_refusal}
-use Rattle.bintree.specs.declared.Written.{Written}
+use Rattle.bintree.specs.Told.{WrittenAnswer}
 use Rattle.bintree.specs.Reading.{expression}
 use Rattle.bintree.specs.Merging.{is_merged}
 use Rattle.bintree.specs.Answers.{of_shape, unless_refused, expression_checks, refused_writing, short_writing, done_writing}
-use Rattle.files.specs.declared.ShapeRead.{ShapeRead}
-use Rattle.files.specs.declared.ShapeHeader.{ShapeHeader}
+use Rattle.files.specs.Told.{ShapeAnswer, ShapeHeaderAnswer, refused_shape, short_shape, no_shape_header}
 use Rattle.files.specs.Numbers.{u32_at, u16_bytes, u32_bytes, mark_of, version_of, universe_said, has_header}
 
 -- rule 7.3: a shape's mark, `BNT`
@@ -55,7 +54,7 @@ unfoldable pub file_refusal : ℕ → ℕ → ℕ
 file_refusal lent count = cond (leb count most_symbols) (room_refusal lent (shape_length count)) no_room
 
 -- rule 8.7: what writing a shape file answers, and what the room holds afterwards
-unfoldable pub write_answer : Universe → List ℕ → List ℕ → Written
+unfoldable pub write_answer : Universe → List ℕ → List ℕ → WrittenAnswer
 write_answer u s out =
     unless_refused (symbols_refusal u s) refused_writing
     (unless_refused (file_refusal (length out) (length s)) (λ six. short_writing (shape_length (length s)))
@@ -79,17 +78,8 @@ is_shape bytes =
     && is_version (version_of bytes)
     && eqb (length bytes) (shape_header_length (version_of bytes) + symbol_count bytes)
 
--- rule 8.3: a number and zeros, and with 6 the length that is needed
-abbrev pub refused_shape : ℕ → ShapeRead
-refused_shape number =
-    record { refusal = number; universe = record { axes = 0; bits = 0; frame_bits = 0 }; length = 0 }
-
-abbrev pub short_shape : ℕ → ShapeRead
-short_shape needed =
-    record { refusal = no_room; universe = record { axes = 0; bits = 0; frame_bits = 0 }; length = needed }
-
 -- what the header says of the shape, and where the symbols begin; number 1 where the file is no shape
-abbrev pub shape_header_of : List ℕ → ShapeHeader
+abbrev pub shape_header_of : List ℕ → ShapeHeaderAnswer
 shape_header_of bytes =
     record {
       shape =
@@ -101,29 +91,26 @@ shape_header_of bytes =
       place = shape_header_length (version_of bytes);
     }
 
-abbrev pub no_shape_header : ShapeHeader
-no_shape_header = record { shape = refused_shape bad_file; place = 0 }
-
-unfoldable pub shape_header : List ℕ → ShapeHeader
+unfoldable pub shape_header : List ℕ → ShapeHeaderAnswer
 shape_header bytes = cond (is_shape bytes) (shape_header_of bytes) no_shape_header
 
 -- the symbols
-abbrev pub symbols_of : List ℕ → ShapeHeader → List ℕ
+abbrev pub symbols_of : List ℕ → ShapeHeaderAnswer → List ℕ
 symbols_of bytes h = take h.shape.length (drop h.place bytes)
 
 -- rule 8.5: 1, 2, 7, 8
-abbrev pub shape_checks : List ℕ → ShapeHeader → List ℕ
+abbrev pub shape_checks : List ℕ → ShapeHeaderAnswer → List ℕ
 shape_checks bytes h = h.shape.refusal ∷ symbols_refusal h.shape.universe (symbols_of bytes h) ∷ []
 
 unfoldable pub shape_refusal : List ℕ → ℕ
 shape_refusal bytes = first_refusal (shape_checks bytes (shape_header bytes))
 
 -- rule 8.7: what reading a shape file answers, which asks for room for its symbols, and what the room holds afterwards
-abbrev pub read_header : ℕ → ShapeHeader → ShapeRead
+abbrev pub read_header : ℕ → ShapeHeaderAnswer → ShapeAnswer
 read_header lent h =
     unless_refused (room_refusal lent h.shape.length) (λ six. short_shape h.shape.length) h.shape
 
-unfoldable pub read_answer : List ℕ → List ℕ → ShapeRead
+unfoldable pub read_answer : List ℕ → List ℕ → ShapeAnswer
 read_answer bytes out = unless_refused (shape_refusal bytes) refused_shape (read_header (length out) (shape_header bytes))
 
 abbrev pub read_buffer : List ℕ → List ℕ → List ℕ

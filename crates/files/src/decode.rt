@@ -18,21 +18,12 @@ pub(crate) const WORD_BYTES: usize = 2;
 pub(crate) const SHORT_BYTES: usize = 2;
 
 // Whether bytes are as long as a header of so many bytes, and begin with its mark.
+#[tactic(auto, using(crate::proofs::Numbers::header_short, crate::proofs::Numbers::header_starts))]
 pub(crate) fn has_header(bytes: &[u8], header: usize, mark: &[u8]) -> bool
     requires { length mark.now ≤ header }
     ensures { result ≡ has_header bytes.now header mark.now }
 {
-    if bytes.len() < header {
-        return false;
-    }
-    let mut i: usize = 0;
-    while i < mark.len() {
-        if bytes[i] != mark[i] {
-            return false;
-        }
-        i += 1;
-    }
-    true
+    header <= bytes.len() && bytes.starts_with(mark)
 }
 
 // The byte at a place.
@@ -40,7 +31,7 @@ pub(crate) fn byte_at(bytes: &[u8], at: usize) -> u64
     requires { at < length bytes.now }
     ensures { result ≡ get_or bytes.now at 0 }
 {
-    bytes[at] as u64
+    u64::from(bytes[at])
 }
 
 // The unsigned number of two bytes at a place.
@@ -48,9 +39,7 @@ pub(crate) fn u16_at(bytes: &[u8], at: usize) -> u16
     requires { at + 2 ≤ length bytes.now }
     ensures { result ≡ u16_at bytes.now at }
 {
-    let low = bytes[at] as u16;
-    let high = bytes[at + 1] as u16;
-    low + 256 * high
+    u16::from_le_bytes([bytes[at], bytes[at + 1]])
 }
 
 // The version of a file, behind the three bytes of its mark.
@@ -58,7 +47,7 @@ pub(crate) fn version_of(bytes: &[u8]) -> u64
     requires { 5 ≤ length bytes.now }
     ensures { result ≡ version_of bytes.now }
 {
-    u16_at(bytes, 3) as u64
+    u64::from(u16_at(bytes, 3))
 }
 
 // The universe that a file says, behind its version.
@@ -81,7 +70,7 @@ pub(crate) fn u32_at(bytes: &[u8], at: usize) -> u32
     requires { at + 4 ≤ length bytes.now }
     ensures { result ≡ u32_at bytes.now at }
 {
-    u16_at(bytes, at) as u32 + 65_536 * (u16_at(bytes, at + 2) as u32)
+    u32::from_le_bytes(bytes[at..at + 4].try_into().unwrap())
 }
 
 // The unsigned number of eight bytes at a place.
@@ -89,78 +78,64 @@ fn u64_at(bytes: &[u8], at: usize) -> u64
     requires { at + 8 ≤ length bytes.now }
     ensures { result ≡ u64_at bytes.now at }
 {
-    u32_at(bytes, at) as u64 + 4_294_967_296 * (u32_at(bytes, at + 4) as u64)
+    u64::from_le_bytes(bytes[at..at + 8].try_into().unwrap())
 }
 
-// 64 bits as a whole number: from 2^63 on they are those of a negative one.
-fn from_bits(bits: u64) -> i64
-    ensures { result ≡ from_bits 64 bits }
+// The whole number of eight bytes at a place.
+#[tactic(auto, using(crate::proofs::Numbers::long_read))]
+fn i64_at(bytes: &[u8], at: usize) -> i64
+    requires { at + 8 ≤ length bytes.now }
+    ensures { result ≡ from_bits 64 (u64_at bytes.now at) }
 {
-    if bits < 9_223_372_036_854_775_808 {
-        return bits as i64;
-    }
-    -1 - (18_446_744_073_709_551_615 - bits) as i64
-}
-
-// 16 bits as a whole number: from 2^15 on they are those of a negative one.
-fn from_short_bits(bits: u16) -> i64
-    ensures { result ≡ from_bits 16 bits }
-{
-    if bits < 32_768 {
-        return bits as i64;
-    }
-    bits as i64 - 65_536
+    u64_at(bytes, at).cast_signed()
 }
 
 // Number i of balls that begin at `at`: the last of each ball is its radius, which is unsigned.
+#[tactic(auto, unfolding(crate::specs::Numbers::ball_number), using(crate::proofs::Numbers::short_read))]
 fn ball_number(bytes: &[u8], at: usize, i: usize) -> i64
     requires { at + short_bytes * (i + 1) ≤ length bytes.now }
     ensures { result ≡ ball_number bytes.now at i }
 {
     let bits = u16_at(bytes, at + SHORT_BYTES * i);
     if i % BALL_LENGTH == MOST_PLACES {
-        return bits as i64;
+        return i64::from(bits);
     }
-    from_short_bits(bits)
+    i64::from(bits.cast_signed())
 }
 
 // Reads `count` numbers of eight bytes that begin at `at` into the front of `out`.
+#[tactic(auto, using(crate::proofs::Numbers::filling_laws))]
 pub(crate) fn read_numbers(bytes: &[u8], at: usize, count: usize, out: &mut [i64])
     requires count_in_bounds { at + number_bytes * count ≤ length bytes.now }
     requires count_in_bounds_2 { count ≤ length out.old }
     ensures { out.new ≡ i64s_at bytes.now at count ++ drop count out.old }
 {
-    let mut i: usize = 0;
-    while i < count {
-        out[i] = from_bits(u64_at(bytes, at + NUMBER_BYTES * i));
-        i += 1;
+    for (i, number) in out[..count].iter_mut().enumerate() {
+        *number = i64_at(bytes, at + NUMBER_BYTES * i);
     }
 }
 
 // Reads the numbers of `count` balls that begin at `at` into the front of `out`.
+#[tactic(auto, using(crate::proofs::Numbers::filling_laws))]
 pub(crate) fn read_balls(bytes: &[u8], at: usize, count: usize, out: &mut [i64])
     requires count_in_bounds { at + short_bytes * (ball_length * count) ≤ length bytes.now }
     requires count_in_bounds_2 { ball_length * count ≤ length out.old }
     ensures { let rest = drop (ball_length * count) out.old in
         out.new ≡ balls_at bytes.now at count ++ rest }
 {
-    let numbers = BALL_LENGTH * count;
-    let mut i: usize = 0;
-    while i < numbers {
-        out[i] = ball_number(bytes, at, i);
-        i += 1;
+    for (i, number) in out[..BALL_LENGTH * count].iter_mut().enumerate() {
+        *number = ball_number(bytes, at, i);
     }
 }
 
 // Reads `count` words that begin at `at` into the front of `out`.
+#[tactic(auto, using(crate::proofs::Numbers::filling_laws))]
 pub(crate) fn read_words(bytes: &[u8], at: usize, count: usize, out: &mut [u16])
     requires count_in_bounds { at + word_bytes * count ≤ length bytes.now }
     requires count_in_bounds_2 { count ≤ length out.old }
     ensures { out.new ≡ u16s_at bytes.now at count ++ drop count out.old }
 {
-    let mut i: usize = 0;
-    while i < count {
-        out[i] = u16_at(bytes, at + WORD_BYTES * i);
-        i += 1;
+    for (i, word) in out[..count].iter_mut().enumerate() {
+        *word = u16_at(bytes, at + WORD_BYTES * i);
     }
 }

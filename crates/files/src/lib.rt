@@ -5,17 +5,13 @@ mod decode;
 mod scene_file;
 mod shape_file;
 
-ghost use Rattle.std.specs.Prelude.{◌≡◌};
-ghost use Rattle.files.specs.Scenes.{refused_scene};
-ghost use Rattle.files.specs.Shapes.{refused_shape, short_shape};
-
 pub use decode::FIRST_VERSION;
 pub use scene_file::{MOST_BALL_NUMBERS, MOST_NUMBERS, read_scene};
 pub use shape_file::{read_shape, write_shape};
-use universe::{Universe, refusals};
+use universe::Universe;
 
 // How many rows and balls a scene has, and how many words each of its trees.
-#[derive(Clone, Copy)]
+#[derive(Clone, Copy, Debug, PartialEq, Eq)]
 pub struct Counts {
     pub rows: u64,
     pub balls: u64,
@@ -24,47 +20,23 @@ pub struct Counts {
 }
 
 // A window of frames, both ends in.
-#[derive(Clone, Copy)]
+#[derive(Clone, Copy, Debug, PartialEq, Eq)]
 pub struct Window {
     pub first: u64,
     pub last: u64,
 }
 
-// What reading a scene answers: 0 and what the scene says, or a refusal and zeros.
-#[derive(Clone, Copy)]
+// What a scene file says before its rows: its version, its universe, its counts and its window.
+#[derive(Clone, Copy, Debug, PartialEq, Eq)]
 pub struct Scene {
-    pub refusal: u64,
     pub version: u64,
     pub universe: Universe,
     pub counts: Counts,
     pub window: Window,
 }
 
-impl Scene {
-    pub(crate) fn refused(number: u64) -> Scene
-        ensures { result ≡ refused_scene number }
-    {
-        Scene {
-            refusal: number,
-            version: 0,
-            universe: Universe {
-                axes: 0,
-                bits: 0,
-                frame_bits: 0,
-            },
-            counts: Counts {
-                rows: 0,
-                balls: 0,
-                first: 0,
-                second: 0,
-            },
-            window: Window { first: 0, last: 0 },
-        }
-    }
-}
-
 // Where the parts of a scene file begin.
-#[derive(Clone, Copy)]
+#[derive(Clone, Copy, Debug, PartialEq, Eq)]
 pub struct Places {
     pub rows: usize,
     pub balls: usize,
@@ -72,56 +44,22 @@ pub struct Places {
     pub second: usize,
 }
 
-// What the header of a scene file says: the scene, or 1 and zeros, and the places of what follows it.
-#[derive(Clone, Copy)]
+// What the header of a scene file says: the scene, and the places of what follows it.
+#[derive(Clone, Copy, Debug, PartialEq, Eq)]
 pub struct SceneHeader {
     pub scene: Scene,
     pub places: Places,
 }
 
-// What reading a shape file answers: 0, its universe and the number of its symbols; 6 and the number of its symbols; or
-// another refusal and zeros.
-#[derive(Clone, Copy)]
+// What a shape file says: its universe, and the number of its symbols.
+#[derive(Clone, Copy, Debug, PartialEq, Eq)]
 pub struct ShapeRead {
-    pub refusal: u64,
     pub universe: Universe,
     pub length: u64,
 }
 
-impl ShapeRead {
-    // Refused with a number other than 6.
-    pub(crate) fn refused(number: u64) -> ShapeRead
-        ensures { result ≡ refused_shape number }
-    {
-        ShapeRead {
-            refusal: number,
-            universe: Universe {
-                axes: 0,
-                bits: 0,
-                frame_bits: 0,
-            },
-            length: 0,
-        }
-    }
-
-    // Refused 6: so much room is needed.
-    pub(crate) fn short(needed: u64) -> ShapeRead
-        ensures { result ≡ short_shape needed }
-    {
-        ShapeRead {
-            refusal: refusals::NO_ROOM,
-            universe: Universe {
-                axes: 0,
-                bits: 0,
-                frame_bits: 0,
-            },
-            length: needed,
-        }
-    }
-}
-
-// What the header of a shape file says: the shape, or 1 and zeros, and where its symbols begin.
-#[derive(Clone, Copy)]
+// What the header of a shape file says: the shape, and where its symbols begin.
+#[derive(Clone, Copy, Debug, PartialEq, Eq)]
 pub struct ShapeHeader {
     pub shape: ShapeRead,
     pub place: usize,

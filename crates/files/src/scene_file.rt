@@ -7,6 +7,8 @@ ghost use Rattle.files.specs.Numbers.{i64s_at, u16s_at, balls_at, word_bytes};
 ghost use Rattle.files.specs.Scenes.{balls_said, row_bytes, ball_bytes, rows_place, words_place};
 ghost use Rattle.files.specs.Scenes.{scene_length, has_version, is_scene};
 ghost use Rattle.files.specs.Scenes.{scene_header_of, scene_header, named_by, scene_refusal};
+ghost use Rattle.files.specs.Told.{accepted_scene_header, scene_header_told, scene_told};
+ghost use Rattle.universe.specs.Told.{number_told};
 ghost use Rattle.files.specs.Scenes.{scene_answer, rows_after, balls_after, first_words_after, second_words_after};
 
 use crate::decode::{
@@ -17,7 +19,7 @@ use crate::{Counts, Places, Scene, SceneHeader, Window};
 use csg::{
     BALL_LENGTH, MOST_BALLS, MOST_ROWS, MOST_WORDS, ROW_LENGTH, check_balls, check_rows, check_tree,
 };
-use universe::{Universe, refusals};
+use universe::{Refusal, Universe};
 
 // The numbers of all rows of a scene, and of all its balls.
 pub const MOST_NUMBERS: usize = MOST_ROWS * ROW_LENGTH;
@@ -42,6 +44,7 @@ const ROW_BYTES: usize = NUMBER_BYTES * ROW_LENGTH;
 const BALL_BYTES: usize = SHORT_BYTES * BALL_LENGTH;
 
 // Where the rows begin, which is the length of the header.
+#[tactic(auto, unfolding(crate::specs::Scenes::rows_place))]
 fn rows_place(bytes: &[u8]) -> usize
     requires { 18 ≤ length bytes.now }
     ensures { result ≡ rows_place bytes.now }
@@ -53,6 +56,7 @@ fn rows_place(bytes: &[u8]) -> usize
 }
 
 // How many balls there are.
+#[tactic(auto, unfolding(crate::specs::Scenes::balls_said, crate::specs::Scenes::rows_place))]
 fn balls_said(bytes: &[u8]) -> u16
     requires { rows_place bytes.now ≤ length bytes.now }
     ensures { result ≡ balls_said bytes.now }
@@ -64,6 +68,7 @@ fn balls_said(bytes: &[u8]) -> u16
 }
 
 // Whether the bytes are as long as their header says.
+#[tactic(auto, using(crate::proofs::SceneHeaders::header_laws))]
 fn is_whole(bytes: &[u8]) -> bool
     requires { rows_place bytes.now ≤ length bytes.now }
     ensures { result ≡ eqb (length bytes.now) (scene_length bytes.now) }
@@ -77,6 +82,7 @@ fn is_whole(bytes: &[u8]) -> bool
 }
 
 // Whether the version is read: the first one has a byte 0 where frame bits stand.
+#[tactic(auto, unfolding(crate::specs::Scenes::has_version), using(crate::proofs::SceneHeaders::header_laws))]
 fn has_version(bytes: &[u8]) -> bool
     requires { rows_place bytes.now ≤ length bytes.now }
     ensures { result ≡ has_version bytes.now }
@@ -85,32 +91,25 @@ fn has_version(bytes: &[u8]) -> bool
     if version == FIRST_VERSION {
         return byte_at(bytes, 7) == 0;
     }
-    if version == FRAME_VERSION {
-        return true;
-    }
-    version == BALL_VERSION
+    version == FRAME_VERSION || version == BALL_VERSION
 }
 
 // Whether the bytes are a scene file by mark, version, zero byte and length.
+#[tactic(auto, unfolding(crate::specs::Scenes::is_scene), using(crate::proofs::SceneHeaders::test_laws))]
 fn is_scene(bytes: &[u8]) -> bool
     ensures { result ≡ is_scene bytes.now }
 {
-    if bytes.len() < HEADER_LENGTH {
-        return false;
-    }
-    if !has_header(bytes, rows_place(bytes), &MARK) {
-        return false;
-    }
-    if !has_version(bytes) {
-        return false;
-    }
-    is_whole(bytes)
+    HEADER_LENGTH <= bytes.len()
+        && has_header(bytes, rows_place(bytes), &MARK)
+        && has_version(bytes)
+        && is_whole(bytes)
 }
 
 // What the header of a scene file says.
+#[tactic(auto, using(crate::proofs::SceneHeaders::header_laws))]
 fn header_of(bytes: &[u8]) -> SceneHeader
     requires { rows_place bytes.now ≤ length bytes.now }
-    ensures { result ≡ scene_header_of bytes.now }
+    ensures { accepted_scene_header result ≡ scene_header_of bytes.now }
 {
     let header = rows_place(bytes);
     let rows = u16_at(bytes, 8) as u64;
@@ -120,13 +119,12 @@ fn header_of(bytes: &[u8]) -> SceneHeader
     let after_balls = after_rows + BALL_BYTES * balls as usize;
     SceneHeader {
         scene: Scene {
-            refusal: 0,
             version: version_of(bytes),
             universe: universe_said(bytes),
             counts: Counts {
-                rows: rows,
-                balls: balls,
-                first: first,
+                rows,
+                balls,
+                first,
                 second: u16_at(bytes, 12) as u64,
             },
             window: Window {
@@ -143,31 +141,26 @@ fn header_of(bytes: &[u8]) -> SceneHeader
     }
 }
 
-// The header of a scene file, or number 1.
-fn scene_header(bytes: &[u8]) -> SceneHeader
-    ensures { result ≡ scene_header bytes.now }
+// The header of a scene file, or `BadFile`.
+#[tactic(auto, unfolding(crate::specs::Scenes::scene_header), using(crate::proofs::SceneHeaders::scene_whole))]
+fn scene_header(bytes: &[u8]) -> Result<SceneHeader, Refusal>
+    ensures { scene_header_told result ≡ scene_header bytes.now }
 {
-    if is_scene(bytes) {
-        return header_of(bytes);
+    if !is_scene(bytes) {
+        return Err(Refusal::BadFile);
     }
-    SceneHeader {
-        scene: Scene::refused(refusals::BAD_FILE),
-        places: Places {
-            rows: 0,
-            balls: 0,
-            first: 0,
-            second: 0,
-        },
-    }
+    Ok(header_of(bytes))
 }
 
-// 3 where the rows of a scene are refused, else 0.
-fn rows_refusal(universe: Universe, bytes: &[u8], at: usize, count: usize) -> u64
+// Refused where the rows of a scene are.
+#[tactic(auto, using(crate::proofs::Scenes::rows_many))]
+fn check_rows_at(universe: Universe, bytes: &[u8], at: usize, count: usize) -> Result<(), Refusal>
     requires { at + row_bytes * count ≤ length bytes.now }
-    ensures { result ≡ rows_refusal universe (i64s_at bytes.now at (row_length * count)) }
+    ensures { let rows = i64s_at bytes.now at (row_length * count) in
+        number_told result ≡ rows_refusal universe rows }
 {
     if MOST_ROWS < count {
-        return refusals::BAD_ROWS;
+        return Err(Refusal::BadRows);
     }
     let mut rows = [0i64; MOST_NUMBERS];
     let length = ROW_LENGTH * count;
@@ -175,13 +168,14 @@ fn rows_refusal(universe: Universe, bytes: &[u8], at: usize, count: usize) -> u6
     check_rows(universe, &rows[..length])
 }
 
-// 3 where the balls of a scene are refused, else 0.
-fn balls_refusal(universe: Universe, bytes: &[u8], at: usize, count: usize) -> u64
+// Refused where the balls of a scene are.
+#[tactic(auto, using(crate::proofs::Scenes::balls_many))]
+fn check_balls_at(universe: Universe, bytes: &[u8], at: usize, count: usize) -> Result<(), Refusal>
     requires { at + ball_bytes * count ≤ length bytes.now }
-    ensures { result ≡ balls_refusal universe (balls_at bytes.now at count) }
+    ensures { number_told result ≡ balls_refusal universe (balls_at bytes.now at count) }
 {
     if MOST_BALLS < count {
-        return refusals::BAD_ROWS;
+        return Err(Refusal::BadRows);
     }
     let mut balls = [0i64; MOST_BALL_NUMBERS];
     let length = BALL_LENGTH * count;
@@ -189,80 +183,64 @@ fn balls_refusal(universe: Universe, bytes: &[u8], at: usize, count: usize) -> u
     check_balls(universe, &balls[..length])
 }
 
-// 4 or 5 where the words of a tree are refused, else 0.
-fn words_refusal(counts: Counts, bytes: &[u8], at: usize, count: usize) -> u64
+// Refused where the words of a tree are.
+#[tactic(auto, using(crate::proofs::Scenes::words_many))]
+fn check_words_at(counts: Counts, bytes: &[u8], at: usize, count: usize) -> Result<(), Refusal>
     requires { at + word_bytes * count ≤ length bytes.now }
-    ensures { result ≡ tree_refusal (named_by counts) (u16s_at bytes.now at count) }
+    ensures { number_told result ≡ tree_refusal (named_by counts) (u16s_at bytes.now at count) }
 {
     if MOST_WORDS < count {
-        return refusals::OVERFULL_TREE;
+        return Err(Refusal::OverfullTree);
     }
     let mut words = [0u16; MOST_WORDS];
     read_words(bytes, at, count, &mut words);
     check_tree(counts.rows, counts.balls, &words[..count])
 }
 
-// The number that refuses a scene with this header, or 0.
-fn scene_refusal(bytes: &[u8], header: SceneHeader) -> u64
-    requires { header ≡ scene_header bytes.now }
-    ensures { result ≡ scene_refusal bytes.now }
+// Refused where a scene with this header is.
+#[tactic(auto, unfolding(crate::specs::Scenes::scene_refusal), using(crate::proofs::Scenes::refusal_laws))]
+fn check_scene(bytes: &[u8], header: SceneHeader) -> Result<(), Refusal>
+    requires { accepted_scene_header header ≡ scene_header bytes.now }
+    ensures { number_told result ≡ scene_refusal bytes.now }
 {
-    let scene = header.scene;
-    if scene.refusal != 0 {
-        return scene.refusal;
-    }
-    let universe = scene.universe.refusal();
-    if universe != 0 {
-        return universe;
-    }
-    let counts = scene.counts;
-    let places = header.places;
-    let rows = rows_refusal(scene.universe, bytes, places.rows, counts.rows as usize);
-    if rows != 0 {
-        return rows;
-    }
-    let balls = balls_refusal(scene.universe, bytes, places.balls, counts.balls as usize);
-    if balls != 0 {
-        return balls;
-    }
-    let first = words_refusal(counts, bytes, places.first, counts.first as usize);
-    if first != 0 {
-        return first;
-    }
-    let second = words_refusal(counts, bytes, places.second, counts.second as usize);
-    if second != 0 {
-        return second;
-    }
-    let window = scene.window;
-    scene.universe.window_refusal(window.first, window.last)
+    let SceneHeader { scene, places } = header;
+    let Scene {
+        universe,
+        counts,
+        window,
+        ..
+    } = scene;
+    universe.check()?;
+    check_rows_at(universe, bytes, places.rows, counts.rows as usize)?;
+    check_balls_at(universe, bytes, places.balls, counts.balls as usize)?;
+    check_words_at(counts, bytes, places.first, counts.first as usize)?;
+    check_words_at(counts, bytes, places.second, counts.second as usize)?;
+    universe.check_window(window.first, window.last)
 }
 
 // Reads a scene: its rows, its balls and the words of its two trees go to the front of the lent arrays; where it is
 // refused, nothing does.
+#[tactic(auto, using(crate::proofs::Scenes::read_laws))]
 pub fn read_scene(
     bytes: &[u8],
     rows: &mut [i64; MOST_NUMBERS],
     balls: &mut [i64; MOST_BALL_NUMBERS],
     first: &mut [u16; MOST_WORDS],
     second: &mut [u16; MOST_WORDS],
-) -> Scene
-    ensures value { result ≡ scene_answer bytes.now }
+) -> Result<Scene, Refusal>
+    ensures value { scene_told result ≡ scene_answer bytes.now }
     ensures rows_after { rows.new ≡ rows_after bytes.now rows.old }
     ensures balls_after { balls.new ≡ balls_after bytes.now balls.old }
     ensures first_after { first.new ≡ first_words_after bytes.now first.old }
     ensures second_after { second.new ≡ second_words_after bytes.now second.old }
 {
-    let header = scene_header(bytes);
-    let refusal = scene_refusal(bytes, header);
-    if refusal != 0 {
-        return Scene::refused(refusal);
-    }
-    let scene = header.scene;
+    let header = scene_header(bytes)?;
+    check_scene(bytes, header)?;
+    let SceneHeader { scene, places } = header;
     let counts = scene.counts;
-    let places = header.places;
     read_numbers(bytes, places.rows, ROW_LENGTH * counts.rows as usize, rows);
     read_balls(bytes, places.balls, counts.balls as usize, balls);
     read_words(bytes, places.first, counts.first as usize, first);
     read_words(bytes, places.second, counts.second as usize, second);
-    scene
+    Ok(scene)
 }

@@ -5,11 +5,14 @@ ghost use Rattle.files.specs.Numbers.{version_of};
 ghost use Rattle.files.specs.Shapes.{shape_header_length, most_symbols, symbols_refusal, shape_header_bytes};
 ghost use Rattle.files.specs.Shapes.{is_version, is_shape, shape_header_of, shape_header, shape_refusal};
 ghost use Rattle.files.specs.Shapes.{write_answer, write_buffer, read_answer, read_buffer};
+ghost use Rattle.files.specs.Told.{accepted_shape_header, shape_header_told, shape_told};
+ghost use Rattle.universe.specs.Told.{number_told};
+ghost use Rattle.bintree.specs.Told.{writing_told};
 
 use crate::decode::{FIRST_VERSION, has_header, u32_at, universe_said, version_of};
 use crate::{ShapeHeader, ShapeRead};
-use bintree::{Written, copy, merge};
-use universe::{Universe, refusals};
+use bintree::merge;
+use universe::{Refusal, Universe, Unwritten};
 
 // With what a shape file begins.
 const MARK: [u8; 3] = [b'B', b'N', b'T'];
@@ -27,65 +30,60 @@ const COUNT_BYTES: usize = 4;
 // The most symbols that a shape file counts.
 const MOST_SYMBOLS: usize = 4_294_967_295;
 
-// 0 where an expression is merged, else 2, 7 or 8: merging into no room tells the length needed, or none of what is no
-// expression, and leaves the expression's length only where there is nothing to merge.
-fn symbols_refusal(universe: Universe, expression: &[u8]) -> u64
-    ensures { result ≡ symbols_refusal universe expression.now }
+// Refused where an expression is not merged: merging into no room tells the length needed, or refuses what is no
+// expression, and needs the expression's own length only where there is nothing to merge.
+#[tactic(auto, using(crate::proofs::Measuring::measuring_laws))]
+fn check_symbols(universe: Universe, expression: &[u8]) -> Result<(), Refusal>
+    ensures { number_told result ≡ symbols_refusal universe expression.now }
 {
-    let mut nothing = [0u8; 0];
-    let measured = merge(universe, expression, &mut nothing);
-    if measured.length == 0 {
-        return measured.refusal;
+    match merge(universe, expression, &mut []) {
+        Err(Unwritten::Refused(refusal)) => Err(refusal),
+        Err(Unwritten::NoRoom(needed)) if needed == expression.len() as u64 => Ok(()),
+        _ => Err(Refusal::NotMerged),
     }
-    if measured.length == expression.len() as u64 {
-        return 0;
-    }
-    refusals::NOT_MERGED
 }
 
 // The header of a shape file.
+#[tactic(auto, using(crate::proofs::Shapes::header_laws))]
 fn header_bytes(universe: Universe, count: usize) -> [u8; HEADER_LENGTH]
     requires universe_value { universe_refusal universe ≡ 0 }
     requires count_le_most_symbols { count ≤ most_symbols }
     ensures { result ≡ shape_header_bytes universe count }
 {
+    let [b, n, t] = MARK;
+    let [low, high] = (VERSION as u16).to_le_bytes();
+    let [first, second, third, fourth] = (count as u32).to_le_bytes();
     [
-        b'B',
-        b'N',
-        b'T',
-        VERSION as u8,
-        0,
+        b,
+        n,
+        t,
+        low,
+        high,
         universe.axes as u8,
         universe.bits as u8,
         universe.frame_bits as u8,
-        (count % 256) as u8,
-        (count / 256 % 256) as u8,
-        (count / 65_536 % 256) as u8,
-        (count / 16_777_216 % 256) as u8,
+        first,
+        second,
+        third,
+        fourth,
     ]
 }
 
 // Writes the shape file of a merged expression into lent room; where it is refused or does not fit, nothing.
-pub fn write_shape(universe: Universe, expression: &[u8], out: &mut [u8]) -> Written
-    ensures value { result ≡ write_answer universe expression.now out.old }
+#[tactic(auto, using(crate::proofs::Shapes::write_laws))]
+pub fn write_shape(universe: Universe, expression: &[u8], out: &mut [u8]) -> Result<u64, Unwritten>
+    ensures value { writing_told result ≡ write_answer universe expression.now out.old }
     ensures out_after { out.new ≡ write_buffer universe expression.now out.old }
 {
-    let refusal = symbols_refusal(universe, expression);
-    if refusal != 0 {
-        return Written::refused(refusal);
-    }
+    check_symbols(universe, expression)?;
     let count = expression.len();
     let needed = HEADER_LENGTH + count;
-    if MOST_SYMBOLS < count {
-        return Written::short(needed as u64);
+    if MOST_SYMBOLS < count || out.len() < needed {
+        return Err(Unwritten::NoRoom(needed as u64));
     }
-    if out.len() < needed {
-        return Written::short(needed as u64);
-    }
-    let header = header_bytes(universe, count);
-    copy(&header, out, 0);
-    copy(expression, out, HEADER_LENGTH);
-    Written::done(needed as u64)
+    out[..HEADER_LENGTH].copy_from_slice(&header_bytes(universe, count));
+    out[HEADER_LENGTH..needed].copy_from_slice(expression);
+    Ok(needed as u64)
 }
 
 // The length of the header of a version.
@@ -102,13 +100,11 @@ fn header_length(version: u64) -> usize
 fn is_version(version: u64) -> bool
     ensures { result ≡ is_version version }
 {
-    if version == FIRST_VERSION {
-        return true;
-    }
-    version == VERSION
+    version == FIRST_VERSION || version == VERSION
 }
 
 // Whether the bytes are a shape file by mark, version and length.
+#[tactic(auto, unfolding(crate::specs::Shapes::is_shape), using(crate::proofs::Shapes::test_laws))]
 fn is_shape(bytes: &[u8]) -> bool
     ensures { result ≡ is_shape bytes.now }
 {
@@ -117,24 +113,20 @@ fn is_shape(bytes: &[u8]) -> bool
     }
     let version = version_of(bytes);
     let header = header_length(version);
-    if !has_header(bytes, header, &MARK) {
-        return false;
-    }
-    if !is_version(version) {
-        return false;
-    }
-    bytes.len() == header + u32_at(bytes, header - COUNT_BYTES) as usize
+    has_header(bytes, header, &MARK)
+        && is_version(version)
+        && bytes.len() == header + u32_at(bytes, header - COUNT_BYTES) as usize
 }
 
 // What the header of a shape file says.
+#[tactic(auto, using(crate::proofs::Shapes::least))]
 fn header_of(bytes: &[u8]) -> ShapeHeader
     requires { shape_header_length (version_of bytes.now) ≤ length bytes.now }
-    ensures { result ≡ shape_header_of bytes.now }
+    ensures { accepted_shape_header result ≡ shape_header_of bytes.now }
 {
     let header = header_length(version_of(bytes));
     ShapeHeader {
         shape: ShapeRead {
-            refusal: 0,
             universe: universe_said(bytes),
             length: u32_at(bytes, header - COUNT_BYTES) as u64,
         },
@@ -142,51 +134,31 @@ fn header_of(bytes: &[u8]) -> ShapeHeader
     }
 }
 
-// The header of a shape file, or number 1.
-fn shape_header(bytes: &[u8]) -> ShapeHeader
-    ensures { result ≡ shape_header bytes.now }
+// The header of a shape file, or `BadFile`.
+#[tactic(auto, unfolding(crate::specs::Shapes::shape_header), using(crate::proofs::Shapes::shape_long))]
+fn shape_header(bytes: &[u8]) -> Result<ShapeHeader, Refusal>
+    ensures { shape_header_told result ≡ shape_header bytes.now }
 {
-    if is_shape(bytes) {
-        return header_of(bytes);
+    if !is_shape(bytes) {
+        return Err(Refusal::BadFile);
     }
-    ShapeHeader {
-        shape: ShapeRead::refused(refusals::BAD_FILE),
-        place: 0,
-    }
-}
-
-// The number that refuses a shape file with this header, or 0.
-fn shape_refusal(bytes: &[u8], header: ShapeHeader) -> u64
-    requires { header ≡ shape_header bytes.now }
-    ensures { result ≡ shape_refusal bytes.now }
-{
-    let shape = header.shape;
-    if shape.refusal != 0 {
-        return shape.refusal;
-    }
-    let start = header.place;
-    let end = start + shape.length as usize;
-    symbols_refusal(shape.universe, &bytes[start..end])
+    Ok(header_of(bytes))
 }
 
 // Reads a shape file: its symbols go to the front of the lent room; where it is refused or they do not fit, nothing
 // does.
-pub fn read_shape(bytes: &[u8], out: &mut [u8]) -> ShapeRead
-    ensures value { result ≡ read_answer bytes.now out.old }
+#[tactic(auto, using(crate::proofs::Shapes::read_laws))]
+pub fn read_shape(bytes: &[u8], out: &mut [u8]) -> Result<ShapeRead, Unwritten>
+    ensures value { shape_told result ≡ read_answer bytes.now out.old }
     ensures out_after { out.new ≡ read_buffer bytes.now out.old }
 {
-    let header = shape_header(bytes);
-    let refusal = shape_refusal(bytes, header);
-    if refusal != 0 {
-        return ShapeRead::refused(refusal);
-    }
-    let shape = header.shape;
+    let ShapeHeader { shape, place } = shape_header(bytes)?;
     let count = shape.length as usize;
+    let symbols = &bytes[place..place + count];
+    check_symbols(shape.universe, symbols)?;
     if out.len() < count {
-        return ShapeRead::short(shape.length);
+        return Err(Unwritten::NoRoom(shape.length));
     }
-    let start = header.place;
-    let end = start + count;
-    copy(&bytes[start..end], out, 0);
-    shape
+    out[..count].copy_from_slice(symbols);
+    Ok(shape)
 }

@@ -9,7 +9,7 @@ use borrow.Author.Tests.{eq-eqb, ne_eqb}
 use lib.ListN.{length, take}
 use Rattle.universe.specs.declared.Universe.{Universe}
 use Rattle.universe.specs.Universe.{universe_refusal, levels}
-use Rattle.bintree.specs.declared.Written.{Written}
+use Rattle.bintree.specs.Told.{WrittenAnswer}
 use Rattle.bintree.specs.Shape.{Shape, symbols, depth}
 use Rattle.bintree.specs.Reading.{Reading, none, read, expression, expression_refusal}
 use Rattle.bintree.specs.Answers.{of_shape, well_formed_refusal, written_answer}
@@ -22,7 +22,7 @@ use Rattle.held.specs.Held.{Held, LargestHeld, HeldBack, at_bound}
 use Rattle.held.proofs.Texts.{spelt}
 use Rattle.held.proofs.Bounds.{most_held_lem, most_bound, bound_depth, bound_attained}
 
-module _ (held : ℕ) (answer : Written) where
+module _ (held : ℕ) (answer : WrittenAnswer) where
   with_held_lem : answer.refusal ≡ 0 → (with_held held answer).held ≡ held
   with_held_lem e = rw (eq-eqb answer.refusal 0 e)
 
@@ -30,7 +30,7 @@ module _ (held : ℕ) (answer : Written) where
   with_none h = rw (ne_eqb answer.refusal 0 h)
 
 module _ (u : Universe) (s out : List ℕ) where
-  abbrev written : Written
+  abbrev written : WrittenAnswer
   written = written_answer (well_formed_refusal u s) out (merged_symbols u s)
 
   abbrev most : ℕ
@@ -53,7 +53,7 @@ module _ (u : Universe) (s out : List ℕ) where
 
       by : Dec (well_formed_refusal u s ≡ 0) → Accepted
       by (yes z) = of_shape_lem (ℕ_discrete (universe_refusal u) 0) (expression u s) refl z
-      by (no h) = absurd (h (ap (λ (a : Written). a.refusal) (written_refused (well_formed_refusal u s) out (merged_symbols u s) h) ∙ e))
+      by (no h) = absurd (h (ap (λ (a : WrittenAnswer). a.refusal) (written_refused (well_formed_refusal u s) out (merged_symbols u s) h) ∙ e))
 
   held_largest : written.refusal ≡ 0 → LargestHeld u s (with_held most written).held
   held_largest e =

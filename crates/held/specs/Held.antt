@@ -4,7 +4,7 @@ use Rattle.std.specs.Prelude.{ℕ, zero, suc, ◌+◌, ◌-◌, ◌*◌, ◌≤�
 use Rattle.universe.specs.declared.Universe.{Universe}
 use Rattle.universe.specs.Universe.{levels}
 use Rattle.bintree.specs.declared.Colour.TheVariants.{White, Black}
-use Rattle.bintree.specs.declared.Merged.{Merged}
+use Rattle.bintree.specs.Told.{MergedAnswer}
 use Rattle.bintree.specs.Shape.{Shape, leaf, halved, open_symbol, symbol_of}
 use Rattle.bintree.specs.Reading.{expression_refusal}
 use Rattle.bintree.specs.Merging.{merged_symbols}
@@ -51,7 +51,7 @@ pub record LargestHeld (u : Universe) (text : List ℕ) (m : ℕ) : Type 0 where
 
 -- what is promised of merging these bytes: the held count of an answer that refuses nothing is the largest; that of a
 -- refused one, 6 too, is 0; and it is at most twice the levels
-pub record HeldBack (u : Universe) (bytes : List ℕ) (answer : Merged) : Type 0 where
+pub record HeldBack (u : Universe) (bytes : List ℕ) (answer : MergedAnswer) : Type 0 where
   pub largest : answer.refusal ≡ 0 → LargestHeld u bytes answer.held
   pub none : (answer.refusal ≡ 0 → ⊥) → answer.held ≡ 0
   pub few : answer.held ≤ 2 * levels u

@@ -1,5 +1,6 @@
 -- Laws of general things.
 pub mod Sums
+pub mod Chains
 pub mod Whole
 pub mod Machine
 pub mod Totals

@@ -1,13 +1,18 @@
 -- Bytes stored from a place on: one run behind another is one run, and a run from the first place on is the front of the array.
 use Prim.Native.Nat.{ℕ, ◌+◌, ◌/◌, ◌%◌, ◌^◌, ◌≤◌, ◌<◌}
 use native.Mathlib.Omega.{arith}
-use mathlib.Core.Path.{◌≡◌, ◌∙◌}
+use mathlib.Core.Path.{◌≡◌, sym, ◌∙◌}
 use mathlib.Core.List.{List, [], ◌∷◌, ◌++◌}
-use lib.ListN.{length, drop, length-append}
+use lib.ListN.{length, take, drop, length-append}
+use lib.Seq.{sets}
+use borrow.Rule.Slice.PartMut.{put_mid}
+use Rattle.std.proofs.Common.{◌-◌, refl, le_refl}
+use Rattle.std.proofs.lemmas.List.{append_assoc, drop-drop}
+use Rattle.std.proofs.lemmas.List.Edits.{sets-eq}
 use Rattle.lemmas.proofs.Stores.{sets_append, sets_first}
 use Rattle.lines.specs.Decimal.{digit, decimal}
 use Rattle.lines.specs.Appended.{most_digits, most_bytes, Appended}
-use Rattle.lines.proofs.Decimal.{decimal_units, decimal_tens, decimal_few}
+use Rattle.lines.proofs.Decimal.{decimal_units, decimal_tens, decimal_few, units_few, tens_few}
 
 module _ {most : ℕ} {before : List ℕ} {at : ℕ} {bytes after : List ℕ} {next : ℕ} (a : Appended most before at bytes after next) where
   pub appended_within : {more : ℕ} → most ≤ more → Appended more before at bytes after next
@@ -23,6 +28,15 @@ module _ {most : ℕ} {before : List ℕ} {at : ℕ} {bytes after : List ℕ} {n
         same = b.same ∙ rw (a.same, a.end) (sets_append bytes others before at);
         end = simp length-append (omega (arith, a.end, b.end));
       }
+
+-- what was copied into the array stands there
+pub copied : (text out : List ℕ) (at : ℕ) {now : List ℕ} → length out ≡ most_bytes → at + length text ≤ most_bytes → now ≡ text
+    → Appended (length text) out at text (put_mid at (at + length text - at) out now) (at + length text)
+copied text out at l h e =
+    let k : at + length text - at ≡ length text = omega arith in
+    let same : put_mid at (at + length text - at) out text ≡ sets out at text =
+    rw (k, drop-drop, sets-eq text out at (omega (arith, l))) (sym (append_assoc (take at out) text (drop (at + length text) out))) in
+    record { long = l; few = le_refl (length text); same = rw e same; end = refl }
 
 -- the same bytes by another name
 pub appended_as : {bytes others : List ℕ} → bytes ≡ others → {most : ℕ} {before : List ℕ} {at : ℕ} {after : List ℕ} {next : ℕ}
@@ -47,6 +61,8 @@ module _ (n : ℕ) {before : List ℕ} {at : ℕ} where
       → Appended 1 between last (digit (n % 10) ∷ []) after next
       → Appended (length (decimal n)) before at (decimal n) after next
   spelled_tens h a b = rw (decimal_tens n h, length-append) (appended_then a b)
+
+pub ruleset number_laws = (units_few, tens_few)
 
 -- ---- a word and a number
 pub labelled : {n : ℕ} {before between after word : List ℕ} {at next last : ℕ} → n < 2 ^ 64

@@ -8,9 +8,9 @@ use Rattle.csg.specs.Halfspace.{most_rows, row_length}
 use Rattle.csg.specs.Ball.{most_balls, ball_length}
 use Rattle.csg.specs.Surfaces.{Surfaces, surfaces_of}
 use Rattle.csg.specs.Words.{most_words, halfspace_words, ball_words}
-use Rattle.convert.specs.declared.verdict.Clearance.{Clearance}
+use Rattle.convert.specs.Told.{ClearanceAnswer}
 use Rattle.convert.specs.Answers.{clearance_answer}
-use Rattle.files.specs.declared.Scene.{Scene}
+use Rattle.files.specs.Told.{SceneAnswer}
 use Rattle.files.specs.Scenes.{scene_answer, rows_after, balls_after, first_words_after, second_words_after}
 use Rattle.lines.specs.Lines.{refused_line, short_line, universe_line, counts_line, verdict_line}
 
@@ -24,7 +24,7 @@ lent_symbols = 32_768
 
 -- three lines, of a scene of a version with so many words that name a halfspace and so many that name a ball, or the
 -- one line of the number that refuses, with the symbols needed where that is no_room
-unfoldable pub clearance_lines : ℕ → Universe → ℕ → ℕ → Clearance → List ℕ
+unfoldable pub clearance_lines : ℕ → Universe → ℕ → ℕ → ClearanceAnswer → List ℕ
 clearance_lines version u leaves balls c =
     cond (eqb c.refusal no_room) (short_line c.length)
     (cond (eqb c.refusal 0)
@@ -34,7 +34,7 @@ clearance_lines version u leaves balls c =
     (refused_line c.refusal))
 
 -- those of a scene that was read, with its surfaces and words: its two trees are intersected and judged over its window
-unfoldable pub judged_lines : Scene → Surfaces → List ℕ → List ℕ → List ℕ
+unfoldable pub judged_lines : SceneAnswer → Surfaces → List ℕ → List ℕ → List ℕ
 judged_lines s surfaces first second =
     clearance_lines s.version s.universe
     (halfspace_words first + halfspace_words second)

@@ -7,13 +7,15 @@ ghost use Rattle.lines.specs.Appended.{most_digits, most_bytes, Appended};
 pub const MOST_BYTES: usize = 256;
 
 // A text.
+#[tactic(auto, using(crate::proofs::Appended::copied))]
 pub(crate) fn append_text(text: &[u8], out: &mut [u8; MOST_BYTES], at: usize) -> usize
     requires { at + length text.now ≤ most_bytes }
     ensures { let text = text.now in
         Appended (length text) out.old at text out.new result }
 {
-    bintree::copy(text, out, at);
-    at + text.len()
+    let end = at + text.len();
+    out[at..end].copy_from_slice(text);
+    end
 }
 
 // One byte.
@@ -21,20 +23,20 @@ fn append_byte(byte: u8, out: &mut [u8; MOST_BYTES], at: usize) -> usize
     requires { at < most_bytes }
     ensures { Appended 1 out.old at (byte ∷ []) out.new result }
 {
-    let text = [byte];
-    append_text(&text, out, at)
+    append_text(&[byte], out, at)
 }
 
 // A number in decimal: its tens, and then its units.
+#[tactic(auto, using(crate::proofs::Appended::number_laws))]
 fn append_number(n: u64, out: &mut [u8; MOST_BYTES], at: usize) -> usize
     requires { at + length (decimal n) ≤ most_bytes }
     ensures { Appended (length (decimal n)) out.old at (decimal n) out.new result }
 {
     if n < 10 {
-        return append_byte(48 + n as u8, out, at);
+        return append_byte(b'0' + n as u8, out, at);
     }
     let last = append_number(n / 10, out, at);
-    append_byte(48 + (n % 10) as u8, out, last)
+    append_byte(b'0' + (n % 10) as u8, out, last)
 }
 
 // A word and a number.

@@ -1,28 +1,41 @@
 // The lines, each behind what stands before it. A line is as long as its words and at most 20 digits for each number.
-ghost use Rattle.std.specs.Prelude.{◌+◌, ◌*◌, ◌≤◌, ◌++◌};
+ghost use Rattle.std.specs.Prelude.{◌+◌, ◌*◌, ◌≤◌};
 ghost use Rattle.lines.specs.Lines.{refused_line, short_line, bits_of, universe_line, counts_line, contact_line};
 ghost use Rattle.lines.specs.Lines.{verdict_line};
+ghost use Rattle.lines.specs.Told.{three_lines, lines_told};
 ghost use Rattle.lines.specs.Appended.{most_digits, most_bytes, Appended};
+ghost use Rattle.universe.specs.Told.{number_of};
 
 use crate::append::{MOST_BYTES, append_labelled, append_text};
 use bintree::{Contact, Verdict};
 use files::FIRST_VERSION;
-use universe::Universe;
-use universe::refusals::NO_ROOM;
+use universe::{Refusal, Universe, Unwritten};
+
+// What the three lines of a scene say that was read and judged.
+#[derive(Clone, Copy)]
+pub(crate) struct Judged {
+    pub version: u64,
+    pub universe: Universe,
+    pub leaves: u64,
+    pub raw: u64,
+    pub room: u64,
+    pub verdict: Verdict,
+}
 
 // The line of a refusal.
-pub(crate) fn write_refused(number: u64, out: &mut [u8; MOST_BYTES]) -> usize
-    ensures { Appended most_bytes out.old 0 (refused_line number) out.new result }
+fn write_refused(refusal: Refusal, out: &mut [u8; MOST_BYTES]) -> usize
+    ensures { let line = refused_line (number_of refusal) in
+        Appended most_bytes out.old 0 line out.new result }
 {
-    let next = append_labelled(b"refused ", number, out, 0);
+    let next = append_labelled(b"refused ", refusal.number(), out, 0);
     append_text(b"\n", out, next)
 }
 
 // The line of a refusal for room.
-pub(crate) fn write_short(needed: u64, out: &mut [u8; MOST_BYTES]) -> usize
+fn write_short(needed: u64, out: &mut [u8; MOST_BYTES]) -> usize
     ensures { Appended most_bytes out.old 0 (short_line needed) out.new result }
 {
-    let next = append_labelled(b"refused ", NO_ROOM, out, 0);
+    let next = append_labelled(b"refused ", Unwritten::NO_ROOM, out, 0);
     let end = append_labelled(b" needed ", needed, out, next);
     append_text(b"\n", out, end)
 }
@@ -85,19 +98,29 @@ fn append_verdict(verdict: Verdict, out: &mut [u8; MOST_BYTES], at: usize) -> us
 }
 
 // The three lines.
-pub(crate) fn write_three(
-    version: u64,
-    universe: Universe,
-    leaves: u64,
-    raw: u64,
-    room: u64,
-    verdict: Verdict,
-    out: &mut [u8; MOST_BYTES],
-) -> usize
-    ensures { let lines = universe_line version universe ++ counts_line leaves raw room ++ verdict_line verdict in
-        Appended most_bytes out.old 0 lines out.new result }
+fn write_three(judged: Judged, out: &mut [u8; MOST_BYTES]) -> usize
+    ensures { Appended most_bytes out.old 0 (three_lines judged) out.new result }
 {
+    let Judged {
+        version,
+        universe,
+        leaves,
+        raw,
+        room,
+        verdict,
+    } = judged;
     let counts = append_universe(version, universe, out);
     let third = append_counts(leaves, raw, room, out, counts);
     append_verdict(verdict, out, third)
+}
+
+// The lines of a scene that is judged, or the one line of what refuses it.
+pub(crate) fn write_lines(judged: Result<Judged, Unwritten>, out: &mut [u8; MOST_BYTES]) -> usize
+    ensures { Appended most_bytes out.old 0 (lines_told judged) out.new result }
+{
+    match judged {
+        Ok(judged) => write_three(judged, out),
+        Err(Unwritten::NoRoom(needed)) => write_short(needed, out),
+        Err(Unwritten::Refused(refusal)) => write_refused(refusal, out),
+    }
 }

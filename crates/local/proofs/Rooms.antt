@@ -20,20 +20,9 @@ module _ (u : Universe) (words : ℕ) {levels : ℕ} (l : levels ≡ levels_answ
   pub nodes_suffice : {nodes : ℕ} → nodes ≡ (levels + 1) * words → nodes ≤ many → Suffices u words nodes
   nodes_suffice e h = record { enough = λ z. omega (arith, e, ap (λ (k : ℕ). (k + 1) * words) (levels_told u refl z l)) }
 
--- of more words than the most nodes nothing is said
-pub none_suffices : (u : Universe) (words : ℕ) → many < words → {nodes : ℕ} → nodes ≡ words → nodes ≤ many → Suffices u words nodes
-none_suffices u words h e k = absurd (omega arith)
-
--- more nodes suffice too
-pub more_suffice : {u : Universe} {words nodes more : ℕ} → Suffices u words nodes → nodes ≤ more → Suffices u words more
-more_suffice s h = record { enough = λ z. omega (arith, s.enough z) }
-
 -- so many suffice for fewer words too, and for none besides
 pub fewer_suffice : {u : Universe} (words more : ℕ) {nodes : ℕ} → Suffices u (words + more) nodes → Suffices u words nodes
 fewer_suffice {u} words more s =
     let l : levels u + 1 ≤ levels u + 1 = omega arith in
     let w : words ≤ words + more = omega arith in
     record { enough = λ z. omega (arith, s.enough z, mul-le-mul l w) }
-
-pub none_besides : {u : Universe} {words nodes : ℕ} → Suffices u words nodes → Suffices u (words + 0) nodes
-none_besides {u} {words} s = let e : words + 0 ≡ words = omega arith in rw e s

@@ -1,13 +1,14 @@
 // Work room of the call's own, of four sizes, and the pruned conversions in it.
 ghost use Rattle.std.specs.Prelude.{◌≡◌, ◌+◌, ◌≤◌, length};
+ghost use Rattle.bintree.specs.Told.{writing_told};
 ghost use Rattle.csg.specs.Surfaces.{surfaces_of};
 ghost use Rattle.convert.specs.Answers.{raw_of_one_answer, raw_of_one_buffer, raw_of_two_answer, raw_of_two_buffer};
 ghost use Rattle.pruned.specs.Answers.{nodes_lent};
+ghost use Rattle.pruned.specs.Told.{conversion_told};
 ghost use Rattle.local.specs.Rooms.{fewest, few, some, many, Suffices, parts_of, raw_answer, raw_buffer};
 
-use bintree::Written;
-use pruned::Conversion;
-use universe::Universe;
+use pruned::{Conversion, Unconverted};
+use universe::{Universe, Unwritten};
 
 // The numbers of a node.
 const NODE_LENGTH: usize = 3;
@@ -34,12 +35,14 @@ pub(crate) fn nodes_of(universe: Universe, words: usize) -> u64
 }
 
 // What a pruned conversion that does not lack work room answers.
-fn parts_of(found: Conversion) -> Written
-    ensures { result ≡ parts_of found }
+fn parts_of(found: Result<Conversion, Unconverted>) -> Result<u64, Unwritten>
+    ensures { writing_told result ≡ parts_of (conversion_told found) }
 {
-    Written {
-        refusal: found.refusal,
-        length: found.length,
+    match found {
+        Ok(conversion) => Ok(conversion.length),
+        Err(Unconverted::Refused(refusal)) => Err(Unwritten::Refused(refusal)),
+        Err(Unconverted::ShortOfWork(needed)) => Err(Unwritten::NoRoom(needed)),
+        Err(Unconverted::ShortOfSymbols(needed)) => Err(Unwritten::NoRoom(needed)),
     }
 }
 
@@ -53,10 +56,10 @@ fn laid_in(
     both: bool,
     work: &mut [i64],
     out: &mut [u8],
-) -> Written
+) -> Result<u64, Unwritten>
     requires { Suffices universe (length first.now + length second.now) (nodes_lent work.old) }
     ensures result_value { let surfaces = surfaces_of rows.now balls.now in
-        result ≡ raw_answer both universe surfaces first.now second.now out.old }
+        writing_told result ≡ raw_answer both universe surfaces first.now second.now out.old }
     ensures out_after { let surfaces = surfaces_of rows.now balls.now in
         out.new
         ≡ raw_buffer both universe surfaces first.now second.now out.old }
@@ -78,10 +81,10 @@ fn fewest_of(
     second: &[u16],
     both: bool,
     out: &mut [u8],
-) -> Written
+) -> Result<u64, Unwritten>
     requires { Suffices universe (length first.now + length second.now) fewest }
     ensures result_value { let surfaces = surfaces_of rows.now balls.now in
-        result ≡ raw_answer both universe surfaces first.now second.now out.old }
+        writing_told result ≡ raw_answer both universe surfaces first.now second.now out.old }
     ensures out_after { let surfaces = surfaces_of rows.now balls.now in
         out.new
         ≡ raw_buffer both universe surfaces first.now second.now out.old }
@@ -99,10 +102,10 @@ fn few_of(
     second: &[u16],
     both: bool,
     out: &mut [u8],
-) -> Written
+) -> Result<u64, Unwritten>
     requires { Suffices universe (length first.now + length second.now) few }
     ensures result_value { let surfaces = surfaces_of rows.now balls.now in
-        result ≡ raw_answer both universe surfaces first.now second.now out.old }
+        writing_told result ≡ raw_answer both universe surfaces first.now second.now out.old }
     ensures out_after { let surfaces = surfaces_of rows.now balls.now in
         out.new
         ≡ raw_buffer both universe surfaces first.now second.now out.old }
@@ -120,10 +123,10 @@ fn some_of(
     second: &[u16],
     both: bool,
     out: &mut [u8],
-) -> Written
+) -> Result<u64, Unwritten>
     requires { Suffices universe (length first.now + length second.now) some }
     ensures result_value { let surfaces = surfaces_of rows.now balls.now in
-        result ≡ raw_answer both universe surfaces first.now second.now out.old }
+        writing_told result ≡ raw_answer both universe surfaces first.now second.now out.old }
     ensures out_after { let surfaces = surfaces_of rows.now balls.now in
         out.new
         ≡ raw_buffer both universe surfaces first.now second.now out.old }
@@ -141,10 +144,10 @@ fn many_of(
     second: &[u16],
     both: bool,
     out: &mut [u8],
-) -> Written
+) -> Result<u64, Unwritten>
     requires { Suffices universe (length first.now + length second.now) many }
     ensures result_value { let surfaces = surfaces_of rows.now balls.now in
-        result ≡ raw_answer both universe surfaces first.now second.now out.old }
+        writing_told result ≡ raw_answer both universe surfaces first.now second.now out.old }
     ensures out_after { let surfaces = surfaces_of rows.now balls.now in
         out.new
         ≡ raw_buffer both universe surfaces first.now second.now out.old }
@@ -163,11 +166,11 @@ fn pruned_of(
     both: bool,
     nodes: u64,
     out: &mut [u8],
-) -> Written
+) -> Result<u64, Unwritten>
     requires nodes_le_many { nodes ≤ many }
     requires suffices { Suffices universe (length first.now + length second.now) nodes }
     ensures result_value { let surfaces = surfaces_of rows.now balls.now in
-        result ≡ raw_answer both universe surfaces first.now second.now out.old }
+        writing_told result ≡ raw_answer both universe surfaces first.now second.now out.old }
     ensures out_after { let surfaces = surfaces_of rows.now balls.now in
         out.new
         ≡ raw_buffer both universe surfaces first.now second.now out.old }
@@ -192,11 +195,11 @@ pub(crate) fn pruned_of_one(
     words: &[u16],
     nodes: u64,
     out: &mut [u8],
-) -> Written
+) -> Result<u64, Unwritten>
     requires nodes_le_many { nodes ≤ many }
     requires suffices { Suffices universe (length words.now) nodes }
     ensures result_value { let surfaces = surfaces_of rows.now balls.now in
-        result ≡ raw_of_one_answer universe surfaces words.now out.old }
+        writing_told result ≡ raw_of_one_answer universe surfaces words.now out.old }
     ensures out_after { let surfaces = surfaces_of rows.now balls.now in
         out.new ≡ raw_of_one_buffer universe surfaces words.now out.old }
 {
@@ -212,11 +215,11 @@ pub(crate) fn pruned_of_two(
     second: &[u16],
     nodes: u64,
     out: &mut [u8],
-) -> Written
+) -> Result<u64, Unwritten>
     requires nodes_le_many { nodes ≤ many }
     requires suffices { Suffices universe (length first.now + length second.now) nodes }
     ensures result_value { let surfaces = surfaces_of rows.now balls.now in
-        result ≡ raw_of_two_answer universe surfaces first.now second.now out.old }
+        writing_told result ≡ raw_of_two_answer universe surfaces first.now second.now out.old }
     ensures out_after { let surfaces = surfaces_of rows.now balls.now in
         out.new
         ≡ raw_of_two_buffer universe surfaces first.now second.now out.old }

@@ -3,11 +3,11 @@
 // answer or room is not that of the first conversion, so.
 #![tactic(auto)]
 
-use bintree::{Verdict, Written};
+use bintree::Verdict;
 use convert::Clearance;
 use std::io;
 use std::io::Write;
-use universe::Universe;
+use universe::{Universe, Unwritten};
 
 // The most symbols that are lent.
 const MOST_LENT: usize = 40_000;
@@ -19,51 +19,39 @@ const UNION: u16 = 2;
 
 fn universe(axes: u64, bits: u64, frame_bits: u64) -> Universe {
     Universe {
-        axes: axes,
-        bits: bits,
-        frame_bits: frame_bits,
+        axes,
+        bits,
+        frame_bits,
     }
 }
 
-fn say(to: &mut impl Write, text: &[u8]) -> io::Result<()> {
-    to.write_all(text)
-}
-
-// A number behind a space.
-fn next_number(to: &mut impl Write, n: u64) -> io::Result<()> {
-    write!(to, " {n}")
-}
-
-// Whether two rooms hold the same.
-fn is_same(one: &[u8; MOST_LENT], two: &[u8; MOST_LENT]) -> bool {
-    for i in 0..MOST_LENT {
-        if one[i] != two[i] {
-            return false;
-        }
+// What an answer tells: its number, and the length that is written or needed.
+fn told(answer: Result<u64, Unwritten>) -> (u64, u64) {
+    match answer {
+        Ok(length) => (0, length),
+        Err(why) => (why.number(), why.needed()),
     }
-    true
 }
 
 // One room: its label, what was answered, and whether that and the room are those of the first conversion.
 fn tell(
     to: &mut impl Write,
-    label: &[u8],
-    found: Written,
-    first: Written,
+    label: &str,
+    found: Result<u64, Unwritten>,
+    first: Result<u64, Unwritten>,
     is_same: bool,
 ) -> io::Result<()> {
-    say(to, b"; ")?;
-    say(to, label)?;
-    next_number(to, found.refusal)?;
-    next_number(to, found.length)?;
-    if found.refusal != first.refusal {
-        say(to, b" OTHER NUMBER")?;
+    let (refusal, length) = told(found);
+    let (first_refusal, first_length) = told(first);
+    write!(to, "; {label} {refusal} {length}")?;
+    if refusal != first_refusal {
+        write!(to, " OTHER NUMBER")?;
     }
-    if found.length != first.length {
-        say(to, b" OTHER LENGTH")?;
+    if length != first_length {
+        write!(to, " OTHER LENGTH")?;
     }
     if !is_same {
-        say(to, b" OTHER ROOM")?;
+        write!(to, " OTHER ROOM")?;
     }
     Ok(())
 }
@@ -102,7 +90,7 @@ fn push_unions(words: &mut [u16; MOST_WORDS], leaf: u16, more: usize) -> usize {
 // One tree, with so much room.
 fn one_in(
     to: &mut impl Write,
-    label: &[u8],
+    label: &str,
     universe: Universe,
     rows: &[i64],
     balls: &[i64],
@@ -114,7 +102,7 @@ fn one_in(
     if lent <= MOST_LENT {
         let found = local::raw_of_one(universe, rows, balls, words, &mut out[..lent]);
         let first = convert::raw_of_one(universe, rows, balls, words, &mut other[..lent]);
-        tell(to, label, found, first, is_same(&out, &other))?;
+        tell(to, label, found, first, out == other)?;
     }
     Ok(())
 }
@@ -122,7 +110,7 @@ fn one_in(
 // Two trees, with so much room.
 fn two_in(
     to: &mut impl Write,
-    label: &[u8],
+    label: &str,
     universe: Universe,
     rows: &[i64],
     balls: &[i64],
@@ -135,45 +123,37 @@ fn two_in(
     if lent <= MOST_LENT {
         let found = local::raw_of_two(universe, rows, balls, first, second, &mut out[..lent]);
         let plain = convert::raw_of_two(universe, rows, balls, first, second, &mut other[..lent]);
-        tell(to, label, found, plain, is_same(&out, &other))?;
+        tell(to, label, found, plain, out == other)?;
     }
     Ok(())
 }
 
-// A verdict behind its number and length.
-fn tell_verdict(
-    to: &mut impl Write,
-    refusal: u64,
-    length: u64,
-    verdict: Verdict,
-) -> io::Result<()> {
-    next_number(to, refusal)?;
-    next_number(to, length)?;
-    match verdict {
-        Verdict::Clear => say(to, b" clear"),
-        Verdict::Hit(contact) => {
-            next_number(to, contact.first)?;
-            next_number(to, contact.last)?;
-            next_number(to, contact.voxels)
+// A verdict behind its number and length; it is clear where it is refused.
+fn tell_verdict(to: &mut impl Write, answer: Result<Clearance, Unwritten>) -> io::Result<()> {
+    let (refusal, length) = told(answer.map(|judged| judged.length));
+    write!(to, " {refusal} {length}")?;
+    match answer.map(|judged| judged.verdict) {
+        Ok(Verdict::Hit(contact)) => {
+            write!(to, " {} {} {}", contact.first, contact.last, contact.voxels)
         }
+        Ok(Verdict::Clear) | Err(_) => write!(to, " clear"),
     }
 }
 
 // A verdict, beside it what the first one answers, and whether the room is that of the first.
 fn tell_verdicts(
     to: &mut impl Write,
-    label: &[u8],
-    found: Clearance,
-    first: Clearance,
+    label: &str,
+    found: Result<Clearance, Unwritten>,
+    first: Result<Clearance, Unwritten>,
     is_same: bool,
 ) -> io::Result<()> {
-    say(to, b"; ")?;
-    say(to, label)?;
-    tell_verdict(to, found.refusal, found.length, found.verdict)?;
-    say(to, b" /")?;
-    tell_verdict(to, first.refusal, first.length, first.verdict)?;
+    write!(to, "; {label}")?;
+    tell_verdict(to, found)?;
+    write!(to, " /")?;
+    tell_verdict(to, first)?;
     if !is_same {
-        say(to, b" OTHER ROOM")?;
+        write!(to, " OTHER ROOM")?;
     }
     Ok(())
 }
@@ -181,7 +161,7 @@ fn tell_verdicts(
 // The verdict of two trees over a window, with so much room: beside it what the first one answers.
 fn over(
     to: &mut impl Write,
-    label: &[u8],
+    label: &str,
     universe: Universe,
     rows: &[i64],
     balls: &[i64],
@@ -214,7 +194,7 @@ fn over(
             last_frame,
             &mut other[..lent],
         );
-        tell_verdicts(to, label, found, plain, is_same(&out, &other))?;
+        tell_verdicts(to, label, found, plain, out == other)?;
     }
     Ok(())
 }
@@ -222,52 +202,50 @@ fn over(
 // A scene: its levels and its words, whose product with one level more are the nodes, and its symbols.
 fn tell_scene(
     to: &mut impl Write,
-    label: &[u8],
+    label: &str,
     universe: Universe,
     words: usize,
     symbols: u64,
 ) -> io::Result<()> {
-    say(to, label)?;
-    say(to, b":")?;
-    next_number(to, universe.levels())?;
-    say(to, b" levels,")?;
-    next_number(to, words as u64)?;
-    say(to, b" words,")?;
-    next_number(to, symbols)?;
-    say(to, b" symbols")
+    let levels = universe.levels();
+    write!(
+        to,
+        "{label}: {levels} levels, {words} words, {symbols} symbols"
+    )
 }
 
 // One tree, with room exact, a symbol short, as the formula says, and at both sides of what little scratch room and
 // the most of it holds.
 fn one(
     to: &mut impl Write,
-    label: &[u8],
+    label: &str,
     universe: Universe,
     rows: &[i64],
     balls: &[i64],
     words: &[u16],
 ) -> io::Result<()> {
     let asked = convert::raw_of_one(universe, rows, balls, words, &mut [b'.'; 0]);
-    let need = asked.length as usize;
-    tell_scene(to, label, universe, words.len(), asked.length)?;
-    one_in(to, b"exact", universe, rows, balls, words, need)?;
+    let (_, symbols) = told(asked);
+    let need = symbols as usize;
+    tell_scene(to, label, universe, words.len(), symbols)?;
+    one_in(to, "exact", universe, rows, balls, words, need)?;
     if 0 < need {
-        one_in(to, b"short", universe, rows, balls, words, need - 1)?;
+        one_in(to, "short", universe, rows, balls, words, need - 1)?;
     }
     let room = universe.room(csg::halfspace_words(words), csg::ball_words(words));
-    let all = room.symbols as usize;
-    one_in(to, b"formula", universe, rows, balls, words, all)?;
-    one_in(to, b"little", universe, rows, balls, words, 768)?;
-    one_in(to, b"past it", universe, rows, balls, words, 769)?;
-    one_in(to, b"scratch", universe, rows, balls, words, 4_096)?;
-    one_in(to, b"more", universe, rows, balls, words, 4_097)?;
-    say(to, b"\n")
+    let all = room.unwrap_or(0) as usize;
+    one_in(to, "formula", universe, rows, balls, words, all)?;
+    one_in(to, "little", universe, rows, balls, words, 768)?;
+    one_in(to, "past it", universe, rows, balls, words, 769)?;
+    one_in(to, "scratch", universe, rows, balls, words, 4_096)?;
+    one_in(to, "more", universe, rows, balls, words, 4_097)?;
+    writeln!(to)
 }
 
 // Two trees, and their verdict over all frames, with so much room.
 fn judged_in(
     to: &mut impl Write,
-    label: &[u8],
+    label: &str,
     universe: Universe,
     rows: &[i64],
     balls: &[i64],
@@ -278,14 +256,14 @@ fn judged_in(
 ) -> io::Result<()> {
     two_in(to, label, universe, rows, balls, first, second, lent)?;
     over(
-        to, b"judged", universe, rows, balls, first, second, 0, last_frame, lent,
+        to, "judged", universe, rows, balls, first, second, 0, last_frame, lent,
     )
 }
 
 // Two trees as one, and their verdict where room is exact, a symbol short, and as the formula says.
 fn two(
     to: &mut impl Write,
-    label: &[u8],
+    label: &str,
     universe: Universe,
     rows: &[i64],
     balls: &[i64],
@@ -295,16 +273,17 @@ fn two(
     all: usize,
 ) -> io::Result<()> {
     let asked = convert::raw_of_two(universe, rows, balls, first, second, &mut [b'.'; 0]);
-    let need = asked.length as usize;
+    let (_, symbols) = told(asked);
+    let need = symbols as usize;
     let words = first.len() + second.len();
-    tell_scene(to, label, universe, words, asked.length)?;
+    tell_scene(to, label, universe, words, symbols)?;
     judged_in(
-        to, b"exact", universe, rows, balls, first, second, last_frame, need,
+        to, "exact", universe, rows, balls, first, second, last_frame, need,
     )?;
     if 0 < need {
         judged_in(
             to,
-            b"short",
+            "short",
             universe,
             rows,
             balls,
@@ -315,17 +294,17 @@ fn two(
         )?;
     }
     judged_in(
-        to, b"formula", universe, rows, balls, first, second, last_frame, all,
+        to, "formula", universe, rows, balls, first, second, last_frame, all,
     )?;
-    two_in(to, b"scratch", universe, rows, balls, first, second, 4_096)?;
-    two_in(to, b"more", universe, rows, balls, first, second, 4_097)?;
-    say(to, b"\n")
+    two_in(to, "scratch", universe, rows, balls, first, second, 4_096)?;
+    two_in(to, "more", universe, rows, balls, first, second, 4_097)?;
+    writeln!(to)
 }
 
 // One tree of so many words from the front.
 fn front(
     to: &mut impl Write,
-    label: &[u8],
+    label: &str,
     universe: Universe,
     rows: &[i64],
     words: [u16; MOST_WORDS],
@@ -340,7 +319,7 @@ fn front(
 // Two trees of so many words from the front; so much room suffices.
 fn fronts(
     to: &mut impl Write,
-    label: &[u8],
+    label: &str,
     universe: Universe,
     rows: &[i64],
     first: [u16; MOST_WORDS],
@@ -350,20 +329,18 @@ fn fronts(
     last_frame: u64,
     all: usize,
 ) -> io::Result<()> {
-    if ones <= MOST_WORDS {
-        if twos <= MOST_WORDS {
-            two(
-                to,
-                label,
-                universe,
-                rows,
-                &[],
-                &first[..ones],
-                &second[..twos],
-                last_frame,
-                all,
-            )?;
-        }
+    if ones <= MOST_WORDS && twos <= MOST_WORDS {
+        two(
+            to,
+            label,
+            universe,
+            rows,
+            &[],
+            &first[..ones],
+            &second[..twos],
+            last_frame,
+            all,
+        )?;
     }
     Ok(())
 }
@@ -371,7 +348,7 @@ fn fronts(
 // One tree: row 0 and so many times more, joined.
 fn unions(
     to: &mut impl Write,
-    label: &[u8],
+    label: &str,
     universe: Universe,
     rows: &[i64],
     more: usize,
@@ -384,7 +361,7 @@ fn unions(
 // Two trees: row 0 and so many times more, joined, and row 1 likewise; so many leaves in all.
 fn pairs(
     to: &mut impl Write,
-    label: &[u8],
+    label: &str,
     universe: Universe,
     rows: &[i64],
     more: usize,
@@ -397,7 +374,7 @@ fn pairs(
     let ones = push_unions(&mut first, 256, more);
     let twos = push_unions(&mut second, 257, others);
     let room = universe.room(leaves, 0);
-    let all = room.symbols as usize;
+    let all = room.unwrap_or(0) as usize;
     fronts(
         to, label, universe, rows, first, ones, second, twos, last_frame, all,
     )
@@ -407,64 +384,37 @@ fn pairs(
 fn fewest(to: &mut impl Write) -> io::Result<()> {
     unions(
         to,
-        b"one of fewest",
+        "one of fewest",
         universe(4, 7, 10),
         &[-48, 1, 0, 0, 0],
         0,
     )?;
     let rows: &[i64] = &[-3, 1, 0, 0, 0, 70, -1, 0, 0, 0];
-    unions(to, b"one past fewest", universe(1, 0, 10), rows, 1)?;
-    pairs(to, b"two of fewest", universe(1, 0, 7), rows, 1, 0, 3, 127)?;
-    pairs(
-        to,
-        b"two past fewest",
-        universe(1, 0, 8),
-        rows,
-        0,
-        1,
-        3,
-        255,
-    )
+    unions(to, "one past fewest", universe(1, 0, 10), rows, 1)?;
+    pairs(to, "two of fewest", universe(1, 0, 7), rows, 1, 0, 3, 127)?;
+    pairs(to, "two past fewest", universe(1, 0, 8), rows, 0, 1, 3, 255)
 }
 
 // At both sides of the second: 126 and 129 nodes of one tree, 128 and 130 of two.
 fn few(to: &mut impl Write) -> io::Result<()> {
-    unions(to, b"one of few", universe(2, 5, 12), &[-23, 2, 1, 0, 0], 3)?;
+    unions(to, "one of few", universe(2, 5, 12), &[-23, 2, 1, 0, 0], 3)?;
     let rows: &[i64] = &[-3, 1, 0, 0, 0, 70, -1, 0, 0, 0];
-    unions(to, b"one past few", universe(1, 0, 2), rows, 21)?;
-    pairs(to, b"two of few", universe(1, 0, 7), rows, 4, 3, 9, 127)?;
-    pairs(
-        to,
-        b"two past few",
-        universe(1, 0, 12),
-        rows,
-        2,
-        2,
-        6,
-        2_000,
-    )
+    unions(to, "one past few", universe(1, 0, 2), rows, 21)?;
+    pairs(to, "two of few", universe(1, 0, 7), rows, 4, 3, 9, 127)?;
+    pairs(to, "two past few", universe(1, 0, 12), rows, 2, 2, 6, 2_000)
 }
 
 // At both sides of the third: 511 and 513 nodes of one tree, 512 and 516 of two.
 fn some(to: &mut impl Write) -> io::Result<()> {
     let rows: &[i64] = &[-23, 2, 1, 0, 0, 900, -3, -1, 0, 0];
-    unions(to, b"one of some", universe(2, 2, 4), rows, 36)?;
-    pairs(
-        to,
-        b"two of some",
-        universe(2, 3, 12),
-        rows,
-        8,
-        7,
-        17,
-        2_000,
-    )?;
+    unions(to, "one of some", universe(2, 2, 4), rows, 36)?;
+    pairs(to, "two of some", universe(2, 3, 12), rows, 8, 7, 17, 2_000)?;
     let walls = [-16i64, 1, 0, 0, 0];
-    unions(to, b"one past some", universe(4, 5, 11), &walls, 9)?;
+    unions(to, "one past some", universe(4, 5, 11), &walls, 9)?;
     let walls = [-512i64, 1, 0, 0, 0, -256, 0, 1, 0, 0];
     pairs(
         to,
-        b"two past some",
+        "two past some",
         universe(4, 10, 12),
         &walls,
         3,
@@ -477,13 +427,13 @@ fn some(to: &mut impl Write) -> io::Result<()> {
 // At both sides of the largest: 1,245 and 1,251 nodes of one tree, 1,248 and 1,250 of two.
 fn many(to: &mut impl Write) -> io::Result<()> {
     let rows: &[i64] = &[-5, 2, 1, 0, 0, 9, -1, -1, 0, 0];
-    unions(to, b"one of many", universe(2, 2, 2), rows, 124)?;
-    unions(to, b"one past many", universe(2, 4, 4), rows, 69)?;
-    pairs(to, b"two of many", universe(2, 2, 3), rows, 52, 51, 105, 7)?;
+    unions(to, "one of many", universe(2, 2, 2), rows, 124)?;
+    unions(to, "one past many", universe(2, 4, 4), rows, 69)?;
+    pairs(to, "two of many", universe(2, 2, 3), rows, 52, 51, 105, 7)?;
     let walls = [-16i64, 1, 0, 0, 0, -8, 0, 1, 0, 0];
     pairs(
         to,
-        b"two past many",
+        "two past many",
         universe(4, 5, 9),
         &walls,
         12,
@@ -498,10 +448,10 @@ fn others(to: &mut impl Write) -> io::Result<()> {
     let none: &[i64] = &[];
     let ball: &[i64] = &[4, 4, 0, 3];
     let black: &[u16] = &[1];
-    one(to, b"a ball", universe(3, 3, 2), none, ball, &[512])?;
+    one(to, "a ball", universe(3, 3, 2), none, ball, &[512])?;
     two(
         to,
-        b"a ball less itself",
+        "a ball less itself",
         universe(3, 3, 2),
         &[-4, 1, 0, 0, 0],
         ball,
@@ -512,7 +462,7 @@ fn others(to: &mut impl Write) -> io::Result<()> {
     )?;
     two(
         to,
-        b"BLACK",
+        "BLACK",
         universe(2, 2, 2),
         none,
         none,
@@ -526,10 +476,10 @@ fn others(to: &mut impl Write) -> io::Result<()> {
 // Refusals: the universe, and words that no work room holds.
 fn refused_words(to: &mut impl Write) -> io::Result<()> {
     let none: &[i64] = &[];
-    one(to, b"no universe", universe(5, 2, 2), none, none, &[1])?;
+    one(to, "no universe", universe(5, 2, 2), none, none, &[1])?;
     one(
         to,
-        b"too many words",
+        "too many words",
         universe(2, 2, 2),
         none,
         none,
@@ -537,7 +487,7 @@ fn refused_words(to: &mut impl Write) -> io::Result<()> {
     )?;
     one(
         to,
-        b"more than nodes",
+        "more than nodes",
         universe(2, 2, 2),
         none,
         none,
@@ -551,7 +501,7 @@ fn refused_windows(to: &mut impl Write) -> io::Result<()> {
     let black: &[u16] = &[1];
     two(
         to,
-        b"no second tree",
+        "no second tree",
         universe(2, 2, 2),
         none,
         none,
@@ -562,7 +512,7 @@ fn refused_windows(to: &mut impl Write) -> io::Result<()> {
     )?;
     two(
         to,
-        b"no window",
+        "no window",
         universe(2, 2, 2),
         none,
         none,
@@ -573,7 +523,7 @@ fn refused_windows(to: &mut impl Write) -> io::Result<()> {
     )?;
     two(
         to,
-        b"no tree and no window",
+        "no tree and no window",
         universe(2, 2, 2),
         none,
         none,

@@ -7,35 +7,38 @@ use native.Mathlib.Decide.{dec_le, ℕ_discrete}
 use mathlib.Core.Path.{◌≡◌, refl, sym, ap, ap₂, ◌∙◌}
 use mathlib.Core.Bool.{Bool, true, false, cond}
 use mathlib.Core.List.{List, [], ◌++◌}
-use borrow.Author.Rules.{rules}
-use borrow.Author.Tests.{le-leb, lt-leb, lt-ltb, eq-eqb}
-use lib.Dec.{leb}
+use borrow.Author.Tests.{le-leb, lt-leb, lt-ltb, le-ltb, eq-eqb}
+use lib.Dec.{leb, eqb}
 use lib.IntN.{ℤ}
 use lib.ListN.{length, take, drop, length-append, length-drop}
 use lib.Seq.{take-append_seam, length-take-le}
 use Rattle.universe.specs.declared.Universe.{Universe}
-use Rattle.universe.specs.declared.room.RoomAnswer.{RoomAnswer}
+use Rattle.std.specs.Prelude.{Result, Ok, Err}
+use Rattle.std.proofs.Common.{Equal, Greater}
+use Rattle.std.specs.Ordering.{ord_max, nat_cmp, is_lt}
+use Rattle.universe.specs.declared.refusal.Refusal.{Refusal}
+use Rattle.universe.specs.Told.{RoomAnswer, room_told}
+use Rattle.universe.proofs.Telling.{number-not_zero}
 use Rattle.universe.specs.Universe.{universe_refusal, frame_count}
 use Rattle.universe.specs.Voxel.{window_refusal}
 use Rattle.universe.specs.Room.{room, room_answer}
-use Rattle.bintree.specs.declared.Contact.{Contact}
 use Rattle.bintree.specs.declared.Verdict.{Verdict}
-use Rattle.bintree.specs.declared.Verdict.TheVariants.{Clear, Hit}
-use Rattle.bintree.specs.declared.Written.{Written}
+use Rattle.bintree.specs.declared.Verdict.TheVariants.{Clear}
+use Rattle.bintree.specs.Told.{WrittenAnswer}
 use Rattle.bintree.specs.Answers.{written_answer}
 use Rattle.bintree.proofs.Answers.{written_short, written_all, left_all}
 use Rattle.csg.specs.Halfspace.{row_length, row_count}
 use Rattle.csg.specs.Surfaces.{Surfaces, surfaces_of}
 use Rattle.csg.specs.Words.{most_words, halfspace_words, ball_words}
 use Rattle.csg.proofs.Words.{count_words_most}
-use Rattle.convert.specs.declared.verdict.Clearance.{Clearance}
+use Rattle.convert.specs.Told.{ClearanceAnswer}
 use Rattle.convert.specs.Answers.{raw_of_two_answer, clearance_checks, clearance_refusal, done_clearance, clearance_answer}
 use Rattle.convert.specs.Answers.{clearance_buffer}
 use Rattle.mover.specs.Keys.{Mover, moment_at}
 use Rattle.mover.specs.Stretches.{stretches, stretch_rows, with_box}
 use Rattle.mover.specs.Frames.{box_words, stretch_raw, stretch_verdict, joined, mover_verdict}
 use Rattle.mover.specs.Answers.{box_rows, most_static, larger, largest, largest_need, after_stretches}
-use Rattle.mover.specs.Ready.{HasBox, most_numbers, Ready, ReadyAt, Fits, Joining}
+use Rattle.mover.specs.Ready.{HasBox, most_numbers, ReadyAt, Fits, Joining}
 use Rattle.mover.proofs.Accepted.{ready_keys, ready_box, ready_few}
 use Rattle.mover.proofs.Trees.{static_few, trees_accepted, raw_is, verdict_is_lem}
 use Rattle.mover.proofs.Own.{up_to, up_start, up_next, up_end, up_fits}
@@ -60,8 +63,8 @@ module _ {u : Universe} {m : Mover} {surfaces : Surfaces} {words : List ℕ} {i 
   pub stretch_box : HasBox m i
   stretch_box = ready_box q.ready i q.there
 
-  pub stretch_room : (all : List ℤ) → length all ≡ most_numbers → length surfaces.rows + box_rows * row_length ≤ length all
-  stretch_room all e = omega (arith, e, static_few q.ready i q.there)
+  pub stretch_room : length surfaces.rows + box_rows * row_length ≤ most_numbers
+  stretch_room = static_few q.ready i q.there
 
   pub stretch_few : row_count surfaces.rows ≤ most_static
   stretch_few = ready_few q.ready
@@ -96,19 +99,19 @@ module _ {u : Universe} {m : Mover} {surfaces : Surfaces} {words : List ℕ} {i 
       scene = ap (λ (rows : List ℤ). surfaces_of rows surfaces.balls) front_is
 
       -- with no room lent the length is the need
-      pub need_is : {w : Written} → w ≡ raw_of_two_answer u (surfaces_of (take end now) surfaces.balls) words own [] → w.length ≡ length symbols
+      pub need_is : {w : WrittenAnswer} → w ≡ raw_of_two_answer u (surfaces_of (take end now) surfaces.balls) words own [] → w.length ≡ length symbols
       unfolding raw_of_two_answer
-      need_is {w} h = ap (λ (x : Written). x.length) is ∙ go (dec_le (length symbols) 0)
+      need_is {w} h = ap (λ (x : WrittenAnswer). x.length) is ∙ go (dec_le (length symbols) 0)
         where
           is : w ≡ written_answer 0 [] symbols
           is = h ∙ rw (scene, g, trees_accepted q.ready i q.there, raw_is q.ready i q.there)
 
           go : Dec (length symbols ≤ 0) → (written_answer 0 [] symbols).length ≡ length symbols
-          go (yes l) = sym (ap (λ (x : Written). x.length) (written_all 0 [] symbols refl l))
-          go (no l) = sym (ap (λ (x : Written). x.length) (written_short 0 [] symbols refl (omega arith)))
+          go (yes l) = sym (ap (λ (x : WrittenAnswer). x.length) (written_all 0 [] symbols refl l))
+          go (no l) = sym (ap (λ (x : WrittenAnswer). x.length) (written_short 0 [] symbols refl (omega arith)))
 
       module _ (out : List ℕ) (fits : length symbols ≤ length out) where
-        pub judged_is : {answer : Clearance} → answer ≡ clearance_answer u (surfaces_of (take end now) surfaces.balls) words own first last out →
+        pub judged_is : {answer : ClearanceAnswer} → answer ≡ clearance_answer u (surfaces_of (take end now) surfaces.balls) words own first last out →
             answer ≡ done_clearance (stretch_verdict u m surfaces words i) (length symbols)
         unfolding clearance_answer stretch_verdict
         judged_is h =
@@ -122,68 +125,36 @@ module _ {u : Universe} {m : Mover} {surfaces : Surfaces} {words : List ℕ} {i 
         unfolding clearance_buffer
         judged_left h = h ∙ rw (scene, g, stretch_accepted, raw_is q.ready i q.there) (sym (left_all 0 out symbols refl fits))
 
--- ---- `larger`, `joined`, `has_room`
-pub larger_second : (a b : ℕ) → a ≤ b → b ≡ larger a b
-larger_second a b h = rw (le-leb a b h)
-
-pub larger_first : (a b : ℕ) → b < a → a ≡ larger a b
-larger_first a b h = rw (lt-leb a b h)
-
-module _ {a b : Verdict} where
-  pub joined_clear : a ≡ Clear → b ≡ joined a b
-  unfolding joined
-  joined_clear e = rw e
-
-  pub joined_first : {x : Contact} → a ≡ Hit x → b ≡ Clear → Hit x ≡ joined a b
-  unfolding joined
-  joined_first e f = rw (e, f)
-
-  module _ {x y : Contact} (e : a ≡ Hit x) (f : b ≡ Hit y) where
-    pub joined_both : Hit (record { first = x.first; last = y.last; voxels = x.voxels + y.voxels }) ≡ joined a b
-    unfolding joined
-    joined_both = rw (e, f)
-
-    pub joined_fits : Joining a b → x.voxels + y.voxels < 2 ^ 64
-    joined_fits j = rw (e, f) at j.fits
-
+-- ---- `has_room`
 module _ (u : Universe) (words : List ℕ) {leaves : ℕ} (e : leaves ≡ halfspace_words words) where
   pub room_leaves : length words ≤ most_words → leaves + box_rows < 2 ^ 64
   room_leaves h = omega (arith, e, count_words_most 256 256 words)
 
-  pub room_told : (lent : ℕ) {balls : ℕ} {answer : RoomAnswer} → universe_refusal u ≡ 0 → balls ≡ ball_words words →
-      answer ≡ room_answer u (leaves + box_rows) balls →
-      leb answer.symbols lent ≡ leb (room u (halfspace_words words + box_rows) (ball_words words)) lent
+  pub room_some : {balls : ℕ} {r : Result ℕ Refusal} → universe_refusal u ≡ 0 → balls ≡ ball_words words →
+      room_told r ≡ room_answer u (leaves + box_rows) balls → r ≡ Ok (room u (halfspace_words words + box_rows) (ball_words words))
   unfolding room_answer
-  room_told lent ok f g =
-      ap (λ (n : ℕ). leb n lent) (ap (λ (a : RoomAnswer). a.symbols) g ∙ rw (eq-eqb (universe_refusal u) 0 ok, e, f))
+  room_some {balls} {r} ok f g = go r (g ∙ rw (eq-eqb (universe_refusal u) 0 ok, e, f))
+    where
+      go : {n : ℕ} (r : Result ℕ Refusal) → room_told r ≡ record { refusal = 0; symbols = n } → r ≡ Ok n
+      go (Ok m) h = ap Ok (ap (λ (x : RoomAnswer). x.symbols) h)
+      go (Err w) h = absurd (number-not_zero w (ap (λ (x : RoomAnswer). x.refusal) h))
 
 -- ---- `largest_need`: the largest of the first i needs
-pub record NeedsSofar (u : Universe) (m : Mover) (surfaces : Surfaces) (words : List ℕ) (i need : ℕ) : Type 0 where
-  pub ready : Ready u m surfaces words
-  pub few : i ≤ length m.moments - 1
-  pub same : need ≡ largest i (λ j. length (stretch_raw u m surfaces words j))
+-- the library's larger number
+larger_lem : (a b : ℕ) → ord_max nat_cmp a b ≡ larger a b
+larger_lem a b = go (dec_le a b)
+  where
+    second : (t : Bool) → cond (is_lt (cond t Equal Greater)) a b ≡ b
+    second true = refl
+    second false = refl
 
-pub needs_start : {u : Universe} {m : Mover} {surfaces : Surfaces} {words : List ℕ} → Ready u m surfaces words → NeedsSofar u m surfaces words 0 0
+    go : Dec (a ≤ b) → ord_max nat_cmp a b ≡ larger a b
+    go (yes h) = rw (le-leb a b h, le-ltb b a h) (second (eqb b a))
+    go (no h) = rw (lt-leb a b (omega arith), lt-ltb b a (omega arith))
+
+pub largest_more : (f : ℕ → ℕ) {i need new next : ℕ} → need ≡ largest i f → new ≡ f i → next ≡ ord_max nat_cmp need new → next ≡ largest (i + 1) f
 unfolding largest
-needs_start r = record { ready = r; few = omega arith; same = refl }
-
-module _ {u : Universe} {m : Mover} {surfaces : Surfaces} {words : List ℕ} {i need : ℕ} (s : NeedsSofar u m surfaces words i need) where
-  pub needs_few : i ≤ length m.moments - 1
-  needs_few = s.few
-
-  module _ (l : i + 1 < length m.moments) where
-    pub needs_ready : ReadyAt u m surfaces words i
-    needs_ready = record { ready = s.ready; there = l }
-
-    pub needs_next : {new next : ℕ} → new ≡ length (stretch_raw u m surfaces words i) → next ≡ larger need new → NeedsSofar u m surfaces words (i + 1) next
-    unfolding largest
-    needs_next g h = record { ready = s.ready; few = omega arith; same = h ∙ rw (s.same, g, add-one i) }
-
-  pub needs_end : length m.moments ≤ i + 1 → need ≡ largest_need u m surfaces words
-  unfolding largest_need
-  needs_end k =
-      let f : i ≡ stretches m.moments = omega (arith, s.few) in
-      s.same ∙ ap (λ (n : ℕ). largest n (λ j. length (stretch_raw u m surfaces words j))) f
+largest_more f {i} {need} {new} s e h = h ∙ larger_lem need new ∙ rw (s, e, add-one i)
 
 -- each need is at most the largest
 larger_left : (a b : ℕ) → a ≤ larger a b
@@ -239,12 +210,6 @@ judged_start f =
 
 module _ {u : Universe} {m : Mover} {surfaces : Surfaces} {words before : List ℕ} {i : ℕ} {verdict : Verdict} {long : ℕ} {now : List ℕ}
     (s : JudgedSofar u m surfaces words before i verdict long now) where
-  pub sofar_few : i ≤ length m.moments - 1
-  sofar_few = s.few
-
-  pub sofar_kept : length now ≡ length before
-  sofar_kept = s.kept
-
   module _ (l : i + 1 < length m.moments) where
     pub next_ready : ReadyAt u m surfaces words i
     next_ready = record { ready = s.fits.ready; there = l }
@@ -259,9 +224,9 @@ module _ {u : Universe} {m : Mover} {surfaces : Surfaces} {words before : List �
           need_most (stretches m.moments) (λ j. length (stretch_raw u m surfaces words j)) i (omega arith),
         )
 
-    module _ {answer : Clearance} (a : answer ≡ done_clearance (stretch_verdict u m surfaces words i) (length (stretch_raw u m surfaces words i))) where
+    module _ {answer : ClearanceAnswer} (a : answer ≡ done_clearance (stretch_verdict u m surfaces words i) (length (stretch_raw u m surfaces words i))) where
       told_is : answer.verdict ≡ stretch_verdict u m surfaces words i
-      told_is = ap (λ (x : Clearance). x.verdict) a
+      told_is = ap (λ (x : ClearanceAnswer). x.verdict) a
 
       pub next_joins : Joining verdict answer.verdict
       next_joins = rw (s.told, told_is) (up_fits s.fits.ready i l)
@@ -276,7 +241,7 @@ module _ {u : Universe} {m : Mover} {surfaces : Surfaces} {words before : List �
               fits = s.fits;
               few = omega arith;
               told = e ∙ rw (s.told, told_is) (up_next s.fits.ready i l);
-              length_last = λ h. let p : i + 1 - 1 ≡ i = omega arith in rw p (ap (λ (x : Clearance). x.length) a);
+              length_last = λ h. let p : i + 1 - 1 ≡ i = omega arith in rw p (ap (λ (x : ClearanceAnswer). x.length) a);
               left = rw (add-one i, ← s.left) b;
               kept = omega (arith, ap length b, length-append symbols (drop (length symbols) now), length-drop (length symbols) now, next_room, s.kept);
             }
@@ -285,7 +250,7 @@ module _ {u : Universe} {m : Mover} {surfaces : Surfaces} {words before : List �
     all_of : i ≡ stretches m.moments
     all_of = omega (arith, s.few)
 
-    pub judged_all : ◌≡◌ {A = Clearance} (record { refusal = 0; verdict = verdict; length = long })
+    pub judged_all : ◌≡◌ {A = ClearanceAnswer} (record { refusal = 0; verdict = verdict; length = long })
         (done_clearance (mover_verdict u m surfaces words) (length (stretch_raw u m surfaces words (stretches m.moments - 1))))
     judged_all =
         ap₂ done_clearance
@@ -294,9 +259,3 @@ module _ {u : Universe} {m : Mover} {surfaces : Surfaces} {words before : List �
 
     pub left_all_of : now ≡ after_stretches u m surfaces words before (stretches m.moments)
     left_all_of = s.left ∙ ap (after_stretches u m surfaces words before) all_of
-
-pub ruleset joined_laws = (rules, joined_clear, joined_first, joined_both, joined_fits)
-
-pub ruleset room_laws = (rules, room_leaves, room_told)
-
-pub ruleset larger_laws = (rules, larger_second, larger_first)

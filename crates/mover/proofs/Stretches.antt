@@ -1,17 +1,16 @@
 -- The Box of a stretch as the machine works it out: corners worked back to time 0 are small enough for the rows, so that `rows_between` gives them all.
 use Prim.Native.Nat.{ℕ, ◌+◌, ◌*◌, ◌/◌, ◌%◌, ◌≤◌}
 use native.Mathlib.Omega.{arith}
-use mathlib.Core.Path.{◌≡◌, refl, ap, ◌∙◌}
+use mathlib.Core.Path.{◌≡◌, refl, ◌∙◌}
 use mathlib.Core.Bool.{true, ◌&&◌}
 use mathlib.Core.List.{List}
-use borrow.Author.Rules.{rules}
 use borrow.Author.Tests.{leb-true}
 use lib.Dec.{leb, eqb, lit≤}
 use lib.IntN.{ℤ, pos, nat_abs, ◌+ℤ◌, ◌-ℤ◌, ◌*ℤ◌}
 use mir.Syntax.{w64}
-use mir.Val.{SFits, to_z}
+use mir.Val.{to_z}
 use Rattle.lemmas.proofs.Sums.{and_left, and_right}
-use Rattle.lemmas.proofs.Machine.{Near, near, near_cast, near_add, near_sub, near_mul, near_back, near_fits, near_call}
+use Rattle.lemmas.proofs.Machine.{Near, near, near_cast, near_add, near_sub, near_mul, near_back}
 use Rattle.universe.specs.Refusals.{bad_proxy}
 use Rattle.universe.specs.Universe.{longest_side}
 use Rattle.universe.proofs.Refusing.{unless_holds}
@@ -22,12 +21,11 @@ use Rattle.standin.specs.declared.Triple.{Triple}
 use Rattle.standin.specs.declared.Solid.TheVariants.{Box, Cut}
 use Rattle.standin.specs.declared.Proxy.{Proxy}
 use Rattle.standin.specs.declared.Numbers.{Numbers}
-use Rattle.standin.specs.declared.ScaledTriple.{ScaledTriple}
 use Rattle.standin.specs.Sixteenths.{corner_limit, normal_limit}
-use Rattle.standin.specs.Rows.{numbers_of, alike, takes_box, corner_sixteenths, rows_between, rows_within}
+use Rattle.standin.specs.Rows.{numbers_of, alike, takes_box, rows_between, rows_within}
 use Rattle.standin.specs.Held.{Limited}
 use Rattle.standin.proofs.Parts.{BoxParts, box_parts}
-use Rattle.standin.proofs.Held.{back, wider, numbers_are, triple_small, zeros_limited}
+use Rattle.standin.proofs.Held.{back, wider, triple_small, zeros_limited}
 use Rattle.standin.proofs.Theorems.{rows_given}
 use Rattle.mover.specs.Keys.{Mover, moment_at, key_corner, is_still, takes_still, less_numbers, size_of, still_refusal}
 use Rattle.mover.specs.Stretches.{frames_of, change_of, is_step, are_steps, step_of, steps_of, step_along, worked_back, more_numbers, near_at0, far_at0}
@@ -54,33 +52,19 @@ module _ (p : Proxy) (still : still_refusal p ≡ 0) where
           less_small (triple_small corner_limit c.far b.far) (triple_small corner_limit c.near b.near)
       go (Cut a) t = zeros_limited
 
-  module _ {c : Corners} (e : p.solid ≡ Box c) where
-    parts : BoxParts c p.displacement
-    parts = still_box c p.displacement (rw e at (is_taken_still p still))
+  pub still_parts : {c : Corners} → p.solid ≡ Box c → BoxParts c p.displacement
+  still_parts {c} e = still_box c p.displacement (rw e at (is_taken_still p still))
 
-    module _ {far : ScaledTriple} (f : far ≡ corner_sixteenths c.far) where
-      far_is : far.numbers ≡ numbers_of c.far
-      far_is = ap (λ (x : ScaledTriple). x.numbers) f ∙ numbers_are corner_limit c.far parts.far
-
-      pub size_far : Limited corner_limit far.numbers
-      size_far = rw far_is (triple_small corner_limit c.far parts.far)
-
-      module _ {near : ScaledTriple} (g : near ≡ corner_sixteenths c.near) where
-        near_is : near.numbers ≡ numbers_of c.near
-        near_is = ap (λ (x : ScaledTriple). x.numbers) g ∙ numbers_are corner_limit c.near parts.near
-
-        pub size_near : Limited corner_limit near.numbers
-        size_near = rw near_is (triple_small corner_limit c.near parts.near)
-
-        pub size_told : {r : Numbers} → r ≡ less_numbers far.numbers near.numbers → r ≡ size_of p.solid
-        unfolding size_of
-        size_told h = rw (far_is, near_is) at h ∙ rw e
+  pub size_told : {c : Corners} {near far r : Numbers} → p.solid ≡ Box c → far ≡ numbers_of c.far → near ≡ numbers_of c.near → r ≡ less_numbers far near →
+      r ≡ size_of p.solid
+  unfolding size_of
+  size_told e f g h = rw (f, g) at h ∙ rw e
 
   pub size_none : {a : Plane} → p.solid ≡ Cut a → alike (pos 0) ≡ size_of p.solid
   unfolding size_of
   size_none e = rw e
 
--- ---- `back_along`, `worked_back`
+-- ---- `worked_back`: what is worked back is small
 module _ {m : ℕ} {a s : ℤ} (w : Working m a s) where
   product : Near (to_z w64 m *ℤ back s) (pos m *ℤ s) (longest_side * normal_limit)
   product = near_mul {x = pos m} {y = s} (near_cast m longest_side w.early tt) (near (record { most = w.step_small }) tt)
@@ -88,48 +72,10 @@ module _ {m : ℕ} {a s : ℤ} (w : Working m a s) where
   worked : Near (back a -ℤ back (to_z w64 m *ℤ back s)) (a -ℤ pos m *ℤ s) back_limit
   worked = near_sub {x = a} {y = pos m *ℤ s} (near (record { most = w.corner_small }) tt) (near_back {x = pos m *ℤ s} product tt)
 
-  pub back_product : SFits w64 (to_z w64 m *ℤ back s)
-  back_product = near_fits {x = pos m *ℤ s} product tt
-
-  pub back_fits : SFits w64 (back a -ℤ back (to_z w64 m *ℤ back s))
-  back_fits = near_fits {x = a -ℤ pos m *ℤ s} worked tt
-
-  pub back_is : back (back a -ℤ back (to_z w64 m *ℤ back s)) ≡ a -ℤ pos m *ℤ s
-  back_is = (near_back {x = a -ℤ pos m *ℤ s} worked tt).same
-
 module _ {m : ℕ} {a s : Numbers} (w : WorkingAll m a s) where
   module _ (p q : ℤ) (h : nat_abs p ≤ corner_limit) (k : nat_abs q ≤ normal_limit) where
-    axis_asks : Working m (back p) (back q)
-    axis_asks =
-        let e : back p ≡ p = (near {b = corner_limit} (record { most = h }) tt).same in
-        let f : back q ≡ q = (near {b = normal_limit} (record { most = k }) tt).same in
-        record { early = w.early; corner_small = rw e h; step_small = rw f k }
-
     axis_small : nat_abs (p -ℤ pos m *ℤ q) ≤ back_limit
     axis_small = (worked {a = p} {s = q} (record { early = w.early; corner_small = h; step_small = k })).size
-
-    axis_made : {r : ℤ} → r ≡ back p -ℤ pos m *ℤ back q → back r ≡ p -ℤ pos m *ℤ q
-    axis_made x =
-        let e : back p ≡ p = (near {b = corner_limit} (record { most = h }) tt).same in
-        let f : back q ≡ q = (near {b = normal_limit} (record { most = k }) tt).same in
-        (near_call (rw (e, f) at x) (record { same = refl; size = axis_small }) tt).same
-
-  pub worked_x : Working m (back a.x) (back s.x)
-  worked_x = axis_asks a.x s.x w.corner_small.x w.step_small.x
-
-  pub worked_y : Working m (back a.y) (back s.y)
-  worked_y = axis_asks a.y s.y w.corner_small.y w.step_small.y
-
-  pub worked_z : Working m (back a.z) (back s.z)
-  worked_z = axis_asks a.z s.z w.corner_small.z w.step_small.z
-
-  pub worked_all : {p q r : ℤ} → p ≡ back a.x -ℤ pos m *ℤ back s.x → q ≡ back a.y -ℤ pos m *ℤ back s.y →
-      r ≡ back a.z -ℤ pos m *ℤ back s.z → ◌≡◌ {A = Numbers} (record { x = back p; y = back q; z = back r }) (worked_back m a s)
-  worked_all e f g =
-      numbers_eq
-      (axis_made a.x s.x w.corner_small.x w.step_small.x e)
-      (axis_made a.y s.y w.corner_small.y w.step_small.y f)
-      (axis_made a.z s.z w.corner_small.z w.step_small.z g)
 
   pub worked_small : Limited back_limit (worked_back m a s)
   worked_small =
@@ -143,15 +89,6 @@ module _ {m : ℕ} {a s : Numbers} (w : WorkingAll m a s) where
 module _ {a b : Numbers} (h : Limited back_limit a) (k : Limited change_limit b) where
   more_near : (p q : ℤ) → nat_abs p ≤ back_limit → nat_abs q ≤ change_limit → Near (back p +ℤ back q) (p +ℤ q) (back_limit + change_limit)
   more_near p q m n = near_add {x = p} {y = q} (near (record { most = m }) tt) (near (record { most = n }) tt)
-
-  pub more_x : SFits w64 (back a.x +ℤ back b.x)
-  more_x = near_fits (more_near a.x b.x h.x k.x) tt
-
-  pub more_y : SFits w64 (back a.y +ℤ back b.y)
-  more_y = near_fits (more_near a.y b.y h.y k.y) tt
-
-  pub more_z : SFits w64 (back a.z +ℤ back b.z)
-  more_z = near_fits (more_near a.z b.z h.z k.z) tt
 
   pub more_is :
       ◌≡◌ {A = Numbers}
@@ -233,13 +170,3 @@ module _ {m : Mover} {i : ℕ} (b : HasBox m i) where
 
   pub rows_step : {n : ℕ} {d : Numbers} → n ≡ frames_of m.moments i → d ≡ change_of m.corners i → ChangingAll n d
   rows_step e f = stretch_asks b.stretch e f
-
-pub ruleset size_laws = (rules, size_far, size_near, size_told, size_none)
-
-pub ruleset back_laws = (rules, back_product, back_fits, back_is)
-
-pub ruleset worked_laws = (rules, worked_x, worked_y, worked_z, worked_all)
-
-pub ruleset more_laws = (rules, more_x, more_y, more_z, more_is)
-
-pub ruleset rows_laws = (rules, rows_step)

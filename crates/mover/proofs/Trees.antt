@@ -6,7 +6,7 @@ use mathlib.Core.Path.{◌≡◌, refl, ap, ap₂}
 use mathlib.Core.Bool.{true, false}
 use mathlib.Core.List.{List, [], ◌∷◌, ◌++◌}
 use borrow.Author.Tests.{lt-ltb, le-leb, lt-leb, ne_eqb}
-use lib.ListN.{length, length-append}
+use lib.ListN.{length}
 use Rattle.universe.specs.declared.Universe.{Universe}
 use Rattle.universe.specs.Room.{room}
 use Rattle.bintree.specs.Shape.{symbols}
@@ -31,7 +31,7 @@ use Rattle.mover.specs.Answers.{box_rows, most_static}
 use Rattle.mover.specs.Ready.{Ready}
 use Rattle.mover.proofs.Appended.{GoodRows, good_rows, rows_good, good_more, count_more, IsTree, read_tree, tree_more}
 use Rattle.mover.proofs.Stretches.{all_rows}
-use Rattle.mover.proofs.Scenes.{between_six}
+use Rattle.mover.proofs.Scenes.{numbers_count}
 use Rattle.mover.proofs.Accepted.{ready_universe, ready_axes, ready_box, ready_rows, ready_few}
 
 -- ---- the Box's words
@@ -103,19 +103,13 @@ module _ {u : Universe} {m : Mover} {surfaces : Surfaces} {words : List ℕ} (r 
 
   box_count : row_count (stretch_rows m i) ≡ box_rows
   unfolding stretch_rows
-  box_count = omega (arith, (between_six (near_at0 m i) (far_at0 m i) (step_along m i)).whole)
+  box_count = refl
 
   pub rows_count : row_count (surfaces.rows ++ stretch_rows m i) ≡ row_count surfaces.rows + box_rows
   rows_count = omega (arith, count_more surfaces.rows (stretch_rows m i) static_good.whole, box_count)
 
   pub rows_length : length (surfaces.rows ++ stretch_rows m i) ≡ length surfaces.rows + box_rows * row_length
-  unfolding stretch_rows
-  rows_length =
-      omega (
-        arith,
-        length-append surfaces.rows (flat (rows_between (near_at0 m i) (far_at0 m i) (step_along m i))),
-        (between_six (near_at0 m i) (far_at0 m i) (step_along m i)).whole,
-      )
+  rows_length = numbers_count m i surfaces.rows
 
   pub static_few : length surfaces.rows + box_rows * row_length ≤ most_rows * row_length
   static_few = omega (arith, ready_few r, static_good.whole)

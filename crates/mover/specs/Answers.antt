@@ -10,7 +10,7 @@ use Rattle.csg.specs.Halfspace.{most_rows, row_count, rows_refusal}
 use Rattle.csg.specs.Ball.{balls_refusal}
 use Rattle.csg.specs.Surfaces.{Surfaces, named}
 use Rattle.csg.specs.Words.{tree_refusal}
-use Rattle.convert.specs.declared.verdict.Clearance.{Clearance}
+use Rattle.convert.specs.Told.{ClearanceAnswer}
 use Rattle.convert.specs.Answers.{refused_clearance, done_clearance}
 use Rattle.standin.specs.Rows.{proxy_axes}
 use Rattle.mover.specs.Keys.{Mover, still_refusal, corners_refusal, keys_refusal}
@@ -59,7 +59,7 @@ unfoldable pub largest_need : Universe → Mover → Surfaces → List ℕ → �
 largest_need u m surfaces words = largest (stretches m.moments) (λ i. length (stretch_raw u m surfaces words i))
 
 -- rule 15.9: with 6 comes the largest need; done, the length is the last stretch's, whose symbols stand in front
-unfoldable pub mover_answer : Universe → Mover → Surfaces → List ℕ → List ℕ → Clearance
+unfoldable pub mover_answer : Universe → Mover → Surfaces → List ℕ → List ℕ → ClearanceAnswer
 mover_answer u m surfaces words out =
     unless_refused (mover_refusal u m surfaces words) (λ number. refused_clearance number 0)
     (unless_refused (room_refusal (length out) (largest_need u m surfaces words))

@@ -1,6 +1,6 @@
 -- What code asks on its way: a corner that is there, a stretch between two keys, one with a step; and, of the whole
 -- call, that no check before 6 refuses it.
-use Rattle.std.specs.Prelude.{ℕ, ◌+◌, ◌*◌, ◌/◌, ◌%◌, ◌^◌, ◌≤◌, ◌<◌, ◌≡◌, true, List, [], ◌∷◌, Float, ℤ, pos, nat_abs, length, get_or}
+use Rattle.std.specs.Prelude.{ℕ, ◌+◌, ◌*◌, ◌^◌, ◌≤◌, ◌<◌, ◌≡◌, true, List, Float, ℤ, nat_abs, length}
 use Rattle.universe.specs.declared.Universe.{Universe}
 use Rattle.universe.specs.Universe.{longest_side}
 use Rattle.bintree.specs.declared.Verdict.{Verdict}
@@ -11,11 +11,10 @@ use Rattle.csg.specs.Words.{tree_refusal}
 use Rattle.standin.specs.declared.Numbers.{Numbers}
 use Rattle.standin.specs.Sixteenths.{corner_limit, normal_limit}
 use Rattle.standin.specs.Rows.{takes_triple}
-use Rattle.standin.specs.Points.{flat}
 use Rattle.standin.specs.Held.{Limited}
 use Rattle.mover.specs.Keys.{Mover, corner_length, moment_at, corner_at, still_refusal, corners_refusal, keys_refusal}
 use Rattle.mover.specs.Stretches.{has_step, steps_refusal}
-use Rattle.mover.specs.Answers.{box_rows, axes_refusal, static_refusal, largest_need}
+use Rattle.mover.specs.Answers.{axes_refusal, static_refusal, largest_need}
 use Rattle.mover.specs.Frames.{voxels_told}
 
 -- a change between two corners, over some frames
@@ -71,22 +70,6 @@ pub record HasBox (m : Mover) (i : ℕ) : Type 0 where
 -- how many numbers the rows of a stretch may have
 abbrev pub most_numbers : ℕ
 most_numbers = most_rows * row_length
-
--- six rows of five numbers, one after the other
-pub record SixRows (six : List (List ℤ)) : Type 0 where
-  pub whole : length (flat six) ≡ box_rows * row_length
-  pub number : (k : ℕ) → k < box_rows * row_length →
-      get_or (flat six) k (pos 0) ≡ get_or (get_or six (k / row_length) []) (k % row_length) (pos 0)
-
--- the checks of the mover by itself
-abbrev pub key_checks : Universe → Mover → List ℕ
-key_checks u m =
-    axes_refusal u
-    ∷ still_refusal m.box
-    ∷ corners_refusal m.corners
-    ∷ keys_refusal u m.moments m.corners
-    ∷ steps_refusal m.moments m.corners
-    ∷ []
 
 -- no check before 6 refuses the call
 pub record Ready (u : Universe) (m : Mover) (surfaces : Surfaces) (words : List ℕ) : Type 0 where

@@ -4,47 +4,23 @@ ghost use Rattle.universe.specs.Universe.{universe_refusal};
 ghost use Rattle.universe.specs.Room.{room};
 ghost use Rattle.csg.specs.Surfaces.{surfaces_of};
 ghost use Rattle.csg.specs.Words.{most_words, halfspace_words, ball_words};
+ghost use Rattle.convert.specs.Told.{clearance_told};
 ghost use Rattle.convert.specs.Answers.{done_clearance};
 ghost use Rattle.mover.specs.Keys.{mover_of};
 ghost use Rattle.mover.specs.Stretches.{stretches};
 ghost use Rattle.mover.specs.Frames.{stretch_raw, stretch_verdict, joined, mover_verdict};
-ghost use Rattle.mover.specs.Answers.{box_rows, larger, largest_need, after_stretches};
-ghost use Rattle.mover.specs.Ready.{ReadyAt, Ready, Fits, Joining, most_numbers};
+ghost use Rattle.mover.specs.Answers.{box_rows, largest_need, after_stretches};
+ghost use Rattle.mover.specs.Ready.{ReadyAt, Ready, Fits, Joining};
 
 use crate::scene::{BOX_ROWS, MOST_NUMBERS, box_words, lay_rows};
+use crate::step::stretches;
 use bintree::{Contact, Verdict};
 use convert::Clearance;
 use csg::ROW_LENGTH;
 use standin::Proxy;
-use universe::Universe;
+use universe::{Universe, Unwritten};
 
-// How many symbols the raw expression of stretch i has; `all` is for its rows.
-fn need_in(
-    universe: Universe,
-    size: Proxy,
-    moments: &[u64],
-    corners: &[f64],
-    rows: &[i64],
-    balls: &[i64],
-    words: &[u16],
-    i: usize,
-    all: &mut [i64],
-) -> u64
-    requires fact { let m = mover_of size moments.now corners.now in
-        ReadyAt universe m (surfaces_of rows.now balls.now) words.now i }
-    requires all_len { length all.old ≡ most_numbers }
-    ensures { let m = mover_of size moments.now corners.now in
-        let surfaces = surfaces_of rows.now balls.now in
-        result ≡ length (stretch_raw universe m surfaces words.now i) }
-{
-    let end = lay_rows(size, moments, corners, i, rows, all);
-    let own = box_words(rows.len() / ROW_LENGTH);
-    let mut nothing = [0u8; 0];
-    let written = local::raw_of_two(universe, &all[..end], balls, words, &own, &mut nothing);
-    written.length
-}
-
-// The same with rows of its own.
+// How many symbols the raw expression of stretch i has.
 fn need_of(
     universe: Universe,
     size: Proxy,
@@ -61,17 +37,13 @@ fn need_of(
         let surfaces = surfaces_of rows.now balls.now in
         result ≡ length (stretch_raw universe m surfaces words.now i) }
 {
-    let mut all = [0i64; MOST_NUMBERS];
-    need_in(
-        universe, size, moments, corners, rows, balls, words, i, &mut all,
-    )
-}
-
-// The larger of two numbers.
-fn larger(a: u64, b: u64) -> u64
-    ensures { result ≡ larger a b }
-{
-    if a <= b { b } else { a }
+    let mut all = [0; MOST_NUMBERS];
+    let end = lay_rows(size, moments, corners, i, rows, &mut all);
+    let own = box_words(rows.len() / ROW_LENGTH);
+    match local::raw_of_two(universe, &all[..end], balls, words, &own, &mut []) {
+        Ok(length) => length,
+        Err(unwritten) => unwritten.needed(),
+    }
 }
 
 // The largest need of any stretch.
@@ -90,14 +62,10 @@ pub(crate) fn largest_need(
         let surfaces = surfaces_of rows.now balls.now in
         result ≡ largest_need universe m surfaces words.now }
 {
-    let mut need: u64 = 0;
-    let mut i: usize = 0;
-    while i + 1 < moments.len() {
-        need = larger(
-            need,
-            need_of(universe, size, moments, corners, rows, balls, words, i),
-        );
-        i += 1;
+    let mut need = 0;
+    for i in 0..stretches(moments) {
+        let next = need_of(universe, size, moments, corners, rows, balls, words, i);
+        need = need.max(next);
     }
     need
 }
@@ -110,12 +78,11 @@ pub(crate) fn has_room(universe: Universe, words: &[u16], lent: usize) -> bool
         result ≡ leb (room universe leaves (ball_words words.now)) lent }
 {
     let leaves = csg::halfspace_words(words) + BOX_ROWS as u64;
-    let answer = universe.room(leaves, csg::ball_words(words));
-    answer.symbols <= lent as u64
+    universe.room(leaves, csg::ball_words(words)).unwrap() <= lent as u64
 }
 
-// The verdict on stretch i, whose raw expression is written into lent room, where it fits; `all` is for its rows.
-fn judge_in(
+// The verdict on stretch i, whose raw expression is written into lent room, where it fits.
+fn judge_stretch(
     universe: Universe,
     size: Proxy,
     moments: &[u64],
@@ -124,12 +91,10 @@ fn judge_in(
     balls: &[i64],
     words: &[u16],
     i: usize,
-    all: &mut [i64],
     out: &mut [u8],
-) -> Clearance
+) -> Result<Clearance, Unwritten>
     requires fact { let m = mover_of size moments.now corners.now in
         ReadyAt universe m (surfaces_of rows.now balls.now) words.now i }
-    requires all_len { length all.old ≡ most_numbers }
     requires i_in_bounds { let m = mover_of size moments.now corners.now in
         let surfaces = surfaces_of rows.now balls.now in
         length (stretch_raw universe m surfaces words.now i) ≤ length out.old }
@@ -137,13 +102,14 @@ fn judge_in(
         let surfaces = surfaces_of rows.now balls.now in
         let words = words.now in
         let length = length (stretch_raw universe m surfaces words i) in
-        result ≡ done_clearance (stretch_verdict universe m surfaces words i) length }
+        clearance_told result ≡ done_clearance (stretch_verdict universe m surfaces words i) length }
     ensures out_after { let m = mover_of size moments.now corners.now in
         let surfaces = surfaces_of rows.now balls.now in
         let symbols = stretch_raw universe m surfaces words.now i in
         out.new ≡ symbols ++ drop (length symbols) out.old }
 {
-    let end = lay_rows(size, moments, corners, i, rows, all);
+    let mut all = [0; MOST_NUMBERS];
+    let end = lay_rows(size, moments, corners, i, rows, &mut all);
     let own = box_words(rows.len() / ROW_LENGTH);
     local::verdict_of_two(
         universe,
@@ -157,54 +123,20 @@ fn judge_in(
     )
 }
 
-// The same with rows of its own.
-fn judge_stretch(
-    universe: Universe,
-    size: Proxy,
-    moments: &[u64],
-    corners: &[f64],
-    rows: &[i64],
-    balls: &[i64],
-    words: &[u16],
-    i: usize,
-    out: &mut [u8],
-) -> Clearance
-    requires fact { let m = mover_of size moments.now corners.now in
-        ReadyAt universe m (surfaces_of rows.now balls.now) words.now i }
-    requires i_in_bounds { let m = mover_of size moments.now corners.now in
-        let surfaces = surfaces_of rows.now balls.now in
-        length (stretch_raw universe m surfaces words.now i) ≤ length out.old }
-    ensures result_value { let m = mover_of size moments.now corners.now in
-        let surfaces = surfaces_of rows.now balls.now in
-        let words = words.now in
-        let length = length (stretch_raw universe m surfaces words i) in
-        result ≡ done_clearance (stretch_verdict universe m surfaces words i) length }
-    ensures out_after { let m = mover_of size moments.now corners.now in
-        let surfaces = surfaces_of rows.now balls.now in
-        let symbols = stretch_raw universe m surfaces words.now i in
-        out.new ≡ symbols ++ drop (length symbols) out.old }
-{
-    let mut all = [0i64; MOST_NUMBERS];
-    judge_in(
-        universe, size, moments, corners, rows, balls, words, i, &mut all, out,
-    )
-}
-
 // The verdicts of frames and of later ones, joined.
+#[tactic(auto, unfolding(crate::specs::Frames::joined))]
 fn joined(a: Verdict, b: Verdict) -> Verdict
     requires { Joining a b }
     ensures { result ≡ joined a b }
 {
-    match a {
-        Verdict::Clear => b,
-        Verdict::Hit(earlier) => match b {
-            Verdict::Clear => Verdict::Hit(earlier),
-            Verdict::Hit(later) => Verdict::Hit(Contact {
-                first: earlier.first,
-                last: later.last,
-                voxels: earlier.voxels + later.voxels,
-            }),
-        },
+    match (a, b) {
+        (Verdict::Clear, later) => later,
+        (earlier, Verdict::Clear) => earlier,
+        (Verdict::Hit(earlier), Verdict::Hit(later)) => Verdict::Hit(Contact {
+            first: earlier.first,
+            last: later.last,
+            voxels: earlier.voxels + later.voxels,
+        }),
     }
 }
 
@@ -218,32 +150,25 @@ pub(crate) fn judge_all(
     balls: &[i64],
     words: &[u16],
     out: &mut [u8],
-) -> Clearance
+) -> Result<Clearance, Unwritten>
     requires { let m = mover_of size moments.now corners.now in
         Fits universe m (surfaces_of rows.now balls.now) words.now out.old }
     ensures result_value { let m = mover_of size moments.now corners.now in
         let surfaces = surfaces_of rows.now balls.now in
         let words = words.now in
         let length = length (stretch_raw universe m surfaces words (stretches moments.now - 1)) in
-        result ≡ done_clearance (mover_verdict universe m surfaces words) length }
+        clearance_told result ≡ done_clearance (mover_verdict universe m surfaces words) length }
     ensures out_after { let m = mover_of size moments.now corners.now in
         let surfaces = surfaces_of rows.now balls.now in
         let count = stretches moments.now in
         out.new ≡ after_stretches universe m surfaces words.now out.old count }
 {
     let mut verdict = Verdict::Clear;
-    let mut length: u64 = 0;
-    let mut i: usize = 0;
-    while i + 1 < moments.len() {
-        let next = judge_stretch(universe, size, moments, corners, rows, balls, words, i, out);
-        let later = next.verdict;
-        verdict = joined(verdict, later);
+    let mut length = 0;
+    for i in 0..stretches(moments) {
+        let next = judge_stretch(universe, size, moments, corners, rows, balls, words, i, out)?;
+        verdict = joined(verdict, next.verdict);
         length = next.length;
-        i += 1;
     }
-    Clearance {
-        refusal: 0,
-        verdict: verdict,
-        length: length,
-    }
+    Ok(Clearance { verdict, length })
 }

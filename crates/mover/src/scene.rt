@@ -1,12 +1,11 @@
 // The rows and the words with which a stretch is judged: the static rows, the Box's behind them, and the Box's tree.
-ghost use Rattle.std.specs.Prelude.{◌≡◌, ◌++◌, ◌+◌, ◌*◌, ◌≤◌, ◌<◌, pos, length, get_or, drop, take};
+ghost use Rattle.std.specs.Prelude.{◌≡◌, ◌++◌, ◌+◌, ◌*◌, ◌≤◌, length, drop};
 ghost use Rattle.csg.specs.Halfspace.{row_length};
-ghost use Rattle.standin.specs.Points.{flat};
 ghost use Rattle.mover.specs.Keys.{mover_of};
 ghost use Rattle.mover.specs.Stretches.{stretch_rows};
 ghost use Rattle.mover.specs.Frames.{box_words};
 ghost use Rattle.mover.specs.Answers.{box_rows, most_static};
-ghost use Rattle.mover.specs.Ready.{HasBox, SixRows};
+ghost use Rattle.mover.specs.Ready.{HasBox};
 
 use crate::stretch::rows_of;
 use csg::{FIRST_HALFSPACE, INTERSECTION, MOST_ROWS, ROW_LENGTH};
@@ -20,38 +19,7 @@ pub const MOST_STATIC: usize = MOST_ROWS - BOX_ROWS;
 // The numbers of all rows of a stretch.
 pub(crate) const MOST_NUMBERS: usize = MOST_ROWS * ROW_LENGTH;
 
-// Number n of the rows: the static ones, and behind them the Box's.
-fn number_at(rows: &[i64], six: [[i64; 5]; 6], n: usize) -> i64
-    requires six_rows { SixRows six }
-    requires n_in_bounds { n < length rows.now + box_rows * row_length }
-    ensures { result ≡ get_or (rows.now ++ flat six) n (pos 0) }
-{
-    if n < rows.len() {
-        return rows[n];
-    }
-    let k = n - rows.len();
-    let row = six[k / ROW_LENGTH];
-    row[k % ROW_LENGTH]
-}
-
-// Copies all of them to the front of `all`, and gives their count.
-fn fill(rows: &[i64], six: [[i64; 5]; 6], all: &mut [i64]) -> usize
-    requires six_rows { SixRows six }
-    requires row_length_in_bounds { length rows.now + box_rows * row_length ≤ length all.old }
-    ensures value { result ≡ length (rows.now ++ flat six) }
-    ensures all_after { let numbers = rows.now ++ flat six in
-        all.new ≡ numbers ++ drop (length numbers) all.old }
-{
-    let count = rows.len() + BOX_ROWS * ROW_LENGTH;
-    let mut n: usize = 0;
-    while n < count {
-        all[n] = number_at(rows, six, n);
-        n += 1;
-    }
-    count
-}
-
-// The rows of stretch i.
+// Copies the static rows, and behind them the Box's over stretch i, to the front of `all`: so many numbers.
 pub(crate) fn lay_rows(
     size: Proxy,
     moments: &[u64],
@@ -68,11 +36,17 @@ pub(crate) fn lay_rows(
         let numbers = rows.now ++ stretch_rows m i in
         all.new ≡ numbers ++ drop (length numbers) all.old }
 {
-    let six = rows_of(size, moments, corners, i);
-    fill(rows, six, all)
+    let mut end = rows.len();
+    all[..end].copy_from_slice(rows);
+    for row in rows_of(size, moments, corners, i) {
+        all[end..end + ROW_LENGTH].copy_from_slice(&row);
+        end += ROW_LENGTH;
+    }
+    end
 }
 
 // The words of the Box's tree: its six halfspaces, behind so many rows, intersected.
+#[tactic(auto, unfolding(crate::specs::Frames::box_words))]
 pub(crate) fn box_words(rows: usize) -> [u16; 11]
     requires { rows ≤ most_static }
     ensures { result ≡ box_words rows }

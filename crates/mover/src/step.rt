@@ -1,18 +1,26 @@
 // The corners of keys in whole sixteenths, and the step between two of them.
-ghost use Rattle.std.specs.Prelude.{◌≡◌, ◌+◌, ◌≤◌, ◌<◌, nat_abs, length};
+ghost use Rattle.std.specs.Prelude.{◌≡◌, ◌+◌, ◌≤◌, ◌<◌, length};
+ghost use Rattle.universe.specs.Told.{number_told};
 ghost use Rattle.standin.specs.Sixteenths.{corner_limit};
 ghost use Rattle.standin.specs.Held.{Limited};
 ghost use Rattle.mover.specs.Keys.{moment_at, key_corner, less_numbers};
-ghost use Rattle.mover.specs.Stretches.{frames_of, change_of, is_step, are_steps, step_of, steps_of, has_step};
+ghost use Rattle.mover.specs.Stretches.{stretches, frames_of, change_of, is_step, are_steps, step_of, steps_of, has_step};
 ghost use Rattle.mover.specs.Stretches.{steps_refusal};
-ghost use Rattle.mover.specs.Ready.{change_limit, Changing, ChangingAll, HasCorner, HasStretch, HasStretches};
+ghost use Rattle.mover.specs.Ready.{Changing, ChangingAll, HasCorner, HasStretch, HasStretches};
 
 use crate::key::CORNER_LENGTH;
 use standin::{Numbers, Proxy, Triple};
-use universe::refusals;
+use universe::Refusal;
 
 // How large a step's number may be, in sixteenths.
 const STEP_LIMIT: u64 = Proxy::NORMAL_LIMIT as u64;
+
+// How many stretches so many keys have.
+pub(crate) fn stretches(moments: &[u64]) -> usize
+    ensures { result ≡ stretches moments.now }
+{
+    moments.len().saturating_sub(1)
+}
 
 // One corner less another.
 pub(crate) fn less(a: Numbers, b: Numbers) -> Numbers
@@ -38,8 +46,7 @@ pub(crate) fn corner_at(corners: &[f64], i: usize) -> Numbers
         y: corners[first + 1],
         z: corners[first + 2],
     };
-    let scaled = standin::corner_sixteenths(corner);
-    scaled.numbers
+    standin::corner_sixteenths(corner).unwrap()
 }
 
 // How many frames stretch i has.
@@ -62,28 +69,13 @@ pub(crate) fn change_of(corners: &[f64], i: usize) -> Numbers
     less(to, from)
 }
 
-// How large a change is.
-fn size_of(change: i64) -> u64
-    requires { nat_abs change ≤ change_limit }
-    ensures { result ≡ nat_abs change }
-{
-    if change < 0 {
-        (0 - change) as u64
-    } else {
-        change as u64
-    }
-}
-
 // Whether a change is a whole number of sixteenths a frame, at most 64 in size.
 fn is_step(frames: u64, change: i64) -> bool
     requires { Changing frames change }
     ensures { result ≡ is_step frames change }
 {
-    let size = size_of(change);
-    if size % frames != 0 {
-        return false;
-    }
-    size / frames <= STEP_LIMIT
+    let size = change.unsigned_abs();
+    size % frames == 0 && size / frames <= STEP_LIMIT
 }
 
 // The step that such a change comes to.
@@ -91,8 +83,8 @@ fn step_of(frames: u64, change: i64) -> i64
     requires { Changing frames change }
     ensures { result ≡ step_of frames change }
 {
-    let step = (size_of(change) / frames) as i64;
-    if change < 0 { 0 - step } else { step }
+    let step = (change.unsigned_abs() / frames) as i64;
+    if change < 0 { -step } else { step }
 }
 
 // The same on each axis of space.
@@ -100,7 +92,7 @@ fn are_steps(frames: u64, change: Numbers) -> bool
     requires { ChangingAll frames change }
     ensures { result ≡ are_steps frames change }
 {
-    is_step(frames, change.x) & is_step(frames, change.y) & is_step(frames, change.z)
+    is_step(frames, change.x) && is_step(frames, change.y) && is_step(frames, change.z)
 }
 
 pub(crate) fn steps_of(frames: u64, change: Numbers) -> Numbers
@@ -123,17 +115,15 @@ fn has_step(moments: &[u64], corners: &[f64], i: usize) -> bool
     are_steps(frames_of(moments, i), change)
 }
 
-// BAD_STEP where a stretch has no step; else 0.
-pub(crate) fn steps_refusal(moments: &[u64], corners: &[f64]) -> u64
+// BadStep where a stretch has no step.
+pub(crate) fn check_steps(moments: &[u64], corners: &[f64]) -> Result<(), Refusal>
     requires { HasStretches moments.now corners.now }
-    ensures { result ≡ steps_refusal moments.now corners.now }
+    ensures { number_told result ≡ steps_refusal moments.now corners.now }
 {
-    let mut i: usize = 0;
-    while i + 1 < moments.len() {
+    for i in 0..stretches(moments) {
         if !has_step(moments, corners, i) {
-            return refusals::BAD_STEP;
+            return Err(Refusal::BadStep);
         }
-        i += 1;
     }
-    0
+    Ok(())
 }

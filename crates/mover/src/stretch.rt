@@ -14,12 +14,11 @@ fn size_of(size: Proxy) -> Numbers
     requires { still_refusal size ≡ 0 }
     ensures { result ≡ size_of size.solid }
 {
-    let solid = size.solid;
-    match solid {
+    match size.solid {
         Solid::Box(corners) => {
-            let far = standin::corner_sixteenths(corners.far);
-            let near = standin::corner_sixteenths(corners.near);
-            less(far.numbers, near.numbers)
+            let far = standin::corner_sixteenths(corners.far).unwrap();
+            let near = standin::corner_sixteenths(corners.near).unwrap();
+            less(far, near)
         }
         Solid::Cut(_) => Numbers { x: 0, y: 0, z: 0 },
     }

@@ -7,7 +7,7 @@ use convert::Clearance;
 use standin::{Corners, Proxy, Solid, Triple};
 use std::io;
 use std::io::Write;
-use universe::Universe;
+use universe::{Universe, Unwritten};
 
 const LENT: usize = 64;
 
@@ -18,9 +18,9 @@ const SHORT: usize = EXACT - 1;
 
 fn universe_of(axes: u64, bits: u64, frame_bits: u64) -> Universe {
     Universe {
-        axes: axes,
-        bits: bits,
-        frame_bits: frame_bits,
+        axes,
+        bits,
+        frame_bits,
     }
 }
 
@@ -41,48 +41,41 @@ fn cube(v: f64) -> Proxy {
         y: 0.0,
         z: -0.0,
     };
-    let corners = Corners {
-        near: near,
-        far: far,
-    };
     Proxy {
-        solid: Solid::Box(corners),
-        displacement: displacement,
+        solid: Solid::Box(Corners { near, far }),
+        displacement,
     }
-}
-
-fn say(to: &mut impl Write, text: &[u8]) -> io::Result<()> {
-    to.write_all(text)
-}
-
-fn number(to: &mut impl Write, n: u64) -> io::Result<()> {
-    write!(to, "{n} ")
 }
 
 // An answer, and the room as it is left.
-fn told(to: &mut impl Write, name: &[u8], answer: Clearance, room: &[u8]) -> io::Result<()> {
-    say(to, name)?;
-    say(to, b": ")?;
-    number(to, answer.refusal)?;
-    let verdict = answer.verdict;
-    match verdict {
-        Verdict::Clear => say(to, b"clear ")?,
-        Verdict::Hit(contact) => {
-            say(to, b"hit ")?;
-            number(to, contact.first)?;
-            number(to, contact.last)?;
-            number(to, contact.voxels)?;
+fn told(
+    to: &mut impl Write,
+    name: &str,
+    answer: Result<Clearance, Unwritten>,
+    room: &[u8],
+) -> io::Result<()> {
+    match answer {
+        Ok(judged) => {
+            match judged.verdict {
+                Verdict::Clear => write!(to, "{name}: 0 clear ")?,
+                Verdict::Hit(contact) => write!(
+                    to,
+                    "{name}: 0 hit {} {} {} ",
+                    contact.first, contact.last, contact.voxels
+                )?,
+            }
+            write!(to, "{} ", judged.length)?;
         }
+        Err(why) => write!(to, "{name}: {} clear {} ", why.number(), why.needed())?,
     }
-    number(to, answer.length)?;
-    say(to, room)?;
-    say(to, b"\n")
+    to.write_all(room)?;
+    writeln!(to)
 }
 
 // A cube against everything.
 fn against_all(
     to: &mut impl Write,
-    name: &[u8],
+    name: &str,
     universe: Universe,
     v: f64,
     moments: &[u64],
@@ -105,7 +98,7 @@ fn against_all(
 // A cube that comes along x, one unit a frame, against rows, balls and words.
 fn against(
     to: &mut impl Write,
-    name: &[u8],
+    name: &str,
     rows: &[i64],
     balls: &[i64],
     words: &[u16],
@@ -128,34 +121,20 @@ fn against(
 fn boxes(to: &mut impl Write) -> io::Result<()> {
     let moments: &[u64] = &[0, 2];
     let keys: &[f64] = &[0.0; 6];
-    against_all(to, b"three axes", universe_of(3, 1, 1), 0.0, moments, keys)?;
+    against_all(to, "three axes", universe_of(3, 1, 1), 0.0, moments, keys)?;
     against_all(
         to,
-        b"too many bits",
+        "too many bits",
         universe_of(4, 11, 1),
         0.0,
         moments,
         keys,
     )?;
+    against_all(to, "stands still", universe_of(4, 1, 1), 0.0, moments, keys)?;
+    against_all(to, "displaced", universe_of(4, 1, 1), 0.0625, moments, keys)?;
     against_all(
         to,
-        b"stands still",
-        universe_of(4, 1, 1),
-        0.0,
-        moments,
-        keys,
-    )?;
-    against_all(
-        to,
-        b"displaced",
-        universe_of(4, 1, 1),
-        0.0625,
-        moments,
-        keys,
-    )?;
-    against_all(
-        to,
-        b"displaced by no number",
+        "displaced by no number",
         universe_of(4, 1, 1),
         0.03125,
         moments,
@@ -173,23 +152,23 @@ fn counts(to: &mut impl Write) -> io::Result<()> {
         154, 155, 156, 157, 158, 159, 160, 161, 162, 163, 164,
     ];
     let corners = [0.0; 195];
-    against_all(to, b"1 key", universe, 0.0, &moments[..1], &corners[..3])?;
-    against_all(to, b"2 keys", universe, 0.0, &moments[..2], &corners[..6])?;
+    against_all(to, "1 key", universe, 0.0, &moments[..1], &corners[..3])?;
+    against_all(to, "2 keys", universe, 0.0, &moments[..2], &corners[..6])?;
     against_all(
         to,
-        b"64 keys",
+        "64 keys",
         universe,
         0.0,
         &moments[..64],
         &corners[..192],
     )?;
-    against_all(to, b"65 keys", universe, 0.0, &moments, &corners)
+    against_all(to, "65 keys", universe, 0.0, &moments, &corners)
 }
 
 // A cube of two keys against everything.
 fn two_keys(
     to: &mut impl Write,
-    name: &[u8],
+    name: &str,
     universe: Universe,
     moments: [u64; 2],
     corners: [f64; 6],
@@ -203,23 +182,23 @@ fn corners(to: &mut impl Write) -> io::Result<()> {
     let moments: &[u64] = &[0, 1];
     against_all(
         to,
-        b"a corner lacks a number",
+        "a corner lacks a number",
         universe,
         0.0,
         moments,
         &[0.0; 5],
     )?;
-    against_all(to, b"a number too many", universe, 0.0, moments, &[0.0; 7])?;
+    against_all(to, "a number too many", universe, 0.0, moments, &[0.0; 7])?;
     two_keys(
         to,
-        b"a number that is not taken",
+        "a number that is not taken",
         universe,
         [0, 1],
         [0.0, 0.0, 0.0, 0.0, 0.0, 0.03125],
     )?;
     two_keys(
         to,
-        b"a number past the limit",
+        "a number past the limit",
         universe,
         [0, 1],
         [0.0, 0.0, 0.0, 0.0, 0.0, 4096.0625],
@@ -229,18 +208,18 @@ fn corners(to: &mut impl Write) -> io::Result<()> {
 // Their moments, behind their corners.
 fn moments(to: &mut impl Write) -> io::Result<()> {
     let universe = universe_of(4, 0, 6);
-    two_keys(to, b"equal moments", universe, [1, 1], [0.0; 6])?;
+    two_keys(to, "equal moments", universe, [1, 1], [0.0; 6])?;
     two_keys(
         to,
-        b"to the end of the last frame",
+        "to the end of the last frame",
         universe,
         [0, 64],
         [0.0; 6],
     )?;
-    two_keys(to, b"past it", universe, [0, 65], [0.0; 6])?;
+    two_keys(to, "past it", universe, [0, 65], [0.0; 6])?;
     two_keys(
         to,
-        b"10 before 11",
+        "10 before 11",
         universe,
         [1, 1],
         [0.0, 0.0, 0.0, 0.0, 0.0, 0.03125],
@@ -252,28 +231,28 @@ fn far_steps(to: &mut impl Write) -> io::Result<()> {
     let universe = universe_of(4, 1, 2);
     two_keys(
         to,
-        b"a step of 64",
+        "a step of 64",
         universe,
         [3, 4],
         [0.0, 0.0, 0.0, 64.0, 0.0, 0.0],
     )?;
     two_keys(
         to,
-        b"a step of 64 1/16",
+        "a step of 64 1/16",
         universe,
         [3, 4],
         [0.0, 0.0, 0.0, 64.0625, 0.0, 0.0],
     )?;
     two_keys(
         to,
-        b"a step of -64 along z",
+        "a step of -64 along z",
         universe,
         [3, 4],
         [0.0, 0.0, 64.0, 0.0, 0.0, 0.0],
     )?;
     two_keys(
         to,
-        b"a step of -64 1/16 along z",
+        "a step of -64 1/16 along z",
         universe,
         [3, 4],
         [0.0, 0.0, 64.0625, 0.0, 0.0, 0.0],
@@ -285,28 +264,28 @@ fn steps(to: &mut impl Write) -> io::Result<()> {
     let universe = universe_of(4, 1, 2);
     two_keys(
         to,
-        b"a step of 1/16",
+        "a step of 1/16",
         universe,
         [0, 2],
         [0.0, 0.0, 0.0, 0.0, -0.125, 0.0],
     )?;
     two_keys(
         to,
-        b"a step of 1/32",
+        "a step of 1/32",
         universe,
         [0, 2],
         [0.0, 0.0, 0.0, 0.0, 0.0, -0.0625],
     )?;
     two_keys(
         to,
-        b"11 before 12",
+        "11 before 12",
         universe,
         [2, 2],
         [0.0, 0.0, 0.0, 0.0, 0.0, -0.0625],
     )?;
     two_keys(
         to,
-        b"a corner of 4096",
+        "a corner of 4096",
         universe_of(4, 1, 7),
         [64, 128],
         [4096.0, 0.0, 0.0, 0.0, 0.0, 0.0],
@@ -319,17 +298,17 @@ fn stretches(to: &mut impl Write) -> io::Result<()> {
     let there = [1.0, 0.0, 0.0, 1.0, 0.0, 0.0, -3.0, 0.0, 0.0];
     against_all(
         to,
-        b"there, and away in one frame",
+        "there, and away in one frame",
         universe,
         0.0,
         &[0, 2, 3],
         &there,
     )?;
     let away = [-3.0, 0.0, 0.0, 1.0, 0.0, 0.0, 1.0, 0.0, 0.0];
-    against_all(to, b"away, and there", universe, 0.0, &[0, 1, 3], &away)?;
+    against_all(to, "away, and there", universe, 0.0, &[0, 1, 3], &away)?;
     two_keys(
         to,
-        b"the last key's moment",
+        "the last key's moment",
         universe,
         [1, 2],
         [-3.0, 0.0, 0.0, 1.0, 0.0, 0.0],
@@ -337,42 +316,42 @@ fn stretches(to: &mut impl Write) -> io::Result<()> {
 }
 
 // A static tree of one word over rows.
-fn against_word(to: &mut impl Write, name: &[u8], rows: &[i64], word: u16) -> io::Result<()> {
+fn against_word(to: &mut impl Write, name: &str, rows: &[i64], word: u16) -> io::Result<()> {
     against(to, name, rows, &[], &[word])
 }
 
 // A static tree of the first ball.
-fn against_ball(to: &mut impl Write, name: &[u8], rows: &[i64], balls: &[i64]) -> io::Result<()> {
+fn against_ball(to: &mut impl Write, name: &str, rows: &[i64], balls: &[i64]) -> io::Result<()> {
     against(to, name, rows, balls, &[512])
 }
 
 // The static tree: its rows.
 fn rows(to: &mut impl Write) -> io::Result<()> {
     let most: &[i64] = &[0; 1250];
-    against_word(to, b"250 rows", most, 256)?;
-    against_word(to, b"251 rows", &[0; 1255], 256)?;
-    against_word(to, b"row 249", most, 505)?;
-    against_word(to, b"the mover's first row", most, 506)
+    against_word(to, "250 rows", most, 256)?;
+    against_word(to, "251 rows", &[0; 1255], 256)?;
+    against_word(to, "row 249", most, 505)?;
+    against_word(to, "the mover's first row", most, 506)
 }
 
 // What refuses it first, and its words.
 fn trees(to: &mut impl Write) -> io::Result<()> {
     let none: &[i64] = &[];
-    against_ball(to, b"a torn row", &[0; 4], &[0, 0, 0, 1])?;
-    against_ball(to, b"a torn ball", none, &[0, 0, 0])?;
-    against(to, b"no words", &[0; 5], none, &[])?;
-    against(to, b"33 pending", none, none, &[1; 33])
+    against_ball(to, "a torn row", &[0; 4], &[0, 0, 0, 1])?;
+    against_ball(to, "a torn ball", none, &[0, 0, 0])?;
+    against(to, "no words", &[0; 5], none, &[])?;
+    against(to, "33 pending", none, none, &[1; 33])
 }
 
 // Its balls, and a plane.
 fn leaves(to: &mut impl Write) -> io::Result<()> {
-    against_word(to, b"a ball that is not there", &[0; 5], 512)?;
-    against_ball(to, b"a ball", &[], &[0, 0, 0, 1])?;
-    against_word(to, b"half of space", &[-1, 1, 0, 0, 0], 256)
+    against_word(to, "a ball that is not there", &[0; 5], 512)?;
+    against_ball(to, "a ball", &[], &[0, 0, 0, 1])?;
+    against_word(to, "half of space", &[-1, 1, 0, 0, 0], 256)
 }
 
 // A room for the longest stretch, which is the first, and one symbol less.
-fn long_first(to: &mut impl Write, name: &[u8], room: &mut [u8]) -> io::Result<()> {
+fn long_first(to: &mut impl Write, name: &str, room: &mut [u8]) -> io::Result<()> {
     let answer = mover::verdict_of_mover(
         universe_of(4, 1, 2),
         cube(0.0),
@@ -388,13 +367,13 @@ fn long_first(to: &mut impl Write, name: &[u8], room: &mut [u8]) -> io::Result<(
 
 fn rooms(to: &mut impl Write) -> io::Result<()> {
     let mut none = [b'.'; 0];
-    long_first(to, b"no room", &mut none)?;
+    long_first(to, "no room", &mut none)?;
     let mut short = [b'.'; SHORT];
-    long_first(to, b"one short", &mut short)?;
+    long_first(to, "one short", &mut short)?;
     let mut exact = [b'.'; EXACT];
-    long_first(to, b"exact", &mut exact)?;
+    long_first(to, "exact", &mut exact)?;
     let mut more = [b'.'; LENT];
-    long_first(to, b"more", &mut more)
+    long_first(to, "more", &mut more)
 }
 
 fn main(rt: HostRuntime) -> io::Result<()> {

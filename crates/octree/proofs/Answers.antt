@@ -7,63 +7,37 @@ use Prim.Native.Nat.{ℕ, zero, suc, ◌+◌, ◌*◌, ◌^◌, ◌/◌, ◌≤�
 use native.Mathlib.Nat.{two-pow-succ}
 use native.Mathlib.Omega.{arith}
 use lib.ListN.{length}
+use Rattle.std.specs.Prelude.{Option, Some, None}
 use lib.Seq.{sets}
 use lib.Pow.{pow_mono, pow_pos}
 use borrow.Author.Rules.{rules}
-use borrow.Author.Tests.{eq-eqb, ne_eqb}
-use Rattle.lemmas.proofs.Stores.{sets_first}
 use Rattle.universe.specs.declared.Universe.{Universe}
-use Rattle.universe.specs.Refusals.{first_refusal}
-use Rattle.universe.specs.Universe.{universe_refusal, most_bits, levels}
-use Rattle.universe.proofs.Refusing.{last_check}
-use Rattle.bintree.specs.declared.Written.{Written}
+use Rattle.universe.specs.Universe.{most_bits, levels}
 use Rattle.bintree.specs.Shape.{Shape, leaf, halved, symbols, size, depth}
 use Rattle.bintree.specs.Reading.{read, read_at, expression_refusal}
 use Rattle.bintree.specs.Merging.{merged}
 use Rattle.bintree.specs.Walks.{leaf_symbol, noted}
-use Rattle.bintree.specs.Answers.{of_shape, well_formed_refusal, refused_writing, short_writing, done_writing, written_answer, written_buffer}
+use Rattle.bintree.specs.Answers.{of_shape, well_formed_refusal}
 use Rattle.bintree.proofs.Shape.{length_symbols, depth_low, depth_high, halved_deep}
 use Rattle.bintree.proofs.Reading as reading
+use Rattle.bintree.proofs.Ends.{expression_told}
 use Rattle.bintree.proofs.Merging.{merged_size, merged_depth}
 use Rattle.bintree.proofs.Lays.{laid_noted, noted_none}
-use Rattle.bintree.proofs.Answers.{written_refused, written_short, written_all, kept_refused, kept_short, left_all}
 use Rattle.octree.specs.declared.Piece.{Piece}
 use Rattle.octree.specs.Octree.{Octree, solid, parted, AtMost, octree_symbols, octree_size}
 use Rattle.octree.specs.Octree.{Found, nothing, found, of_found, octree_at, octree_on, reduce}
 use Rattle.octree.specs.Parting.{low_part, high_part, cube_of, octree_of, shape_of}
 use Rattle.octree.specs.Answers.{cube_refusal, octree_refusal, export_symbols, import_symbols}
-use Rattle.octree.specs.Answers.{export_answer, export_buffer, import_answer, import_buffer, Exportable, Importable}
+use Rattle.octree.specs.Answers.{Exportable, Importable}
 use Rattle.octree.specs.Runs.{as_found, run_at, past_run, Importing, import_piece, import_room}
 use Rattle.octree.specs.Runs.{son_symbols, held_symbol, laid_sons, levels_in, Exporting, export_piece, export_room}
-use Rattle.octree.proofs.Octrees.{stands, stands_most, stands_past, octree_some, on_nothing, on_found, on_rest, on_at}
+use Rattle.octree.proofs.Octrees.{stands, stands_most, stands_past, on_nothing, on_found, on_rest, on_at}
 use Rattle.octree.proofs.Partings.{quarter_0, quarter_1, quarter_2, quarter_3, low_two, high_two, shape_deep, reduce_octree}
 use Rattle.octree.proofs.Colours.{Cubic, cubic, cube_levels}
 use Rattle.octree.proofs.Imports as imports
 use Rattle.octree.proofs.Exports as exports
 
--- ---- `cube_refusal`
-
-module _ (u : Universe) (number : ℕ) (e : number ≡ universe_refusal u) where
-  pub cube_refused : (number ≡ 0 → ⊥) → number ≡ cube_refusal u
-  unfolding cube_refusal
-  cube_refused n = rw (← e, ne_eqb number 0 n)
-
-  module _ (z : number ≡ 0) where
-    pub cube_axes_lem : (u.axes ≡ 3 → ⊥) → 2 ≡ cube_refusal u
-    unfolding cube_refusal
-    cube_axes_lem n = rw (← e, eq-eqb number 0 z, ne_eqb u.axes 3 n)
-
-    pub cube_bits : u.axes ≡ 3 → (u.frame_bits ≡ u.bits → ⊥) → 2 ≡ cube_refusal u
-    unfolding cube_refusal
-    cube_bits f n = rw (← e, eq-eqb number 0 z, eq-eqb u.axes 3 f, ne_eqb u.frame_bits u.bits n)
-
-    pub cube_fine : u.axes ≡ 3 → u.frame_bits ≡ u.bits → 0 ≡ cube_refusal u
-    unfolding cube_refusal
-    cube_fine f g = rw (← e, eq-eqb number 0 z, eq-eqb u.axes 3 f, eq-eqb u.frame_bits u.bits g)
-
-pub ruleset cube_laws = (rules, cube_refused, cube_axes_lem, cube_bits, cube_fine)
-
--- ---- `octree_refusal`
+-- ---- `check_octree`
 
 pub refused_as : (n : ℕ) (s : List ℕ) → octree_on n s ≡ nothing → 7 ≡ octree_refusal n s
 unfolding octree_refusal
@@ -73,14 +47,14 @@ pub fine_as : (n : ℕ) (s : List ℕ) (o : Octree) (q : ℕ) → octree_on n s 
 unfolding octree_refusal
 fine_as n s o q e = rw e
 
-module _ (n : ℕ) (s : List ℕ) {end : ℕ} (e : end ≡ past_run (run_at s n 0 0)) where
-  end_none : octree_at s n 0 ≡ nothing → end ≡ 0
+module _ (n : ℕ) (s : List ℕ) where
+  end_none : octree_at s n 0 ≡ nothing → past_run (run_at s n 0 0) ≡ None
   unfolding past_run run_at as_found
-  end_none f = e ∙ rw f
+  end_none f = rw f
 
-  end_found : (o : Octree) (q : ℕ) → octree_at s n 0 ≡ found o q → end ≡ q
+  end_found : (o : Octree) (q : ℕ) → octree_at s n 0 ≡ found o q → past_run (run_at s n 0 0) ≡ Some q
   unfolding past_run run_at as_found
-  end_found o q f = e ∙ rw f
+  end_found o q f = rw f
 
   by : {A : Type 0} → (octree_at s n 0 ≡ nothing → A) → ((o : Octree) (q : ℕ) → octree_at s n 0 ≡ found o q → A) → A
   by {A} f g = go (octree_at s n 0) refl
@@ -89,18 +63,18 @@ module _ (n : ℕ) (s : List ℕ) {end : ℕ} (e : end ≡ past_run (run_at s n 
       go nothing h = f h
       go (found o q) h = g o q h
 
-  pub octree_none : end ≡ 0 → 7 ≡ octree_refusal n s
-  octree_none z =
+  pub octree_other : (past_run (run_at s n 0 0) ≡ Some (length s) → ⊥) → 7 ≡ octree_refusal n s
+  octree_other k =
       by (λ f. refused_as n s (on_nothing n s f))
-      (λ o q f. absurd (omega (arith, stands_past (stands s n 0 o q f), octree_some o, end_found o q f, z)))
+      (λ o q f. refused_as n s (on_rest n s o q f (λ z. k (end_found o q f ∙ ap Some z))))
 
-  pub octree_rest : (end ≡ length s → ⊥) → (end ≡ 0 → ⊥) → 7 ≡ octree_refusal n s
-  octree_rest k h = by (λ f. absurd (h (end_none f))) (λ o q f. refused_as n s (on_rest n s o q f (λ z. k (end_found o q f ∙ z))))
-
-  pub octree_fine : end ≡ length s → (end ≡ 0 → ⊥) → 0 ≡ octree_refusal n s
-  octree_fine k h = by (λ f. absurd (h (end_none f))) (λ o q f. fine_as n s o q (on_found n s o q f (sym (end_found o q f) ∙ k)))
-
-pub ruleset octree_laws = (rules, octree_none, octree_rest, octree_fine)
+  pub octree_fine : past_run (run_at s n 0 0) ≡ Some (length s) → 0 ≡ octree_refusal n s
+  octree_fine k =
+      by (λ f. let z : ◌≡◌ {A = Option ℕ} None (Some (length s)) = sym (end_none f) ∙ k in cc)
+      (λ o q f.
+      let z : ◌≡◌ {A = Option ℕ} (Some q) (Some (length s)) = sym (end_found o q f) ∙ k in
+      let w : q ≡ length s = cc in
+      fine_as n s o q (on_found n s o q f w))
 
 -- ---- lengths
 
@@ -320,189 +294,18 @@ module _ {u : Universe} {s : List ℕ} (r : Importable u s) where
 
 pub ruleset write_laws = (rules, export_asks, export_length, export_written, import_asks, import_length, import_written)
 
--- ---- `export_fitting` and `import_fitting`: symbols written where they fit
+-- ---- what is accepted can be exported, or imported
 
-module _ (S out : List ℕ) where
-  fits_done : {n : ℕ} {answer : Written} → length S ≤ length out → n ≡ length S → answer ≡ done_writing n → answer ≡ written_answer 0 out S
-  fits_done h e f = f ∙ ap done_writing e ∙ written_all 0 out S refl h
+module _ (u : Universe) (s : List ℕ) (e : 0 ≡ cube_refusal u) where
+  pub formed : {m : ℕ} → m ≡ well_formed_refusal u s → m ≡ expression_refusal u s
+  formed = expression_told u s (cubic u (sym e)).fine
 
-  fits_left : {now : List ℕ} → length S ≤ length out → now ≡ sets out 0 S → now ≡ written_buffer 0 out S
-  fits_left h f = f ∙ sets_first S out h ∙ left_all 0 out S refl h
+  pub exportable : 0 ≡ expression_refusal u s → Exportable u s
+  exportable f = let a = reading.accepted_shape u s (sym f) in record { cube = sym e; shape = a.0; reads = a.1 }
 
-  -- by the length that was measured
-  module _ {n : ℕ} (e : n ≡ length S) where
-    pub short_answer : {answer : Written} → length out < n → answer ≡ short_writing n → answer ≡ written_answer 0 out S
-    short_answer h f = f ∙ ap short_writing e ∙ written_short 0 out S refl (omega arith)
-
-    pub short_kept : length out < n → out ≡ written_buffer 0 out S
-    short_kept h = kept_short 0 out S refl (omega arith)
-
-    pub measured_done : {answer : Written} → n ≤ length out → answer ≡ done_writing n → answer ≡ written_answer 0 out S
-    measured_done h = fits_done (omega arith) e
-
-    pub measured_left : {now : List ℕ} → n ≤ length out → now ≡ sets out 0 S → now ≡ written_buffer 0 out S
-    measured_left h = fits_left (omega arith)
-
--- where so much room is lent as suffices
-module _ {u : Universe} {s : List ℕ} (out : List ℕ) where
-  module _ (r : Exportable u s) (h : length s ≤ length out / 4) where
-    pub exported_done : {n : ℕ} {answer : Written} → n ≡ length (export_symbols u s) → answer ≡ done_writing n →
-        answer ≡ written_answer 0 out (export_symbols u s)
-    exported_done = fits_done (export_symbols u s) out (export_room_lem r out h)
-
-    pub exported_left : {now : List ℕ} → now ≡ sets out 0 (export_symbols u s) → now ≡ written_buffer 0 out (export_symbols u s)
-    exported_left = fits_left (export_symbols u s) out (export_room_lem r out h)
-
-  module _ (r : Importable u s) (h : length s ≤ length out / 2) where
-    pub imported_done : {n : ℕ} {answer : Written} → n ≡ length (import_symbols u s) → answer ≡ done_writing n →
-        answer ≡ written_answer 0 out (import_symbols u s)
-    imported_done = fits_done (import_symbols u s) out (import_room_lem r out h)
-
-    pub imported_left : {now : List ℕ} → now ≡ sets out 0 (import_symbols u s) → now ≡ written_buffer 0 out (import_symbols u s)
-    imported_left = fits_left (import_symbols u s) out (import_room_lem r out h)
-
-pub ruleset fitting_laws = (
-  rules,
-  short_answer,
-  short_kept,
-  measured_done,
-  measured_left,
-  exported_done,
-  exported_left,
-  imported_done,
-  imported_left,
-)
-
--- ---- `export_octree` and `import_octree`: 2, then 7, then what was written
-
-module _ (S out : List ℕ) (a b : ℕ) {two : ℕ} (e : two ≡ a) where
-  first_number : (two ≡ 0 → ⊥) → first_refusal (a ∷ b ∷ []) ≡ two
-  first_number n = rw (← e, ne_eqb two 0 n)
-
-  second_number : {seven : ℕ} → seven ≡ b → two ≡ 0 → first_refusal (a ∷ b ∷ []) ≡ seven
-  second_number {seven} f z = rw (← e, eq-eqb two 0 z, ← f) (last_check seven)
-
-  refused_two : {answer : Written} → (two ≡ 0 → ⊥) → answer ≡ refused_writing two →
-      (answer ≡ written_answer (first_refusal (a ∷ b ∷ [])) out S) × (out ≡ written_buffer (first_refusal (a ∷ b ∷ [])) out S)
-  refused_two n f =
-      let w = first_number n in (
-        f ∙ ap refused_writing (sym w) ∙ written_refused (first_refusal (a ∷ b ∷ [])) out S (λ z. n (sym w ∙ z)),
-        kept_refused (first_refusal (a ∷ b ∷ [])) out S (λ z. n (sym w ∙ z)),
-      )
-
-  module _ (z : two ≡ 0) {seven : ℕ} (f : seven ≡ b) where
-    refused_seven : {answer : Written} → (seven ≡ 0 → ⊥) → answer ≡ refused_writing seven →
-        (answer ≡ written_answer (first_refusal (a ∷ b ∷ [])) out S) × (out ≡ written_buffer (first_refusal (a ∷ b ∷ [])) out S)
-    refused_seven n g =
-        let w = second_number f z in (
-          g ∙ ap refused_writing (sym w) ∙ written_refused (first_refusal (a ∷ b ∷ [])) out S (λ y. n (sym w ∙ y)),
-          kept_refused (first_refusal (a ∷ b ∷ [])) out S (λ y. n (sym w ∙ y)),
-        )
-
-    fine_answer : {answer : Written} {now : List ℕ} → seven ≡ 0 → answer ≡ written_answer 0 out S → now ≡ written_buffer 0 out S →
-        (answer ≡ written_answer (first_refusal (a ∷ b ∷ [])) out S) × (now ≡ written_buffer (first_refusal (a ∷ b ∷ [])) out S)
-    fine_answer y g h =
-        let w = second_number f z ∙ y in
-        (g ∙ ap (λ m. written_answer m out S) (sym w), h ∙ ap (λ m. written_buffer m out S) (sym w))
-
-module _ (u : Universe) (s out : List ℕ) {two : ℕ} (e : two ≡ cube_refusal u) where
-  export_two : {answer : Written} → (two ≡ 0 → ⊥) → answer ≡ refused_writing two → (answer ≡ export_answer u s out) × (out ≡ export_buffer u s out)
-  unfolding export_answer export_buffer
-  export_two = refused_two (export_symbols u s) out (cube_refusal u) (expression_refusal u s) e
-
-  pub export_two_tells : {answer : Written} → (two ≡ 0 → ⊥) → answer ≡ refused_writing two → answer ≡ export_answer u s out
-  export_two_tells n f = (export_two n f).0
-
-  pub export_two_leaves : (two ≡ 0 → ⊥) → out ≡ export_buffer u s out
-  export_two_leaves n = (export_two {answer = refused_writing two} n refl).1
-
-  import_two : {answer : Written} → (two ≡ 0 → ⊥) → answer ≡ refused_writing two → (answer ≡ import_answer u s out) × (out ≡ import_buffer u s out)
-  unfolding import_answer import_buffer
-  import_two = refused_two (import_symbols u s) out (cube_refusal u) (octree_refusal u.bits s) e
-
-  pub import_two_tells : {answer : Written} → (two ≡ 0 → ⊥) → answer ≡ refused_writing two → answer ≡ import_answer u s out
-  import_two_tells n f = (import_two n f).0
-
-  pub import_two_leaves : (two ≡ 0 → ⊥) → out ≡ import_buffer u s out
-  import_two_leaves n = (import_two {answer = refused_writing two} n refl).1
-
-  module _ (z : two ≡ 0) where
-    fine : universe_refusal u ≡ 0
-    fine = (cubic u (sym e ∙ z)).fine
-
-    module _ {seven : ℕ} (f : seven ≡ well_formed_refusal u s) where
-      seven_is : seven ≡ expression_refusal u s
-      seven_is = f ∙ rw (eq-eqb (universe_refusal u) 0 fine) (last_check (expression_refusal u s))
-
-      export_seven : {answer : Written} → (seven ≡ 0 → ⊥) → answer ≡ refused_writing seven → (answer ≡ export_answer u s out) × (out ≡ export_buffer u s out)
-      unfolding export_answer export_buffer
-      export_seven = refused_seven (export_symbols u s) out (cube_refusal u) (expression_refusal u s) e z seven_is
-
-      pub export_seven_tells : {answer : Written} → (seven ≡ 0 → ⊥) → answer ≡ refused_writing seven → answer ≡ export_answer u s out
-      export_seven_tells n g = (export_seven n g).0
-
-      pub export_seven_leaves : (seven ≡ 0 → ⊥) → out ≡ export_buffer u s out
-      export_seven_leaves n = (export_seven {answer = refused_writing seven} n refl).1
-
-      pub exportable : seven ≡ 0 → Exportable u s
-      exportable y =
-          let a = reading.accepted_shape u s (sym seven_is ∙ y) in
-          record { cube = sym e ∙ z; shape = a.0; reads = a.1 }
-
-      export_done : {answer : Written} {now : List ℕ} → seven ≡ 0 → answer ≡ written_answer 0 out (export_symbols u s) →
-          now ≡ written_buffer 0 out (export_symbols u s) → (answer ≡ export_answer u s out) × (now ≡ export_buffer u s out)
-      unfolding export_answer export_buffer
-      export_done = fine_answer (export_symbols u s) out (cube_refusal u) (expression_refusal u s) e z seven_is
-
-      pub export_tells : {answer : Written} → seven ≡ 0 → answer ≡ written_answer 0 out (export_symbols u s) → answer ≡ export_answer u s out
-      export_tells y g = (export_done {now = written_buffer 0 out (export_symbols u s)} y g refl).0
-
-      pub export_leaves : {now : List ℕ} → seven ≡ 0 → now ≡ written_buffer 0 out (export_symbols u s) → now ≡ export_buffer u s out
-      export_leaves y g = (export_done {answer = written_answer 0 out (export_symbols u s)} y refl g).1
-
-    module _ {seven : ℕ} (f : seven ≡ octree_refusal u.bits s) where
-      import_seven : {answer : Written} → (seven ≡ 0 → ⊥) → answer ≡ refused_writing seven → (answer ≡ import_answer u s out) × (out ≡ import_buffer u s out)
-      unfolding import_answer import_buffer
-      import_seven = refused_seven (import_symbols u s) out (cube_refusal u) (octree_refusal u.bits s) e z f
-
-      pub import_seven_tells : {answer : Written} → (seven ≡ 0 → ⊥) → answer ≡ refused_writing seven → answer ≡ import_answer u s out
-      import_seven_tells n g = (import_seven n g).0
-
-      pub import_seven_leaves : (seven ≡ 0 → ⊥) → out ≡ import_buffer u s out
-      import_seven_leaves n = (import_seven {answer = refused_writing seven} n refl).1
-
-      pub importable : seven ≡ 0 → Importable u s
-      importable y = go (octree_on u.bits s) refl
-        where
-          go : (x : Found Octree) → octree_on u.bits s ≡ x → Importable u s
-          go nothing g = absurd (omega (arith, refused_as u.bits s g, f, y))
-          go (found o q) g = record { cube = sym e ∙ z; octree = o; past = q; reads = g }
-
-      import_done : {answer : Written} {now : List ℕ} → seven ≡ 0 → answer ≡ written_answer 0 out (import_symbols u s) →
-          now ≡ written_buffer 0 out (import_symbols u s) → (answer ≡ import_answer u s out) × (now ≡ import_buffer u s out)
-      unfolding import_answer import_buffer
-      import_done = fine_answer (import_symbols u s) out (cube_refusal u) (octree_refusal u.bits s) e z f
-
-      pub import_tells : {answer : Written} → seven ≡ 0 → answer ≡ written_answer 0 out (import_symbols u s) → answer ≡ import_answer u s out
-      import_tells y g = (import_done {now = written_buffer 0 out (import_symbols u s)} y g refl).0
-
-      pub import_leaves : {now : List ℕ} → seven ≡ 0 → now ≡ written_buffer 0 out (import_symbols u s) → now ≡ import_buffer u s out
-      import_leaves y g = (import_done {answer = written_answer 0 out (import_symbols u s)} y refl g).1
-
-pub ruleset call_laws = (
-  rules,
-  export_two_tells,
-  export_two_leaves,
-  export_seven_tells,
-  export_seven_leaves,
-  exportable,
-  export_tells,
-  export_leaves,
-  import_two_tells,
-  import_two_leaves,
-  import_seven_tells,
-  import_seven_leaves,
-  importable,
-  import_tells,
-  import_leaves,
-)
+  pub importable : 0 ≡ octree_refusal u.bits s → Importable u s
+  importable f = go (octree_on u.bits s) refl
+    where
+      go : (x : Found Octree) → octree_on u.bits s ≡ x → Importable u s
+      go nothing g = absurd (omega (arith, refused_as u.bits s g))
+      go (found o q) g = record { cube = sym e; octree = o; past = q; reads = g }

@@ -4,15 +4,14 @@
 use mathlib.Core.Path.{◌≡◌, refl, sym, ap, ap₂, ◌∙◌}
 use mathlib.Core.Bool.{Bool, true, false}
 use mathlib.Core.List.{List, [], ◌∷◌, ◌++◌}
-use Prim.Native.Nat.{ℕ, zero, suc, ◌+◌, ◌-◌, ◌*◌, ◌^◌, ◌%◌, ◌≤◌, ◌<◌}
+use Prim.Native.Nat.{ℕ, zero, suc, ◌+◌, ◌-◌, ◌*◌, ◌^◌, ◌≤◌, ◌<◌}
 use native.Mathlib.Nat.{two-pow-succ, le_refl}
 use native.Mathlib.Omega.{arith}
 use native.Mathlib.Decide.{ℕ_discrete}
 use borrow.Author.Rules.{rules}
 use borrow.Author.Tests.{eq-eqb, ne_eqb}
 use lib.ListN.{length, get_or, set, replicate, length-replicate, length-append}
-use lib.Seq.{sets, length-sets}
-use Rattle.lemmas.proofs.Machine.{shifted_one}
+use lib.Seq.{sets}
 use Rattle.lemmas.proofs.Stores.{set_sets, sets_append}
 use Rattle.bintree.specs.declared.Colour.{Colour}
 use Rattle.bintree.specs.declared.Colour.TheVariants.{White, Black}
@@ -42,15 +41,8 @@ solid_is : (c : Colour) (x : ℕ) → x ≡ symbol_of c → solid_of x ≡ solid
 solid_is Black x e = sym (solid_black x e)
 solid_is White x e = sym (solid_white x (λ z. omega arith))
 
-pub ruleset solid_laws = (rules, solid_black, solid_white)
-
 pub few_shift : (m : ℕ) → m ≤ 3 → m < 64
 few_shift m h = omega arith
-
-pub sons_shifted : (m : ℕ) → m ≤ 3 → (1 * 2 ^ m) % 2 ^ 64 ≡ 2 ^ m
-sons_shifted m h = shifted_one m (few_shift m h)
-
-pub ruleset count_laws = (rules, few_shift, sons_shifted)
 
 -- ---- `fill`
 
@@ -66,53 +58,27 @@ filled_none : (o : List ℕ) (at i x : ℕ) → x ≡ 0 → filled o at i x ≡ 
 unfolding filled
 filled_none o at i x e = rw (eq-eqb x 0 e)
 
--- so many are filled in
-pub record Filling (before : List ℕ) (at count x i : ℕ) (now : List ℕ) : Type 0 where
-  pub few : i ≤ count
-  pub same : now ≡ filled before at i x
-
-module _ (before : List ℕ) (at count x : ℕ) where
-  pub filling_start : Filling before at count x 0 before
-  filling_start = record { few = omega arith; same = go (ℕ_discrete x 0) }
+-- one more is filled in
+module _ (before : List ℕ) (at x : ℕ) where
+  pub filling_start : before ≡ filled before at 0 x
+  filling_start = go (ℕ_discrete x 0)
     where
       go : Dec (x ≡ 0) → before ≡ filled before at 0 x
       go (yes e) = sym (filled_none before at 0 x e)
       go (no n) = sym (filled_some before at 0 x n)
 
-  module _ (i : ℕ) (now : List ℕ) (g : Filling before at count x i now) where
-    pub filling_next : (after : List ℕ) → i < count → after ≡ noted now (at + i) x → Filling before at count x (i + 1) after
-    filling_next after h e = record { few = omega arith; same = go (ℕ_discrete x 0) }
-      where
-        go : Dec (x ≡ 0) → after ≡ filled before at (i + 1) x
-        go (yes z) = e ∙ sym (noted_none now (at + i) x z) ∙ g.same ∙ filled_none before at i x z ∙ sym (filled_none before at (i + 1) x z)
-        go (no n) =
-            let w : suc i ≡ i + 1 = omega arith in
-            e ∙ sym (noted_some now (at + i) x n)
-            ∙ ap₂ (λ l k. set l (at + k) x) (g.same ∙ filled_some before at i x n) (sym (length-replicate i x))
-            ∙ sets_append (replicate i x) (x ∷ []) before at
-            ∙ ap (sets before at) (replicate_next i x ∙ ap (λ k. replicate k x) w)
-            ∙ sym (filled_some before at (i + 1) x n)
-
-    pub filling_kept : length now ≡ length before
-    filling_kept = ap length g.same ∙ go (ℕ_discrete x 0)
-      where
-        go : Dec (x ≡ 0) → length (filled before at i x) ≡ length before
-        go (yes z) = ap length (filled_none before at i x z)
-        go (no n) = ap length (filled_some before at i x n) ∙ length-sets before at (replicate i x)
-
-    pub filling_end : count ≤ i → now ≡ filled before at count x
-    filling_end h = let w : i ≡ count = omega (arith, g.few) in g.same ∙ ap (λ k. filled before at k x) w
-
-pub filling_fits : (at count i : ℕ) → at + count ≤ most_place → i < count → at + i < 2 ^ 64
-filling_fits at count i h k = omega arith
-
-pub filling_counts : (at count i : ℕ) → at + count ≤ most_place → i < count → i + 1 < 2 ^ 64
-filling_counts at count i h k = omega arith
-
-pub filling_less : (count i : ℕ) → i < count → count - (i + 1) < count - i
-filling_less count i h = omega arith
-
-pub ruleset fill_laws = (rules, filling_start, filling_next, filling_kept, filling_end, filling_fits, filling_counts, filling_less)
+  pub filling_next : (i : ℕ) (now : List ℕ) → now ≡ filled before at i x → noted now (at + i) x ≡ filled before at (i + 1) x
+  filling_next i now g = go (ℕ_discrete x 0)
+    where
+      go : Dec (x ≡ 0) → noted now (at + i) x ≡ filled before at (i + 1) x
+      go (yes z) = sym (noted_none now (at + i) x z) ∙ g ∙ filled_none before at i x z ∙ sym (filled_none before at (i + 1) x z)
+      go (no n) =
+          let w : suc i ≡ i + 1 = omega arith in
+          sym (noted_some now (at + i) x n)
+          ∙ ap₂ (λ l k. set l (at + k) x) (g ∙ filled_some before at i x n) (sym (length-replicate i x))
+          ∙ sets_append (replicate i x) (x ∷ []) before at
+          ∙ ap (sets before at) (replicate_next i x ∙ ap (λ k. replicate k x) w)
+          ∙ sym (filled_some before at (i + 1) x n)
 
 -- ---- the symbols of sons
 

@@ -3,6 +3,7 @@
 use mathlib.Core.Path.{◌≡◌, refl, sym, ap, fun_ext, ◌∙◌}
 use mathlib.Core.Bool.{Bool, true, false}
 use mathlib.Core.List.{List}
+use Rattle.std.specs.Prelude.{Option, Some, None}
 use Prim.Native.Nat.{ℕ, zero, suc, ◌+◌, ◌-◌, ◌*◌, ◌^◌, ◌≤◌, ◌<◌}
 use native.Mathlib.Omega.{arith}
 use borrow.Author.Rules.{rules}
@@ -167,58 +168,55 @@ leaf_is : (c : Colour) (x : ℕ) → x ≡ solid_symbol c → leaf_of x ≡ symb
 leaf_is Black x e = sym (leaf_black x e)
 leaf_is White x e = sym (leaf_white x (λ z. omega arith))
 
-pub ruleset leaf_laws = (rules, leaf_black, leaf_white)
-
 -- ---- `run_end`
 
-past_none : {y : Found Shape} → y ≡ nothing → 0 ≡ past_run y
+past_none : {y : Found Shape} → y ≡ nothing → past_run y ≡ None
 unfolding past_run
 past_none e = rw e
 
-past_found : {y : Found Shape} (t : Shape) (q : ℕ) → y ≡ found t q → q ≡ past_run y
+past_found : {y : Found Shape} (t : Shape) (q : ℕ) → y ≡ found t q → past_run y ≡ Some q
 unfolding past_run
 past_found t q e = rw e
 
 module _ (s : List ℕ) (n m p : ℕ) where
-  module _ (h : m ≡ 0 → ⊥) {middle : ℕ} (e : middle ≡ past_run (run_at s n (m - 1) p)) where
+  module _ (h : m ≡ 0 → ⊥) where
     suc_inside : m ≡ suc (m - 1)
     suc_inside = omega arith
 
-    first_nothing : (y : Found Shape) → run_at s n (m - 1) p ≡ y → middle ≡ 0 → run_at s n m p ≡ nothing
-    unfolding past_run
-    first_nothing nothing f z = ap (λ k. run_at s n k p) suc_inside ∙ run_first s n (m - 1) p f
-    first_nothing (found t q) f z = absurd (omega (arith, (run_there s n (m - 1) p t q f).0, sym z ∙ e ∙ sym (past_found t q f)))
-
-    pub end_first : middle ≡ 0 → 0 ≡ past_run (run_at s n m p)
-    end_first z = past_none (first_nothing (run_at s n (m - 1) p) refl z)
-
-    pub end_second : {r : ℕ} → (middle ≡ 0 → ⊥) → r ≡ past_run (run_at s n (m - 1) middle) → r ≡ past_run (run_at s n m p)
-    end_second {r} k f = first (run_at s n (m - 1) p) refl
+    pub end_first : None ≡ past_run (run_at s n (m - 1) p) → past_run (run_at s n m p) ≡ None
+    end_first e = go (run_at s n (m - 1) p) refl
       where
-        second : (a : Shape) (q : ℕ) → run_at s n (m - 1) p ≡ found a q → (y : Found Shape) → run_at s n (m - 1) q ≡ y → r ≡ past_run y →
-            r ≡ past_run (run_at s n m p)
-        second a q g nothing i j =
-            j ∙ sym (past_none refl) ∙ past_none (ap (λ l. run_at s n l p) suc_inside ∙ run_second s n (m - 1) p q a g i)
-        second a q g (found b o) i j =
-            j ∙ sym (past_found b o refl)
-            ∙ past_found (halved a b) o (ap (λ l. run_at s n l p) suc_inside ∙ run_both s n (m - 1) p q o a b g i)
+        go : (y : Found Shape) → run_at s n (m - 1) p ≡ y → past_run (run_at s n m p) ≡ None
+        go nothing f = past_none (ap (λ k. run_at s n k p) suc_inside ∙ run_first s n (m - 1) p f)
+        go (found t q) f = let z : ◌≡◌ {A = Option ℕ} None (Some q) = e ∙ past_found t q f in cc
 
-        first : (y : Found Shape) → run_at s n (m - 1) p ≡ y → r ≡ past_run (run_at s n m p)
-        first nothing g = absurd (k (e ∙ sym (past_none g)))
+    pub end_second : (middle : ℕ) → Some middle ≡ past_run (run_at s n (m - 1) p) →
+        past_run (run_at s n m p) ≡ past_run (run_at s n (m - 1) middle)
+    end_second middle e = first (run_at s n (m - 1) p) refl
+      where
+        second : (a : Shape) → run_at s n (m - 1) p ≡ found a middle → (y : Found Shape) → run_at s n (m - 1) middle ≡ y →
+            past_run (run_at s n m p) ≡ past_run y
+        second a g nothing i = past_none (ap (λ l. run_at s n l p) suc_inside ∙ run_second s n (m - 1) p middle a g i) ∙ sym (past_none refl)
+        second a g (found b o) i =
+            past_found (halved a b) o (ap (λ l. run_at s n l p) suc_inside ∙ run_both s n (m - 1) p middle o a b g i) ∙ sym (past_found b o refl)
+
+        first : (y : Found Shape) → run_at s n (m - 1) p ≡ y → past_run (run_at s n m p) ≡ past_run (run_at s n (m - 1) middle)
+        first nothing g = let z : ◌≡◌ {A = Option ℕ} (Some middle) None = e ∙ past_none g in cc
         first (found a q) g =
-            let w : middle ≡ q = e ∙ sym (past_found a q g) in
-            second a q g (run_at s n (m - 1) q) refl (f ∙ ap (λ i. past_run (run_at s n (m - 1) i)) w)
+            let z : ◌≡◌ {A = Option ℕ} (Some middle) (Some q) = e ∙ past_found a q g in
+            let w : q ≡ middle = cc in
+            second a (g ∙ ap (found a) w) (run_at s n (m - 1) middle) refl
 
   module _ (z : m ≡ 0) where
     outer : run_at s n m p ≡ run_at s n 0 p
     outer = ap (λ l. run_at s n l p) z
 
-    pub end_past : length s ≤ p → 0 ≡ past_run (run_at s n m p)
+    pub end_past : length s ≤ p → past_run (run_at s n m p) ≡ None
     end_past h =
         let e = get_or-eq_default s 0 h in
         past_none (outer ∙ run_other s n p (λ q. omega arith) (λ q. omega arith) (λ q. omega arith))
 
-    pub end_deep : get_or s p 0 ≡ part_symbol → n ≡ 0 → 0 ≡ past_run (run_at s n m p)
+    pub end_deep : get_or s p 0 ≡ part_symbol → n ≡ 0 → past_run (run_at s n m p) ≡ None
     end_deep e h = past_none (outer ∙ ap (λ l. run_at s l 0 p) h ∙ run_deep s p e)
 
     parted_run : get_or s p 0 ≡ part_symbol → 1 ≤ n → run_at s n m p ≡ run_at s (n - 1) 3 (p + 1)
@@ -227,28 +225,23 @@ module _ (s : List ℕ) (n m p : ℕ) where
         let v : suc p ≡ p + 1 = omega arith in
         outer ∙ ap (λ l. run_at s l 0 p) w ∙ run_parted s (n - 1) p e ∙ ap (run_at s (n - 1) 3) v
 
-    pub end_parted : {r : ℕ} → get_or s p 0 ≡ part_symbol → (n ≡ 0 → ⊥) → r ≡ past_run (run_at s (n - 1) 3 (p + 1)) → r ≡ past_run (run_at s n m p)
-    end_parted e h f = f ∙ ap past_run (sym (parted_run e (omega arith)))
+    pub end_parted : get_or s p 0 ≡ part_symbol → 1 ≤ n → past_run (run_at s n m p) ≡ past_run (run_at s (n - 1) 3 (p + 1))
+    end_parted e h = ap past_run (parted_run e h)
 
     solid_run : (c : Colour) → get_or s p 0 ≡ solid_symbol c → run_at s n m p ≡ found (leaf c) (p + 1)
     solid_run c e = let v : suc p ≡ p + 1 = omega arith in outer ∙ run_solid s n p c e ∙ ap (found (leaf c)) v
 
-    pub end_full : get_or s p 0 ≡ 70 → p + 1 ≡ past_run (run_at s n m p)
+    pub end_full : get_or s p 0 ≡ 70 → past_run (run_at s n m p) ≡ Some (p + 1)
     end_full e = past_found (leaf Black) (p + 1) (solid_run Black e)
 
-    pub end_empty : get_or s p 0 ≡ 69 → p + 1 ≡ past_run (run_at s n m p)
+    pub end_empty : get_or s p 0 ≡ 69 → past_run (run_at s n m p) ≡ Some (p + 1)
     end_empty e = past_found (leaf White) (p + 1) (solid_run White e)
 
-    pub end_other : (get_or s p 0 ≡ 80 → ⊥) → (get_or s p 0 ≡ 70 → ⊥) → (get_or s p 0 ≡ 69 → ⊥) → 0 ≡ past_run (run_at s n m p)
+    pub end_other : (get_or s p 0 ≡ 80 → ⊥) → (get_or s p 0 ≡ 70 → ⊥) → (get_or s p 0 ≡ 69 → ⊥) → past_run (run_at s n m p) ≡ None
     end_other h k l = past_none (outer ∙ run_other s n p h k l)
 
 pub end_falls : (n m t : ℕ) → 4 * n + m ≡ t → (m ≡ 0 → ⊥) → 4 * n + (m - 1) < t
 end_falls n m t e h = omega arith
-
-pub end_deeper : (n m t : ℕ) → 4 * n + m ≡ t → m ≡ 0 → (n ≡ 0 → ⊥) → 4 * (n - 1) + 3 < t
-end_deeper n m t e z h = omega arith
-
-pub ruleset end_laws = (rules, end_first, end_second, end_past, end_deep, end_parted, end_full, end_empty, end_other, end_falls, end_deeper)
 
 -- ---- `lay_run`
 

@@ -27,11 +27,6 @@ solid_is White (solid Black) e = let z : ◌≡◌ {A = ℕ} 0 1 = cc in absurd 
 solid_is White (solid White) e = refl
 solid_is c (parted _ _ _ _ _ _ _ _) e = let z : ◌≡◌ {A = ℕ} 0 1 = cc in absurd (omega arith)
 
-is_solid_lem : (c : Colour) → is_solid c (solid c) ≡ true
-unfolding is_solid
-is_solid_lem Black = refl
-is_solid_lem White = refl
-
 -- a cube of eight sons is one solid, or they are not all of one colour
 pub data Cube : Octree → Octree → Octree → Octree → Octree → Octree → Octree → Octree → Octree → Type 0 where
   alike : (k : Colour) → Cube (solid k) (solid k) (solid k) (solid k) (solid k) (solid k) (solid k) (solid k) (solid k)

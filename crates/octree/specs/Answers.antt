@@ -4,7 +4,7 @@ use Rattle.std.specs.Prelude.{ℕ, ◌≡◌, ◌&&◌, List, [], ◌∷◌, eqb
 use Rattle.universe.specs.declared.Universe.{Universe}
 use Rattle.universe.specs.Refusals.{bad_universe, bad_expression, unless, first_refusal}
 use Rattle.universe.specs.Universe.{universe_refusal}
-use Rattle.bintree.specs.declared.Written.{Written}
+use Rattle.bintree.specs.Told.{WrittenAnswer}
 use Rattle.bintree.specs.Shape.{Shape, symbols}
 use Rattle.bintree.specs.Reading.{read, expression, expression_refusal}
 use Rattle.bintree.specs.Merging.{merged}
@@ -47,13 +47,13 @@ export_symbols u s = of_shape (expression u s) [] (λ a. octree_symbols (reduce 
 abbrev pub import_symbols : Universe → List ℕ → List ℕ
 import_symbols u s = of_found (octree_on u.bits s) [] (λ o past. symbols (merged (shape_of o)))
 
-unfoldable pub export_answer : Universe → List ℕ → List ℕ → Written
+unfoldable pub export_answer : Universe → List ℕ → List ℕ → WrittenAnswer
 export_answer u s out = written_answer (export_refusal u s) out (export_symbols u s)
 
 unfoldable pub export_buffer : Universe → List ℕ → List ℕ → List ℕ
 export_buffer u s out = written_buffer (export_refusal u s) out (export_symbols u s)
 
-unfoldable pub import_answer : Universe → List ℕ → List ℕ → Written
+unfoldable pub import_answer : Universe → List ℕ → List ℕ → WrittenAnswer
 import_answer u s out = written_answer (import_refusal u s) out (import_symbols u s)
 
 unfoldable pub import_buffer : Universe → List ℕ → List ℕ → List ℕ

@@ -1,6 +1,6 @@
 -- How one recursion over the halves of cubes meets rules 13.6 and 13.7. Inside a cube m halvings lead to its sons: so a
 -- part stands for a run of 2^m sons, one straight after another, of n levels each.
-use Rattle.std.specs.Prelude.{ℕ, zero, suc, ◌+◌, ◌*◌, ◌^◌, ◌≤◌, ◌≡◌, cond, List, [], ◌∷◌, ◌++◌, eqb, length, replicate}
+use Rattle.std.specs.Prelude.{ℕ, zero, suc, ◌+◌, ◌*◌, ◌^◌, ◌≤◌, ◌≡◌, Option, Some, None, cond, List, [], ◌∷◌, ◌++◌, eqb, length, replicate}
 use Rattle.std.proofs.lemmas.List.Edits.{sets}
 use Rattle.universe.specs.Universe.{most_bits}
 use Rattle.bintree.specs.declared.Colour.TheVariants.{White, Black}
@@ -38,10 +38,10 @@ unfoldable pub run_at : List ℕ → ℕ → ℕ → ℕ → Found Shape
 run_at s n zero p = as_found shape_of (octree_at s n p)
 run_at s n (suc m) p = as_found as_halved (two_at (λ q. run_at s n m q) p)
 
--- the place past it; 0 where there is none
-unfoldable pub past_run : Found Shape → ℕ
-past_run nothing = 0
-past_run (found a past) = past
+-- the place past it
+unfoldable pub past_run : Found Shape → Option ℕ
+past_run nothing = None
+past_run (found a past) = Some past
 
 -- a run stands there, and as its shape is written from `to` on no place goes too far
 pub record Importing (s : List ℕ) (n m p to : ℕ) : Type 0 where

@@ -12,37 +12,23 @@ fn leaf_of(symbol: u8) -> u8
 }
 
 // The place past the run of octrees of at most `left` levels that begins at `at`: as many as the halves of a cube
-// halved `inside` times. 0 where there is none.
-pub(crate) fn run_end(octree: &[u8], at: usize, left: u64, inside: u64) -> usize
+// halved `inside` times.
+pub(crate) fn run_end(octree: &[u8], at: usize, left: u64, inside: u64) -> Option<usize>
     ensures { result ≡ past_run (run_at octree.now left inside at) }
 {
     if inside != 0 {
-        let middle = run_end(octree, at, left, inside - 1);
-        if middle == 0 {
-            return 0;
-        }
+        let middle = run_end(octree, at, left, inside - 1)?;
         return run_end(octree, middle, left, inside - 1);
     }
-    if octree.len() <= at {
-        return 0;
+    match octree.get(at)? {
+        b'P' => run_end(octree, at + 1, left.checked_sub(1)?, 3),
+        b'F' | b'E' => Some(at + 1),
+        _ => None,
     }
-    let symbol = octree[at];
-    if symbol == b'P' {
-        if left == 0 {
-            return 0;
-        }
-        return run_end(octree, at + 1, left - 1, 3);
-    }
-    if symbol == b'F' {
-        return at + 1;
-    }
-    if symbol == b'E' {
-        return at + 1;
-    }
-    0
 }
 
 // Lays the merged shape of such a run from `to` on, as far as there is room; a leaf is held back.
+#[tactic(auto, using(crate::proofs::Imports::run_laws))]
 pub(crate) fn lay_run(
     octree: &[u8],
     at: usize,

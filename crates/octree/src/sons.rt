@@ -25,16 +25,15 @@ fn fill(out: &mut [u8], at: usize, count: usize, symbol: u8)
     requires { at + count ≤ most_place }
     ensures { out.new ≡ filled out.old at count symbol }
 {
-    let mut i: usize = 0;
-    while i < count {
-        bintree::note(out, at + i, symbol);
-        i += 1;
+    for place in at..at + count {
+        bintree::note(out, place, symbol);
     }
 }
 
 // Lays the sons of `left` levels each that the part at `at` stands for, with `inside` halvings to them, from `to` on,
 // as far as there is room; sons that are all solids of one colour are held back. A cube is laid as the run of its sons,
 // behind the place of its `P`.
+#[tactic(auto, using(crate::proofs::Exports::sons_laws))]
 pub(crate) fn lay_sons(
     expression: &[u8],
     at: usize,

@@ -2,18 +2,17 @@
 // every byte of the lent room, so that what was not to be written shows as the `.` it was.
 #![tactic(auto)]
 
-use bintree::Written;
 use std::io;
 use std::io::Write;
-use universe::Universe;
+use universe::{Universe, Unwritten};
 
 const LENT: usize = 20;
 
 fn universe_of(axes: u64, bits: u64, frame_bits: u64) -> Universe {
     Universe {
-        axes: axes,
-        bits: bits,
-        frame_bits: frame_bits,
+        axes,
+        bits,
+        frame_bits,
     }
 }
 
@@ -25,12 +24,25 @@ fn number(to: &mut impl Write, n: u64) -> io::Result<()> {
     write!(to, "{n} ")
 }
 
-// What a call was lent and answered, and what it left.
-fn told(to: &mut impl Write, lent: &[u8], answer: Written, room: &[u8]) -> io::Result<()> {
+// What a call was lent and answered, and what it left: 0 and the length, or the refusal and what is needed.
+fn told(
+    to: &mut impl Write,
+    lent: &[u8],
+    answer: Result<u64, Unwritten>,
+    room: &[u8],
+) -> io::Result<()> {
     say(to, lent)?;
     say(to, b": ")?;
-    number(to, answer.refusal)?;
-    number(to, answer.length)?;
+    match answer {
+        Ok(length) => {
+            number(to, 0)?;
+            number(to, length)?;
+        }
+        Err(unwritten) => {
+            number(to, unwritten.number())?;
+            number(to, unwritten.needed())?;
+        }
+    }
     say(to, room)?;
     say(to, b"\n")
 }

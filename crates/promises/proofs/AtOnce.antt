@@ -16,8 +16,7 @@ use Rattle.demands.specs.Verdicts.{Judges}
 use Rattle.demands.proofs.Theorems.{verdict_of_trees}
 use Rattle.convert.specs.Blocks.{trees_of}
 use Rattle.convert.specs.Answers.{clearance_refusal, clearance_answer}
-use Rattle.at_once.specs.declared.answer.Judged.{Judged}
-use Rattle.at_once.specs.declared.answer.Spanned.{Spanned}
+use Rattle.at_once.specs.Told.{JudgedAnswer, SpannedAnswer}
 use Rattle.at_once.specs.Answers.{refused_judged, done_judged, verdict_at_once, span_of, refused_spanned, done_spanned, ends_at_once}
 use Rattle.promises.specs.Contacts.{shared_colour}
 use Rattle.promises.specs.AtOnce.{AtOnce}
@@ -28,10 +27,10 @@ module _ (u : Universe) (surfaces : Surfaces) (first second : List ℕ) (from to
   abbrev before : ℕ
   before = clearance_refusal u surfaces first second from to
 
-  abbrev judged : Judged
+  abbrev judged : JudgedAnswer
   judged = verdict_at_once u surfaces first second from to
 
-  abbrev spanned : Spanned
+  abbrev spanned : SpannedAnswer
   spanned = ends_at_once u surfaces first second from to
 
   abbrev shown : Verdict
@@ -58,15 +57,15 @@ module _ (u : Universe) (surfaces : Surfaces) (first second : List ℕ) (from to
   numbers = by (ℕ_discrete before 0)
     where
       by : Dec (before ≡ 0) → (judged.refusal ≡ before) × (spanned.refusal ≡ before)
-      by (yes z) = (ap (λ (x : Judged). x.refusal) (judged_done z) ∙ sym z, ap (λ (x : Spanned). x.refusal) (spanned_done z) ∙ sym z)
-      by (no n) = (ap (λ (x : Judged). x.refusal) (judged_refused n), ap (λ (x : Spanned). x.refusal) (spanned_refused n))
+      by (yes z) = (ap (λ (x : JudgedAnswer). x.refusal) (judged_done z) ∙ sym z, ap (λ (x : SpannedAnswer). x.refusal) (spanned_done z) ∙ sym z)
+      by (no n) = (ap (λ (x : JudgedAnswer). x.refusal) (judged_refused n), ap (λ (x : SpannedAnswer). x.refusal) (spanned_refused n))
 
   ends_are : spanned.span ≡ span_of judged.verdict
   ends_are = by (ℕ_discrete before 0)
     where
       by : Dec (before ≡ 0) → spanned.span ≡ span_of judged.verdict
-      by (yes z) = ap (λ (x : Spanned). x.span) (spanned_done z) ∙ sym (ap (λ (x : Judged). span_of x.verdict) (judged_done z))
-      by (no n) = ap (λ (x : Spanned). x.span) (spanned_refused n) ∙ sym (ap (λ (x : Judged). span_of x.verdict) (judged_refused n))
+      by (yes z) = ap (λ (x : SpannedAnswer). x.span) (spanned_done z) ∙ sym (ap (λ (x : JudgedAnswer). span_of x.verdict) (judged_done z))
+      by (no n) = ap (λ (x : SpannedAnswer). x.span) (spanned_refused n) ∙ sym (ap (λ (x : JudgedAnswer). span_of x.verdict) (judged_refused n))
 
   judges_window : before ≡ 0 → Judges u (shared_colour u surfaces first second) from to shown
   judges_window z =
@@ -83,10 +82,10 @@ module _ (u : Universe) (surfaces : Surfaces) (first second : List ℕ) (from to
       where
         by : Dec (before ≡ 0) → judged.verdict ≡ (clearance_answer u surfaces first second from to out).verdict
         by (yes z) =
-            ap (λ (x : Judged). x.verdict) (judged_done z)
+            ap (λ (x : JudgedAnswer). x.verdict) (judged_done z)
             ∙ sym (verdict_is_lem u surfaces first second out from to (its_number ∙ z))
         by (no k) =
-            ap (λ (x : Judged). x.verdict) (judged_refused k)
+            ap (λ (x : JudgedAnswer). x.verdict) (judged_refused k)
             ∙ sym (verdict_refused u surfaces first second out from to (λ z. k (sym its_number ∙ z)))
 
   -- THEOREM
@@ -95,7 +94,7 @@ module _ (u : Universe) (surfaces : Surfaces) (first second : List ℕ) (from to
     number = numbers.0;
     same_number = numbers.1 ∙ sym numbers.0;
     never_six = λ e. never u surfaces first second from to (sym numbers.0 ∙ e);
-    clear = λ n. ap (λ (x : Judged). x.verdict) (judged_refused (λ z. n (numbers.0 ∙ z)));
+    clear = λ n. ap (λ (x : JudgedAnswer). x.verdict) (judged_refused (λ z. n (numbers.0 ∙ z)));
     judges = λ z.
         let b = sym numbers.0 ∙ z in
         rw (judged_done b) (judges_window b);

@@ -22,7 +22,7 @@ use Rattle.contacts.proofs.Contacts as contacts
 use Rattle.contacts.proofs.Middle.{verdict_middle, no_contact_lem}
 use Rattle.convert.specs.Blocks.{trees_of}
 use Rattle.convert.specs.Answers.{two_trees_checks, clearance_checks, clearance_refusal}
-use Rattle.at_once.specs.declared.answer.Contacts.{Contacts}
+use Rattle.at_once.specs.Told.{ContactsAnswer}
 use Rattle.at_once.specs.Contacts.{refused_contacts, done_contacts, contacts_answer}
 use Rattle.promises.specs.Contacts.{shared_colour, Contacted}
 use Rattle.promises.proofs.Never.{NoneIs, no_more, and_then, unless_not, first_not, universe_not, rows_not, balls_not, tree_not}
@@ -49,7 +49,7 @@ module _ (u : Universe) (surfaces : Surfaces) (first second : List ℕ) (from to
           (and_then (words_not first) (and_then (words_not second) no_more))))
 
   -- ---- the answer, refused or done
-  abbrev answer : Contacts
+  abbrev answer : ContactsAnswer
   answer = contacts_answer u surfaces first second from to
 
   abbrev before : ℕ
@@ -58,7 +58,7 @@ module _ (u : Universe) (surfaces : Surfaces) (first second : List ℕ) (from to
   abbrev trees : Tree
   trees = trees_of surfaces first second
 
-  abbrev done : Contacts
+  abbrev done : ContactsAnswer
   done =
       done_contacts (window_voxels u (sure_colour surfaces u trees) from to) (window_voxels u (tree_colour surfaces u trees) from to)
       (window_voxels u (possible_colour surfaces u trees) from to)
@@ -75,8 +75,8 @@ module _ (u : Universe) (surfaces : Surfaces) (first second : List ℕ) (from to
   number_is = by (ℕ_discrete before 0)
     where
       by : Dec (before ≡ 0) → answer.refusal ≡ before
-      by (yes z) = ap (λ (x : Contacts). x.refusal) (is_done z) ∙ sym z
-      by (no n) = ap (λ (x : Contacts). x.refusal) (is_refused n)
+      by (yes z) = ap (λ (x : ContactsAnswer). x.refusal) (is_done z) ∙ sym z
+      by (no n) = ap (λ (x : ContactsAnswer). x.refusal) (is_refused n)
 
   counts : answer.refusal ≡ 0 → answer ≡ done
   counts z = is_done (sym number_is ∙ z)
@@ -97,10 +97,10 @@ module _ (u : Universe) (surfaces : Surfaces) (first second : List ℕ) (from to
     number = number_is;
     never_six = λ e. never (sym number_is ∙ e);
     zeros = λ n. let e = is_refused (λ z. n (number_is ∙ z)) in
-        (ap (λ (x : Contacts). x.sure) e, ap (λ (x : Contacts). x.centre) e, ap (λ (x : Contacts). x.possible) e);
-    sure = λ z. ap (λ (x : Contacts). x.sure) (counts z);
-    centre = λ z. ap (λ (x : Contacts). x.centre) (counts z) ∙ shared;
-    possible = λ z. ap (λ (x : Contacts). x.possible) (counts z);
+        (ap (λ (x : ContactsAnswer). x.sure) e, ap (λ (x : ContactsAnswer). x.centre) e, ap (λ (x : ContactsAnswer). x.possible) e);
+    sure = λ z. ap (λ (x : ContactsAnswer). x.sure) (counts z);
+    centre = λ z. ap (λ (x : ContactsAnswer). x.centre) (counts z) ∙ shared;
+    possible = λ z. ap (λ (x : ContactsAnswer). x.possible) (counts z);
     sure_centre = ordered.0;
     centre_possible = ordered.1;
     middle = λ out r.
@@ -110,7 +110,7 @@ module _ (u : Universe) (surfaces : Surfaces) (first second : List ℕ) (from to
     apart = λ z none q p at x y.
         let w = accepted (sym number_is ∙ z) in
         no_contact_lem u w.0 from to w.1 surfaces (tree_of (named surfaces) first) (tree_of (named surfaces) second)
-        (sym (ap (λ (c : Contacts). c.possible) (counts z)) ∙ none) q p (point_held u w.0 from to w.1 q p at) x y;
+        (sym (ap (λ (c : ContactsAnswer). c.possible) (counts z)) ∙ none) q p (point_held u w.0 from to w.1 q p at) x y;
   }
     where
       shared : window_voxels u (tree_colour surfaces u trees) from to ≡ window_voxels u (shared_colour u surfaces first second) from to

@@ -7,7 +7,7 @@ use native.Mathlib.Omega.{arith}
 use lib.ListN.{length, length-append}
 use Rattle.universe.specs.declared.Universe.{Universe}
 use Rattle.bintree.specs.declared.Colour.TheVariants.{White}
-use Rattle.bintree.specs.declared.Written.{Written}
+use Rattle.bintree.specs.Told.{WrittenAnswer}
 use Rattle.bintree.specs.Shape.{symbol_of, symbols}
 use Rattle.bintree.specs.Merging.{merged}
 use Rattle.bintree.proofs.Answers.{written_all, left_all}
@@ -49,6 +49,6 @@ module _ (u : Universe) (surfaces : Surfaces) (words : List ℕ) (z : one_tree_r
     unfolding merged_of_one_answer merged_of_one_buffer
     no_skin = record {
       one_symbol = length_told before out _ z ∙ ap length white_alone;
-      written = λ h. sym (ap (λ (a : Written). a.refusal) (written_all before out _ z (rw white_alone h)));
+      written = λ h. sym (ap (λ (a : WrittenAnswer). a.refusal) (written_all before out _ z (rw white_alone h)));
       white = λ h. rw white_alone (sym (left_all before out (symbol_of White ∷ []) z h));
     }

@@ -14,7 +14,7 @@ use Rattle.universe.specs.Universe.{universe_refusal}
 use Rattle.universe.specs.Voxel.{voxel_refusal}
 use Rattle.universe.specs.Room.{room, room_answer}
 use Rattle.bintree.specs.declared.Colour.{Colour}
-use Rattle.bintree.specs.declared.Written.{Written}
+use Rattle.bintree.specs.Told.{WrittenAnswer}
 use Rattle.bintree.specs.Shape.{Shape}
 use Rattle.bintree.specs.Reading.{read, expression}
 use Rattle.bintree.specs.Answers.{refused_writing, short_writing, done_writing, written_answer, written_buffer}
@@ -40,7 +40,7 @@ colour_accepted u s v a ok x w = sym (answer_last u 0 (sym ok) refused_colour _ 
 
 -- ---- what holds of each end of a call that writes holds of the call
 
-module _ (before : ℕ) (out written : List ℕ) (Claim : Written → List ℕ → Type 0) where
+module _ (before : ℕ) (out written : List ℕ) (Claim : WrittenAnswer → List ℕ → Type 0) where
   pub at_its_end :
       ((before ≡ 0 → ⊥) → Claim (refused_writing before) out) →
       (before ≡ 0 → length out < length written → Claim (short_writing (length written)) out) →
@@ -48,7 +48,7 @@ module _ (before : ℕ) (out written : List ℕ) (Claim : Written → List ℕ �
       Claim (written_answer before out written) (written_buffer before out written)
   at_its_end refused short done = go (ℕ_discrete before 0) (dec_le (length written) (length out))
     where
-      by : {a b : Written} {l m : List ℕ} → a ≡ b → l ≡ m → Claim a l → Claim b m
+      by : {a b : WrittenAnswer} {l m : List ℕ} → a ≡ b → l ≡ m → Claim a l → Claim b m
       by p q k = rw (← p, ← q) k
 
       go : Dec (before ≡ 0) → Dec (length written ≤ length out) → Claim (written_answer before out written) (written_buffer before out written)
@@ -82,7 +82,7 @@ room_told u leaves balls ok = rw (eq-eqb (universe_refusal u) 0 ok)
 
 module _ (u : Universe) (before leaves balls : ℕ) (colours : List ℕ → Colour) (out written : List ℕ)
     (shown : before ≡ 0 → Showing u leaves balls colours written) where
-  abbrev Keeps : Written → List ℕ → Type 0
+  abbrev Keeps : WrittenAnswer → List ℕ → Type 0
   Keeps answer left = Promised u before leaves balls colours out answer left
 
   refused : (before ≡ 0 → ⊥) → Keeps (refused_writing before) out

@@ -18,14 +18,14 @@ use Rattle.universe.specs.Refusals.{bad_universe, bad_proxy, bad_keys, bad_step,
 use Rattle.universe.specs.Universe.{universe_refusal, frame_count}
 use Rattle.universe.specs.Room.{room, room_answer}
 use Rattle.bintree.specs.declared.Verdict.{Verdict}
-use Rattle.bintree.specs.declared.Written.{Written}
+use Rattle.bintree.specs.Told.{WrittenAnswer}
 use Rattle.bintree.specs.Answers.{written_answer, written_buffer}
 use Rattle.bintree.proofs.Answers.{written_short, written_all, kept_short, left_all}
 use Rattle.csg.specs.Halfspace.{row_count, rows_refusal}
 use Rattle.csg.specs.Ball.{balls_refusal}
 use Rattle.csg.specs.Surfaces.{Surfaces, named, surfaces_of}
 use Rattle.csg.specs.Words.{tree_refusal, halfspace_words, ball_words}
-use Rattle.convert.specs.declared.verdict.Clearance.{Clearance}
+use Rattle.convert.specs.Told.{ClearanceAnswer}
 use Rattle.convert.specs.Answers.{refused_clearance, done_clearance, clearance_of, clearance_answer, clearance_buffer}
 use Rattle.standin.specs.declared.Triple.{Triple}
 use Rattle.standin.specs.declared.Corners.{Corners}
@@ -84,7 +84,7 @@ module _ (u : Universe) (m : Mover) (surfaces : Surfaces) (words out : List ℕ)
   abbrev after : ℕ → List ℕ
   after i = after_stretches u m surfaces words out i
 
-  abbrev done : Clearance
+  abbrev done : ClearanceAnswer
   done = done_clearance (mover_verdict u m surfaces words) (length (symbols (count - 1)))
 
   -- ---- no check refuses
@@ -143,16 +143,16 @@ module _ (u : Universe) (m : Mover) (surfaces : Surfaces) (words out : List ℕ)
           && are_within (frame_count u) m.moments
 
   -- ---- the three ends
-  at_end : (Claim : Clearance → List ℕ → Type 0) →
+  at_end : (Claim : ClearanceAnswer → List ℕ → Type 0) →
       ((before ≡ 0 → ⊥) → Claim (refused_clearance before 0) out) →
       (before ≡ 0 → length out < need → Claim (refused_clearance no_room need) out) →
       (before ≡ 0 → need ≤ length out → Claim done (after count)) →
       Claim (mover_answer u m surfaces words out) (mover_buffer u m surfaces words out)
   at_end Claim refused short finished = go (ℕ_discrete before 0) (dec_le need (length out))
     where
-      by : {a : Clearance} {l : List ℕ} → (a ≡ mover_answer u m surfaces words out) × (l ≡ mover_buffer u m surfaces words out) → Claim a l →
+      by : {a : ClearanceAnswer} {l : List ℕ} → (a ≡ mover_answer u m surfaces words out) × (l ≡ mover_buffer u m surfaces words out) → Claim a l →
           Claim (mover_answer u m surfaces words out) (mover_buffer u m surfaces words out)
-      by {a} {l} e k = subst (λ (x : Clearance). Claim x (mover_buffer u m surfaces words out)) e.0 (subst (λ (x : List ℕ). Claim a x) e.1 k)
+      by {a} {l} e k = subst (λ (x : ClearanceAnswer). Claim x (mover_buffer u m surfaces words out)) e.0 (subst (λ (x : List ℕ). Claim a x) e.1 k)
 
       go : Dec (before ≡ 0) → Dec (need ≤ length out) → Claim (mover_answer u m surfaces words out) (mover_buffer u m surfaces words out)
       go (no n) d = by (ends_refused u m surfaces words out refl n refl) (refused n)
@@ -204,7 +204,7 @@ module _ (u : Universe) (m : Mover) (surfaces : Surfaces) (words out : List ℕ)
           (stretch_answer u m surfaces words i lent ≡ refused_clearance no_room (length (symbols i))) × (stretch_buffer u m surfaces words i lent ≡ lent)
       short_at h = (
         accepted_at
-            ∙ sym (ap (λ (w : Written). clearance_of w (stretch_verdict u m surfaces words i)) (written_short 0 lent (symbols i) refl h)),
+            ∙ sym (ap (λ (w : WrittenAnswer). clearance_of w (stretch_verdict u m surfaces words i)) (written_short 0 lent (symbols i) refl h)),
         left_at ∙ sym (kept_short 0 lent (symbols i) refl h),
       )
 
@@ -213,7 +213,7 @@ module _ (u : Universe) (m : Mover) (surfaces : Surfaces) (words out : List ℕ)
           × (stretch_buffer u m surfaces words i lent ≡ symbols i ++ drop (length (symbols i)) lent)
       done_at h = (
         accepted_at
-            ∙ sym (ap (λ (w : Written). clearance_of w (stretch_verdict u m surfaces words i)) (written_all 0 lent (symbols i) refl h)),
+            ∙ sym (ap (λ (w : WrittenAnswer). clearance_of w (stretch_verdict u m surfaces words i)) (written_all 0 lent (symbols i) refl h)),
         left_at ∙ sym (left_all 0 lent (symbols i) refl h),
       )
 
@@ -264,11 +264,11 @@ module _ (u : Universe) (m : Mover) (surfaces : Surfaces) (words out : List ℕ)
             verdicts = up_to r;
             room_first = refl;
             verdict_first = up_start r;
-            accepted = λ i l. ap (λ (c : Clearance). c.refusal) (called i l).0;
+            accepted = λ i l. ap (λ (c : ClearanceAnswer). c.refusal) (called i l).0;
             room_next = λ i l. after_next i ∙ sym (called i l).1;
             room_over = λ i l. after_next i;
             verdict_next = λ i l.
-                sym (up_next r i (omega arith)) ∙ ap (λ (c : Clearance). joined (up_to r i) c.verdict) (sym (called i l).0);
+                sym (up_next r i (omega arith)) ∙ ap (λ (c : ClearanceAnswer). joined (up_to r i) c.verdict) (sym (called i l).0);
             room_last = refl;
             verdict_last = up_end r;
           }

@@ -9,8 +9,7 @@ use Rattle.universe.specs.Refusals.{first_refusal}
 use Rattle.universe.specs.Universe.{universe_refusal}
 use Rattle.universe.specs.Voxel.{voxel_refusal, window_refusal}
 use Rattle.universe.proofs.Universes.{accepted}
-use Rattle.bintree.specs.declared.Coloured.{Coloured}
-use Rattle.bintree.specs.declared.Numbers.{Numbers}
+use Rattle.bintree.specs.Told.{ColouredAnswer, NumbersAnswer}
 use Rattle.bintree.specs.declared.Verdict.TheVariants.{Clear}
 use Rattle.bintree.specs.Shape.{Shape}
 use Rattle.bintree.specs.Reading.{Reading, none, read, expression, expression_refusal}
@@ -28,10 +27,10 @@ use Rattle.promises.specs.Numbers.{Numbered}
 use Rattle.promises.proofs.Keeping.{first_accepts, colour_accepted}
 
 module _ (u : Universe) (s : List ℕ) (first last : ℕ) where
-  abbrev given : Numbers
+  abbrev given : NumbersAnswer
   given = numbers_answer u s first last
 
-  abbrev done : Reading → Numbers
+  abbrev done : Reading → NumbersAnswer
   done x = of_shape x (done_numbers 0 Clear) (λ a. done_numbers (volume u a) (verdict u a first last))
 
   first_told : given.refusal ≡ first_refusal (window_checks u s first last)
@@ -72,18 +71,18 @@ module _ (u : Universe) (s : List ℕ) (first last : ℕ) where
     at v w = colour_accepted u s v t.shape t.universe t.reads w
 
     same : (v : List ℕ) → voxel_refusal u v ≡ 0 → colour_at u t.shape v ≡ colours_of u s v
-    same v w = sym (ap (λ (c : Coloured). c.colour) (at v w))
+    same v w = sym (ap (λ (c : ColouredAnswer). c.colour) (at v w))
 
   pub numbers_of : Numbered u s first last given
   numbers_of =
       record {
         number = first_told;
-        volume_refused = λ n. sym (ap (λ (a : Numbers). a.volume) (nothing_told n));
-        verdict_refused = λ n. sym (ap (λ (a : Numbers). a.verdict) (nothing_told n));
-        coloured = λ z v w. ap (λ (c : Coloured). c.refusal) (at (taken z) v w);
+        volume_refused = λ n. sym (ap (λ (a : NumbersAnswer). a.volume) (nothing_told n));
+        verdict_refused = λ n. sym (ap (λ (a : NumbersAnswer). a.verdict) (nothing_told n));
+        coloured = λ z v w. ap (λ (c : ColouredAnswer). c.refusal) (at (taken z) v w);
         whole = λ z.
             let t = taken z in
-            ap (λ (a : Numbers). a.volume) (told t)
+            ap (λ (a : NumbersAnswer). a.volume) (told t)
             ∙ volume_of_lem u (accepted u t.universe) t.shape (read_is u s t.shape t.reads).1 (colours_of u s) (same t);
         judged = λ z.
             let t = taken z in

@@ -16,7 +16,7 @@ use Rattle.universe.specs.Voxel.{window_refusal}
 use Rattle.bintree.specs.declared.Colour.{Colour}
 use Rattle.bintree.specs.declared.Verdict.{Verdict}
 use Rattle.bintree.specs.declared.Verdict.TheVariants.{Clear}
-use Rattle.bintree.specs.declared.Written.{Written}
+use Rattle.bintree.specs.Told.{WrittenAnswer}
 use Rattle.bintree.specs.Shape.{symbols}
 use Rattle.bintree.specs.Merging.{merged}
 use Rattle.bintree.specs.Answers.{written_answer}
@@ -35,7 +35,7 @@ use Rattle.csg.proofs.Words.{tree_leaves, tree_balls}
 use Rattle.demands.specs.Verdicts.{Judges}
 use Rattle.demands.proofs.Theorems.{demand_2, demand_3, verdict_of_trees}
 use Rattle.demands.proofs.Colours.{both_colour}
-use Rattle.convert.specs.declared.verdict.Clearance.{Clearance}
+use Rattle.convert.specs.Told.{ClearanceAnswer}
 use Rattle.convert.specs.Answers.{one_tree_checks, two_trees_checks, one_tree_refusal, two_trees_refusal, clearance_checks, clearance_refusal}
 use Rattle.convert.specs.Answers.{clearance_of, raw_of_one, raw_of_two, merged_of_one, merged_of_two}
 use Rattle.convert.specs.Answers.{raw_of_one_answer, raw_of_one_buffer, merged_of_one_answer, merged_of_one_buffer}
@@ -129,7 +129,7 @@ module _ (u : Universe) (surfaces : Surfaces) (words : List ℕ) (out : List ℕ
 
 -- ---- a verdict's answer, by what was written
 
-module _ (written : Written) (v : Verdict) where
+module _ (written : WrittenAnswer) (v : Verdict) where
   number_told : (clearance_of written v).refusal ≡ written.refusal
   number_told = go (ℕ_discrete written.refusal 0)
     where
@@ -144,7 +144,7 @@ module _ (written : Written) (v : Verdict) where
       go (yes z) = rw (eq-eqb written.refusal 0 z)
       go (no n) = rw (ne_eqb written.refusal 0 n)
 
-  as_written : ◌≡◌ {A = Written} written (record { refusal = (clearance_of written v).refusal; length = (clearance_of written v).length })
+  as_written : ◌≡◌ {A = WrittenAnswer} written (record { refusal = (clearance_of written v).refusal; length = (clearance_of written v).length })
   as_written = λ i. record { refusal = sym number_told i; length = sym symbols_told i }
 
   verdict_told : written.refusal ≡ 0 → (clearance_of written v).verdict ≡ v
@@ -159,7 +159,7 @@ passed before out written e = go (ℕ_discrete before 0)
   where
     go : Dec (before ≡ 0) → before ≡ 0
     go (yes z) = z
-    go (no n) = absurd (n (ap (λ (w : Written). w.refusal) (written_refused before out written n) ∙ e))
+    go (no n) = absurd (n (ap (λ (w : WrittenAnswer). w.refusal) (written_refused before out written n) ∙ e))
 
 -- and one that is not refused for room is refused as its checks before 6 say
 pub unless_six : (before : ℕ) (out written : List ℕ) → ((written_answer before out written).refusal ≡ no_room → ⊥) →
@@ -173,7 +173,7 @@ unless_six before out written n = go (ℕ_discrete before 0)
 
     go : Dec (before ≡ 0) → (written_answer before out written).refusal ≡ before
     go (yes z) = fits z (leb (length written) (length out)) refl
-    go (no k) = sym (ap (λ (w : Written). w.refusal) (written_refused before out written k))
+    go (no k) = sym (ap (λ (w : WrittenAnswer). w.refusal) (written_refused before out written k))
 
 -- ---- TWO TREES, intersected
 
@@ -257,7 +257,7 @@ module _ (u : Universe) (surfaces : Surfaces) (first second : List ℕ) where
     -- ---- THE VERDICT of two trees over the frames from `from` to `to`, both ends in
 
     module _ (from to : ℕ) where
-      abbrev given : Clearance
+      abbrev given : ClearanceAnswer
       given = clearance_answer u surfaces first second from to out
 
       pub window_accepted : clearance_refusal u surfaces first second from to ≡ 0 → (two_trees_refusal u surfaces first second ≡ 0) × (window_refusal u from to ≡ 0)
@@ -266,7 +266,7 @@ module _ (u : Universe) (surfaces : Surfaces) (first second : List ℕ) where
           let a = first_accepts (two_trees_refusal u surfaces first second) (window_refusal u from to ∷ []) z in
           (a.0, (first_accepts (window_refusal u from to) [] a.1).0)
 
-      abbrev written : Written
+      abbrev written : WrittenAnswer
       written = written_answer (clearance_refusal u surfaces first second from to) out (raw_of_two u surfaces first second)
 
       -- of the room lent, all that is promised of the raw conversion

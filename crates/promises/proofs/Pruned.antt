@@ -11,7 +11,7 @@ use Rattle.universe.specs.declared.Universe.{Universe}
 use Rattle.universe.specs.Universe.{levels}
 use Rattle.universe.specs.Block.{whole_block}
 use Rattle.universe.proofs.Lent.{room_enough, room_short}
-use Rattle.bintree.specs.declared.Written.{Written}
+use Rattle.bintree.specs.Told.{WrittenAnswer}
 use Rattle.bintree.specs.Answers.{written_answer, written_buffer}
 use Rattle.csg.specs.Surfaces.{Surfaces, named}
 use Rattle.csg.specs.Tree.{Tree, Plain}
@@ -20,7 +20,7 @@ use Rattle.csg.specs.Raw.{blocks_examined}
 use Rattle.convert.specs.Blocks.{trees_of}
 use Rattle.convert.specs.Answers.{one_tree_refusal, two_trees_refusal, raw_of_one, merged_of_one, raw_of_two, merged_of_two}
 use Rattle.convert.specs.Answers as convert
-use Rattle.pruned.specs.declared.answer.Conversion.{Conversion}
+use Rattle.pruned.specs.Told.{ConversionAnswer}
 use Rattle.pruned.specs.Left.{all_nodes}
 use Rattle.pruned.specs.Looked.{nodes_looked}
 use Rattle.pruned.specs.Answers.{one_tree, two_trees, nodes_lent, nodes_needed, refused_conversion, short_of_work, short_of_symbols, done_conversion, written_conversion}
@@ -34,13 +34,13 @@ use Rattle.promises.specs.Pruned.{Alike}
 
 -- ---- any conversion: these checks, this need, these symbols, these nodes
 module _ (before : ℕ) (work : List ℤ) (needed : ℕ) (out symbols : List ℕ) (looked : ℕ) where
-  abbrev answer : Conversion
+  abbrev answer : ConversionAnswer
   answer = conversion_answer before work needed out symbols looked
 
   abbrev left : List ℕ
   left = conversion_room before work needed out symbols
 
-  abbrev first : Written
+  abbrev first : WrittenAnswer
   first = written_answer before out symbols
 
   abbrev first_left : List ℕ
@@ -64,16 +64,16 @@ module _ (before : ℕ) (work : List ℤ) (needed : ℕ) (out symbols : List ℕ
   nodes_by {G} yes' no' = by (ℕ_discrete before 0) (dec_le needed (nodes_lent work)) (dec_le (length symbols) (length out))
     where
       by : Dec (before ≡ 0) → Dec (needed ≤ nodes_lent work) → Dec (length symbols ≤ length out) → G
-      by (no n) h k = let e = refused n in no' (λ z. n (sym (ap (λ (x : Conversion). x.refusal) e) ∙ z)) (ap (λ (x : Conversion). x.looked) e)
+      by (no n) h k = let e = refused n in no' (λ z. n (sym (ap (λ (x : ConversionAnswer). x.refusal) e) ∙ z)) (ap (λ (x : ConversionAnswer). x.looked) e)
       by (yes z) (no h) k =
           let e = short z (omega arith) in
-          no' (λ y. omega (arith, ap (λ (x : Conversion). x.refusal) e)) (ap (λ (x : Conversion). x.looked) e)
+          no' (λ y. omega (arith, ap (λ (x : ConversionAnswer). x.refusal) e)) (ap (λ (x : ConversionAnswer). x.looked) e)
       by (yes z) (yes h) (yes k) =
           let e : answer ≡ done_conversion (length symbols) looked = written z h ∙ rw (room_enough (length out) (length symbols) k) in
-          yes' (ap (λ (x : Conversion). x.refusal) e) z (ap (λ (x : Conversion). x.looked) e)
+          yes' (ap (λ (x : ConversionAnswer). x.refusal) e) z (ap (λ (x : ConversionAnswer). x.looked) e)
       by (yes z) (yes h) (no k) =
           let e : answer ≡ short_of_symbols (length symbols) = written z h ∙ rw (room_short (length out) (length symbols) (omega arith)) in
-          no' (λ y. omega (arith, ap (λ (x : Conversion). x.refusal) e)) (ap (λ (x : Conversion). x.looked) e)
+          no' (λ y. omega (arith, ap (λ (x : ConversionAnswer). x.refusal) e)) (ap (λ (x : ConversionAnswer). x.looked) e)
 
   alike : (u : Universe) (surfaces : Surfaces) (words : ℕ) (tree : Tree) (trees : List Plain) → looked ≡ nodes_looked u surfaces trees →
       (before ≡ 0 → looked ≤ blocks_examined u surfaces tree * words) → Alike u surfaces before needed words tree trees work first first_left answer left
@@ -83,9 +83,9 @@ module _ (before : ℕ) (work : List ℤ) (needed : ℕ) (out symbols : List ℕ
         same_length = λ h. (as_first h).long;
         same_symbols = λ h. (as_first h).room;
         no_lack = λ h. (as_first h).lack;
-        before_work = λ n. ap (λ (x : Conversion). x.refusal) (refused n);
+        before_work = λ n. ap (λ (x : ConversionAnswer). x.refusal) (refused n);
         lack = λ z h. let k = short z h in
-            (ap (λ (x : Conversion). x.refusal) k, ap (λ (x : Conversion). x.short_of_work) k, ap (λ (x : Conversion). x.length) k);
+            (ap (λ (x : ConversionAnswer). x.refusal) k, ap (λ (x : ConversionAnswer). x.short_of_work) k, ap (λ (x : ConversionAnswer). x.length) k);
         looked = λ z. nodes_by (λ y b k. k ∙ e) (λ n k. absurd (n z));
         looked_most = nodes_by (λ y b k. omega (arith, most b)) (λ n k. omega arith);
         looked_none = λ n. nodes_by (λ y b k. absurd (n y)) (λ m k. k);

@@ -14,8 +14,7 @@ use Rattle.universe.specs.Lent.{room_refusal}
 use Rattle.universe.specs.Universe.{universe_refusal, levels}
 use Rattle.universe.proofs.Lent.{room_enough, room_short}
 use Rattle.universe.proofs.Universes.{accepted}
-use Rattle.bintree.specs.declared.Coloured.{Coloured}
-use Rattle.bintree.specs.declared.Numbers.{Numbers}
+use Rattle.bintree.specs.Told.{ColouredAnswer, NumbersAnswer}
 use Rattle.bintree.specs.Shape.{Shape, symbols, size, depth}
 use Rattle.bintree.specs.Reading.{expression_refusal}
 use Rattle.bintree.specs.Parts.{colour_at}
@@ -27,7 +26,7 @@ use Rattle.bintree.proofs.Verdicts.{numbers_accepted}
 use Rattle.bintree.proofs.WindowAnswers.{window_accepted}
 use Rattle.demands.specs.Voxels.{black_voxels_at}
 use Rattle.demands.proofs.Voxels.{frame_same}
-use Rattle.report.specs.declared.Report.{Report}
+use Rattle.report.specs.Told.{ReportAnswer}
 use Rattle.report.specs.Lists.{most_expressions, Listing, unread, shapes, list_of, shapes_of, list_refusal, listing_refusal, sum_over}
 use Rattle.report.specs.Reports.{frame_voxels, frame_counts, total_voxels, list_checks, report_refusal, refused_report, short_report, done_report}
 use Rattle.report.specs.Reports.{report_answer, report_row}
@@ -135,7 +134,7 @@ module _ (u : Universe) (s : List ℕ) (first last : ℕ) (t : Taken u s first l
       one : (a : Shape) → depth a ≤ levels u → black_voxels_at u (colour_at u a) c ≡ black_voxels_at u (colours_of u (symbols a)) c
       one a d =
           frame_same u (accepted u t.universe) (colour_at u a) (colours_of u (symbols a))
-          (λ v w. sym (ap (λ (x : Coloured). x.colour) (colour_accepted u (symbols a) v a t.universe (reads_back u a d) w)))
+          (λ v w. sym (ap (λ (x : ColouredAnswer). x.colour) (colour_accepted u (symbols a) v a t.universe (reads_back u a d) w)))
           c (omega (arith, (window_accepted u first last t.window).inside))
 
   -- and what it has in the window is what its verdict counts
@@ -147,7 +146,7 @@ module _ (u : Universe) (s : List ℕ) (first last : ℕ) (t : Taken u s first l
     where
       one : (a : Shape) → depth a ≤ levels u → voxels_in u a first last ≡ voxels_told (numbers_answer u (symbols a) first last).verdict
       one a d =
-          sym (ap (λ (x : Numbers). voxels_told x.verdict) (numbers_accepted u (symbols a) first last a t.universe (reads_back u a d) t.window)
+          sym (ap (λ (x : NumbersAnswer). voxels_told x.verdict) (numbers_accepted u (symbols a) first last a t.universe (reads_back u a d) t.window)
           ∙ voxels_told_lem u a first last)
 
 -- ---- the checks, 6 behind the others
@@ -162,7 +161,7 @@ first_behind (m ∷ ns) n = go (ℕ_discrete m 0) (first_behind ns n)
     go (no k) ih = rw (ne_eqb m 0 k, ne_eqb m 0 k)
 
 module _ (u : Universe) (s : List ℕ) (first last : ℕ) (row : List ℕ) where
-  abbrev given : Report
+  abbrev given : ReportAnswer
   given = report_answer u s first last row
 
   abbrev number : ℕ
@@ -210,22 +209,22 @@ module _ (u : Universe) (s : List ℕ) (first last : ℕ) (row : List ℕ) where
 
   -- what is told where nothing is refused
   accepts : Way → given.refusal ≡ 0 → Taken u s first last
-  accepts (refused n e) z = absurd (n (ap (λ (a : Report). a.refusal) e ∙ z))
-  accepts (short y k e) z = absurd (omega (arith, ap (λ (a : Report). a.refusal) e))
+  accepts (refused n e) z = absurd (n (ap (λ (a : ReportAnswer). a.refusal) e ∙ z))
+  accepts (short y k e) z = absurd (omega (arith, ap (λ (a : ReportAnswer). a.refusal) e))
   accepts (done y k e) z = taken u s first last y
 
   told : Way → given.refusal ≡ 0 → (l : IsList u s) → Tallied u first last row given (report_row u s first last row) l.expressions
-  told (refused n e) z l = absurd (n (ap (λ (a : Report). a.refusal) e ∙ z))
-  told (short y k e) z l = absurd (omega (arith, ap (λ (a : Report). a.refusal) e))
+  told (refused n e) z l = absurd (n (ap (λ (a : ReportAnswer). a.refusal) e ∙ z))
+  told (short y k e) z l = absurd (omega (arith, ap (λ (a : ReportAnswer). a.refusal) e))
   told (done y k e) z l =
       let t = taken u s first last y in
       let same = same_list u s t.universe l in
       let after = report_row u s first last row in
       let x : after ≡ frame_counts u s first last ++ drop wide row = sym (row_set u s first last row number refl {answer = given} refl z) in
-      let total : given.total ≡ total_voxels u s first last = sym (ap (λ (a : Report). a.total) e) in
+      let total : given.total ≡ total_voxels u s first last = sym (ap (λ (a : ReportAnswer). a.total) e) in
       let long = counts_length u s first last in
       record {
-        frames = sym (ap (λ (a : Report). a.frames) e);
+        frames = sym (ap (λ (a : ReportAnswer). a.frames) e);
         long = ap (length {A = ℕ}) x ∙ length-append (frame_counts u s first last) (drop wide row) ∙ omega (arith, long, length-drop wide row);
         entry = λ c h i.
             let back : first + (c - first) ≡ c = omega arith in

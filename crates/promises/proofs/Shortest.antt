@@ -12,7 +12,7 @@ use Rattle.universe.specs.declared.Universe.{Universe}
 use Rattle.universe.specs.Universe.{universe_refusal}
 use Rattle.universe.specs.Voxel.{voxel_refusal}
 use Rattle.bintree.specs.declared.Colour.{Colour}
-use Rattle.bintree.specs.declared.Coloured.{Coloured}
+use Rattle.bintree.specs.Told.{ColouredAnswer}
 use Rattle.bintree.specs.Reading.{expression_refusal}
 use Rattle.bintree.specs.Answers.{well_formed_refusal, short_writing, done_writing, written_answer, written_buffer}
 use Rattle.bintree.specs.Merging.{merged_symbols, merge_answer, merge_buffer}
@@ -33,8 +33,8 @@ use Rattle.promises.proofs.Promises.{checks, accepts}
 
 -- ---- bytes say colours exactly where they have them
 
-pub colour_told : {a b : Coloured} → a ≡ b → a.colour ≡ b.colour
-colour_told e = ap (λ (c : Coloured). c.colour) e
+pub colour_told : {a b : ColouredAnswer} → a ≡ b → a.colour ≡ b.colour
+colour_told e = ap (λ (c : ColouredAnswer). c.colour) e
 
 module _ (u : Universe) where
   both_checks : (x : List ℕ) → well_formed_refusal u x ≡ 0 → (universe_refusal u ≡ 0) × (expression_refusal u x ≡ 0)

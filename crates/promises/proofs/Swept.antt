@@ -17,7 +17,7 @@ use Rattle.universe.proofs.Questions.{OneOf, one_of, accepted_one}
 use Rattle.universe.proofs.Without.{without_accepted}
 use Rattle.bintree.specs.declared.Colour.{Colour}
 use Rattle.bintree.specs.declared.Colour.TheVariants.{White, Black}
-use Rattle.bintree.specs.declared.Written.{Written}
+use Rattle.bintree.specs.Told.{WrittenAnswer}
 use Rattle.bintree.specs.Shape.{Shape, symbols, depth}
 use Rattle.bintree.specs.Reading.{read, expression, expression_refusal}
 use Rattle.bintree.specs.Merging.{merged}
@@ -33,7 +33,7 @@ use Rattle.csg.specs.Marks.{union_colour, plain_colour, tree_colour}
 use Rattle.demands.specs.Shortest.{Has, Fewest}
 use Rattle.demands.proofs.Shortest.{shape_fewest}
 use Rattle.convert.specs.Answers.{one_tree_refusal, merged_of_one_answer, merged_of_one_buffer}
-use Rattle.sweep.specs.declared.Swept.{Swept}
+use Rattle.sweep.specs.Told.{SweptAnswer}
 use Rattle.sweep.specs.Sweeping.{swept}
 use Rattle.sweep.specs.Voxels.{voxel_over, BlackOver, Sweeps}
 use Rattle.sweep.specs.Answers.{Ready, swept_refusal, swept_shape, swept_symbols, of_universe, swept_answer, swept_buffer}
@@ -227,7 +227,7 @@ swept_by_colours u s t axis z y same =
 -- ---- the call
 
 module _ (u : Universe) (s : List ℕ) (axis : ℕ) (out : List ℕ) where
-  abbrev Claim : Written → List ℕ → Type 0
+  abbrev Claim : WrittenAnswer → List ℕ → Type 0
   Claim w left = SweptSpace u s axis out (of_universe (without_answer u axis) w) left
 
   refused : (swept_refusal u s axis ≡ 0 → ⊥) → Claim (refused_writing (swept_refusal u s axis)) out
@@ -288,7 +288,7 @@ module _ (u : Universe) (surfaces : Surfaces) (words room out : List ℕ) where
   converted = take (merged_of_one_answer u surfaces words room).length (merged_of_one_buffer u surfaces words room)
 
   -- the sweep of that
-  abbrev answer : Swept
+  abbrev answer : SweptAnswer
   answer = swept_answer u converted u.axes out
 
   abbrev result : List ℕ

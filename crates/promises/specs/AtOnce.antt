@@ -7,15 +7,14 @@ use Rattle.bintree.specs.declared.Verdict.TheVariants.{Clear}
 use Rattle.csg.specs.Surfaces.{Surfaces}
 use Rattle.demands.specs.Verdicts.{Judges}
 use Rattle.convert.specs.Answers.{clearance_refusal, clearance_answer}
-use Rattle.at_once.specs.declared.answer.Judged.{Judged}
-use Rattle.at_once.specs.declared.answer.Spanned.{Spanned}
+use Rattle.at_once.specs.Told.{JudgedAnswer, SpannedAnswer}
 use Rattle.at_once.specs.Answers.{span_of}
 use Rattle.promises.specs.Contacts.{shared_colour}
 
 -- The two calls over two trees and the frames `from` to `to`, both ends in, answered `judged` and `spanned`.
 pub record AtOnce
-    (u : Universe) (surfaces : Surfaces) (first second : List ℕ) (from to : ℕ) (judged : Judged) (spanned : Spanned)
-    : Type 0 where
+    (u : Universe) (surfaces : Surfaces) (first second : List ℕ) (from to : ℕ) (judged : JudgedAnswer)
+    (spanned : SpannedAnswer) : Type 0 where
   -- both are refused as the verdict is before room is asked for, never for room, and then they are Clear
   pub number : judged.refusal ≡ clearance_refusal u surfaces first second from to
   pub same_number : spanned.refusal ≡ judged.refusal

@@ -13,7 +13,7 @@ use Rattle.contacts.specs.Contacts.{sure_colour, possible_colour, window_voxels}
 use Rattle.contacts.specs.Points.{InsideTree}
 use Rattle.contacts.specs.Middle.{VerdictOf}
 use Rattle.convert.specs.Answers.{clearance_refusal, clearance_answer}
-use Rattle.at_once.specs.declared.answer.Contacts.{Contacts}
+use Rattle.at_once.specs.Told.{ContactsAnswer}
 
 -- a voxel is black in both trees at its centre
 abbrev pub shared_colour : Universe → Surfaces → List ℕ → List ℕ → Colouring
@@ -32,7 +32,7 @@ pub record PointWithin (u : Universe) (from to q : ℕ) (p : ℕ → ℕ) : Type
 
 -- The call over two trees and the frames `from` to `to`, both ends in, answered `answer`.
 pub record Contacted
-    (u : Universe) (surfaces : Surfaces) (first second : List ℕ) (from to : ℕ) (answer : Contacts) : Type 0 where
+    (u : Universe) (surfaces : Surfaces) (first second : List ℕ) (from to : ℕ) (answer : ContactsAnswer) : Type 0 where
   -- it is refused as the verdict is before room is asked for, never for room, and then all counts are 0
   pub number : answer.refusal ≡ clearance_refusal u surfaces first second from to
   pub never_six : answer.refusal ≡ no_room → ⊥

@@ -12,7 +12,7 @@ use Rattle.csg.specs.Surfaces.{Surfaces, named, surfaces_of}
 use Rattle.csg.specs.Words.{tree_of, halfspace_words, ball_words}
 use Rattle.csg.specs.Marks.{intersection_colour, tree_colour}
 use Rattle.demands.specs.Verdicts.{frame_of, Judges}
-use Rattle.convert.specs.declared.verdict.Clearance.{Clearance}
+use Rattle.convert.specs.Told.{ClearanceAnswer}
 use Rattle.convert.specs.Answers.{clearance_answer, clearance_buffer}
 use Rattle.standin.specs.declared.Triple.{Triple}
 use Rattle.standin.specs.declared.Corners.{Corners}
@@ -31,7 +31,7 @@ last_judged m = moment_at m.moments (stretches m.moments) - 1
 
 -- the verdict's call on the scene of stretch i, over its own frames: the static rows and balls, and the Box's six rows
 -- behind; the static words, and the Box's
-abbrev pub stretch_answer : Universe → Mover → Surfaces → List ℕ → ℕ → List ℕ → Clearance
+abbrev pub stretch_answer : Universe → Mover → Surfaces → List ℕ → ℕ → List ℕ → ClearanceAnswer
 stretch_answer u m surfaces words i room =
     clearance_answer u (with_box surfaces m i) words (box_words (row_count surfaces.rows))
     (moment_at m.moments i) (moment_at m.moments (i + 1) - 1) room
@@ -44,7 +44,7 @@ stretch_buffer u m surfaces words i room =
 -- One stretch after the other: each stretch's verdict is asked with the room that the one before left, is not refused,
 -- and writes its raw expression over what is there; the verdicts are joined.
 pub record OneByOne (u : Universe) (m : Mover) (surfaces : Surfaces) (words out : List ℕ)
-    (answer : Clearance) (left : List ℕ) : Type 0 where
+    (answer : ClearanceAnswer) (left : List ℕ) : Type 0 where
   pub rooms : ℕ → List ℕ
   pub verdicts : ℕ → Verdict
   pub room_first : rooms 0 ≡ out
@@ -87,7 +87,7 @@ pub record Stretching (u : Universe) (m : Mover) (surfaces : Surfaces) (words : 
 
 -- The call over a mover and a static tree, lent `out`, answered `answer` and left `left` there.
 pub record Keyed (u : Universe) (m : Mover) (surfaces : Surfaces) (words out : List ℕ)
-    (answer : Clearance) (left : List ℕ) : Type 0 where
+    (answer : ClearanceAnswer) (left : List ℕ) : Type 0 where
   -- refused before room is asked for: that number, and no length
   pub number : (mover_refusal u m surfaces words ≡ 0 → ⊥) → answer.refusal ≡ mover_refusal u m surfaces words
   pub no_length : (mover_refusal u m surfaces words ≡ 0 → ⊥) → answer.length ≡ 0

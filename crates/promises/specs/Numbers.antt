@@ -4,7 +4,7 @@ use Rattle.std.specs.Prelude.{ℕ, ◌≡◌, List}
 use Rattle.universe.specs.declared.Universe.{Universe}
 use Rattle.universe.specs.Refusals.{first_refusal}
 use Rattle.universe.specs.Voxel.{voxel_refusal}
-use Rattle.bintree.specs.declared.Numbers.{Numbers}
+use Rattle.bintree.specs.Told.{NumbersAnswer}
 use Rattle.bintree.specs.declared.Verdict.TheVariants.{Clear}
 use Rattle.bintree.specs.Parts.{colour_answer}
 use Rattle.bintree.specs.Verdicts.{window_checks}
@@ -13,7 +13,7 @@ use Rattle.demands.specs.Verdicts.{Judges}
 use Rattle.promises.specs.Shortest.{colours_of}
 
 -- The question asked of the bytes s over frames first to last answered `answer`.
-pub record Numbered (u : Universe) (s : List ℕ) (first last : ℕ) (answer : Numbers) : Type 0 where
+pub record Numbered (u : Universe) (s : List ℕ) (first last : ℕ) (answer : NumbersAnswer) : Type 0 where
   -- its number is that of the first check that refuses: 2, 7, 9
   pub number : answer.refusal ≡ first_refusal (window_checks u s first last)
   -- refused, it counts nothing and is Clear

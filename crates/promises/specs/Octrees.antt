@@ -5,7 +5,7 @@ use Rattle.universe.specs.declared.Universe.{Universe}
 use Rattle.universe.specs.Voxel.{voxel_refusal}
 use Rattle.bintree.specs.declared.Colour.{Colour}
 use Rattle.bintree.specs.declared.Colour.TheVariants.{White}
-use Rattle.bintree.specs.declared.Written.{Written}
+use Rattle.bintree.specs.Told.{WrittenAnswer}
 use Rattle.octree.specs.Octree.{Octree, octree_symbols, found, of_found, octree_on, octree_colour, reduce, Reduced}
 use Rattle.octree.specs.Answers.{export_refusal, import_refusal}
 use Rattle.promises.specs.Shortest.{colours_of, Says}
@@ -27,7 +27,7 @@ pub record ReducedOctree (u : Universe) (colours : List ℕ → Colour) (y : Lis
   pub coloured : (v : List ℕ) → voxel_refusal u v ≡ 0 → octree_colour u.bits octree v ≡ colours v
 
 -- The call exported the bytes s, was lent `out`, answered `answer` and left `left` there.
-pub record Exported (u : Universe) (s out : List ℕ) (answer : Written) (left : List ℕ) : Type 0 where
+pub record Exported (u : Universe) (s out : List ℕ) (answer : WrittenAnswer) (left : List ℕ) : Type 0 where
   -- whatever is refused, the room is as it was; and what is behind the symbols is, too
   pub kept : (answer.refusal ≡ 0 → ⊥) → left ≡ out
   pub behind : answer.refusal ≡ 0 → drop answer.length left ≡ drop answer.length out
@@ -40,7 +40,7 @@ pub record Exported (u : Universe) (s out : List ℕ) (answer : Written) (left :
   pub suffices : export_refusal u s ≡ 0 → 4 * length s ≤ length out + 3 → answer.refusal ≡ 0
 
 -- The call imported the bytes s, was lent `out`, answered `answer` and left `left` there.
-pub record Imported (u : Universe) (s out : List ℕ) (answer : Written) (left : List ℕ) : Type 0 where
+pub record Imported (u : Universe) (s out : List ℕ) (answer : WrittenAnswer) (left : List ℕ) : Type 0 where
   pub kept : (answer.refusal ≡ 0 → ⊥) → left ≡ out
   pub behind : answer.refusal ≡ 0 → drop answer.length left ≡ drop answer.length out
   -- of what is written the colour question answers with the octree's colours

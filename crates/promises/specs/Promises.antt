@@ -5,14 +5,14 @@ use Rattle.universe.specs.declared.Universe.{Universe}
 use Rattle.universe.specs.Voxel.{voxel_refusal}
 use Rattle.universe.specs.Room.{room_answer}
 use Rattle.bintree.specs.declared.Colour.{Colour}
-use Rattle.bintree.specs.declared.Written.{Written}
+use Rattle.bintree.specs.Told.{WrittenAnswer}
 use Rattle.bintree.specs.Parts.{done_colour, colour_answer}
 
 -- The call lent `out` answered `answer` and left `left` there. `before` is the number of its checks before 6, `leaves`
 -- and `balls` the halfspace words and the ball words of its trees, `colours` the colour that each voxel is to have.
 pub record Promised
     (u : Universe) (before leaves balls : ℕ) (colours : List ℕ → Colour)
-    (out : List ℕ) (answer : Written) (left : List ℕ) : Type 0 where
+    (out : List ℕ) (answer : WrittenAnswer) (left : List ℕ) : Type 0 where
   -- whatever is refused, the room is as it was; and what is behind the symbols is, too
   pub kept : (answer.refusal ≡ 0 → ⊥) → left ≡ out
   pub behind : answer.refusal ≡ 0 → drop answer.length left ≡ drop answer.length out

@@ -3,11 +3,11 @@
 use Rattle.std.specs.Prelude.{ℕ, ◌*◌, ◌≤◌, ◌<◌, ◌≡◌, true, false, List, ℤ}
 use Rattle.universe.specs.declared.Universe.{Universe}
 use Rattle.universe.specs.Refusals.{no_room}
-use Rattle.bintree.specs.declared.Written.{Written}
+use Rattle.bintree.specs.Told.{WrittenAnswer}
 use Rattle.csg.specs.Surfaces.{Surfaces}
 use Rattle.csg.specs.Tree.{Tree, Plain}
 use Rattle.csg.specs.Raw.{blocks_examined}
-use Rattle.pruned.specs.declared.answer.Conversion.{Conversion}
+use Rattle.pruned.specs.Told.{ConversionAnswer}
 use Rattle.pruned.specs.Looked.{nodes_looked}
 use Rattle.pruned.specs.Answers.{nodes_lent}
 
@@ -17,7 +17,7 @@ use Rattle.pruned.specs.Answers.{nodes_lent}
 -- them.
 pub record Alike
     (u : Universe) (surfaces : Surfaces) (before needed words : ℕ) (tree : Tree) (trees : List Plain) (work : List ℤ)
-    (first : Written) (first_left : List ℕ) (answer : Conversion) (left : List ℕ) : Type 0 where
+    (first : WrittenAnswer) (first_left : List ℕ) (answer : ConversionAnswer) (left : List ℕ) : Type 0 where
   -- with enough work room its refusal, its length, or need, and the symbols are those of the first conversion, and it
   -- does not lack work room
   pub same_number : needed ≤ nodes_lent work → answer.refusal ≡ first.refusal

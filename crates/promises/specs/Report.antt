@@ -11,7 +11,7 @@ use Rattle.bintree.specs.declared.Verdict.TheVariants.{Clear, Hit}
 use Rattle.bintree.specs.Answers.{well_formed_refusal}
 use Rattle.bintree.specs.Verdicts.{window_length, numbers_answer}
 use Rattle.demands.specs.Voxels.{black_voxels_at}
-use Rattle.report.specs.declared.Report.{Report}
+use Rattle.report.specs.Told.{ReportAnswer}
 use Rattle.report.specs.Lists.{most_expressions, list_refusal, sum_over}
 use Rattle.report.specs.Reports.{list_checks}
 use Rattle.promises.specs.Shortest.{colours_of}
@@ -42,7 +42,7 @@ voxels_told (Hit contact) = contact.voxels
 -- tells BLACK, summed over the expressions; the entries' sum is the total, and so is the sum of what the verdicts
 -- count; it is at most the voxels of the largest universe, as often as there may be expressions; and what stands behind
 -- the window's frames is what was there.
-pub record Tallied (u : Universe) (first last : ℕ) (row : List ℕ) (answer : Report) (after : List ℕ)
+pub record Tallied (u : Universe) (first last : ℕ) (row : List ℕ) (answer : ReportAnswer) (after : List ℕ)
     (expressions : List (List ℕ)) : Type 0 where
   pub frames : answer.frames ≡ window_length first last
   pub long : length after ≡ length row
@@ -55,7 +55,7 @@ pub record Tallied (u : Universe) (first last : ℕ) (row : List ℕ) (answer : 
   pub most : answer.total ≤ most_expressions * 2 ^ most_levels
 
 -- A report asked of the bytes s over frames first to last answered `answer`, and left `after` of the row that was lent.
-pub record Reported (u : Universe) (s : List ℕ) (first last : ℕ) (row : List ℕ) (answer : Report) (after : List ℕ) :
+pub record Reported (u : Universe) (s : List ℕ) (first last : ℕ) (row : List ℕ) (answer : ReportAnswer) (after : List ℕ) :
     Type 0 where
   -- its number is that of the first check that refuses: 2, 7, 9, and then 6
   pub number :

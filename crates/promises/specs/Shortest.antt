@@ -4,8 +4,7 @@ use Rattle.std.specs.Prelude.{ℕ, ◌≤◌, ◌<◌, ◌≡◌, List, length, 
 use Rattle.universe.specs.declared.Universe.{Universe}
 use Rattle.universe.specs.Voxel.{voxel_refusal}
 use Rattle.bintree.specs.declared.Colour.{Colour}
-use Rattle.bintree.specs.declared.Written.{Written}
-use Rattle.bintree.specs.declared.Merged.{Merged}
+use Rattle.bintree.specs.Told.{WrittenAnswer, MergedAnswer}
 use Rattle.bintree.specs.Answers.{well_formed_refusal}
 use Rattle.bintree.specs.Parts.{done_colour, colour_answer}
 
@@ -19,13 +18,13 @@ pub record Says (u : Universe) (colours : List ℕ → Colour) (y : List ℕ) : 
   pub coloured : (v : List ℕ) → voxel_refusal u v ≡ 0 → colour_answer u y v ≡ done_colour (colours v)
 
 -- of merging's answer, its number and its length
-abbrev pub writing_of : Merged → Written
+abbrev pub writing_of : MergedAnswer → WrittenAnswer
 writing_of answer = record { refusal = answer.refusal; length = answer.length }
 
 -- The call lent `out` answered `answer` and left `left` there. `colours` are those of what it is to write.
 pub record Shortest
     (u : Universe) (colours : List ℕ → Colour)
-    (out : List ℕ) (answer : Written) (left : List ℕ) : Type 0 where
+    (out : List ℕ) (answer : WrittenAnswer) (left : List ℕ) : Type 0 where
   -- what is written says the colours
   pub itself : answer.refusal ≡ 0 → Says u colours (take answer.length left)
   -- whatever says them has at least as many symbols as are written, or on 6 needed

@@ -4,7 +4,7 @@ use Rattle.std.specs.Prelude.{ℕ, ◌-◌, ◌≤◌, ◌≡◌, List, length, 
 use Rattle.universe.specs.declared.Universe.{Universe}
 use Rattle.universe.specs.Universe.{without_axis}
 use Rattle.bintree.specs.Answers.{well_formed_refusal}
-use Rattle.sweep.specs.declared.Swept.{Swept}
+use Rattle.sweep.specs.Told.{SweptAnswer}
 use Rattle.sweep.specs.Voxels.{Sweeps}
 use Rattle.sweep.specs.Answers.{swept_refusal}
 use Rattle.promises.specs.Shortest.{colours_of}
@@ -16,7 +16,7 @@ pub record SaysSwept (u : Universe) (s : List ℕ) (axis : ℕ) (below : Univers
 
 -- The call swept the bytes s along an axis, was lent `out`, answered `answer` and left `left` there.
 pub record SweptSpace
-    (u : Universe) (s : List ℕ) (axis : ℕ) (out : List ℕ) (answer : Swept) (left : List ℕ) : Type 0 where
+    (u : Universe) (s : List ℕ) (axis : ℕ) (out : List ℕ) (answer : SweptAnswer) (left : List ℕ) : Type 0 where
   -- whatever is refused, the room is as it was; and what is behind the symbols is, too
   pub kept : (answer.refusal ≡ 0 → ⊥) → left ≡ out
   pub behind : answer.refusal ≡ 0 → drop answer.length left ≡ drop answer.length out

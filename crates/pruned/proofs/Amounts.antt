@@ -34,20 +34,6 @@ module _ {rows : List ℤ} {row : ℕ} {table side : List ℕ} {left : ℕ} (job
   abbrev h : Halfspace
   h = row_at rows row
 
-  pub filled_none : {steps : List ℤ} → length steps ≡ most_levels →
-      Filled u h job.low left left steps (get_or side 0 0 ∷ get_or side 1 0 ∷ get_or side 2 0 ∷ get_or side 3 0 ∷ [])
-  filled_none e =
-      record {
-        standing = subst (λ (l : List ℕ). Standing u left job.low l) (sym (four side job.standing.side_places)) job.standing;
-        set_steps = record { places = e; amount = λ n p q. absurd (omega arith) };
-      }
-
-  pub filled_all : {steps : List ℤ} {sides : List ℕ} {n : ℕ} → Filled u h job.low n left steps sides → n ≤ 0 → Steps u h 0 left steps
-  filled_all f z = record { places = f.set_steps.places; amount = λ k p q. f.set_steps.amount k (omega arith) q }
-
-  pub first_fits : 5 * row + 1 < length rows
-  first_fits = omega (arith, job.named)
-
   module _ {steps : List ℤ} {sides : List ℕ} {n : ℕ} (f : Filled u h job.low n left steps sides) (some : 0 < n) where
     abbrev axis : ℕ
     axis = get_or table (n - 1) 0

@@ -11,14 +11,14 @@ use lib.IntN.{ℤ}
 use lib.ListN.{length}
 use Rattle.universe.specs.Lent.{room_refusal}
 use Rattle.universe.proofs.Lent.{room_enough, room_short, untouched}
-use Rattle.bintree.specs.declared.Written.{Written}
+use Rattle.bintree.specs.Told.{WrittenAnswer}
 use Rattle.bintree.specs.Answers.{written_answer, written_buffer}
-use Rattle.pruned.specs.declared.answer.Conversion.{Conversion}
+use Rattle.pruned.specs.Told.{ConversionAnswer}
 use Rattle.pruned.specs.Answers.{nodes_lent, refused_conversion, short_of_work, written_conversion, written_room, conversion_answer, conversion_room}
 
 -- ---- any conversion: these checks, this need, these symbols, these nodes
 module _ (before : ℕ) (work : List ℤ) (needed : ℕ) (out symbols : List ℕ) (looked : ℕ) where
-  abbrev answer : Conversion
+  abbrev answer : ConversionAnswer
   answer = conversion_answer before work needed out symbols looked
 
   abbrev left : List ℕ
@@ -46,7 +46,7 @@ module _ (before : ℕ) (work : List ℤ) (needed : ℕ) (out symbols : List ℕ
     left_written h = rw (z, room_enough (nodes_lent work) needed h)
 
   -- ---- a conversion that does not lack work room, beside the first: both end in too little room, or are done
-  abbrev first : Written
+  abbrev first : WrittenAnswer
   first = written_answer before out symbols
 
   abbrev first_left : List ℕ
@@ -67,26 +67,26 @@ module _ (before : ℕ) (work : List ℤ) (needed : ℕ) (out symbols : List ℕ
           let e = is_refused n in
           let r = ne_eqb before 0 n in
           record {
-            number = ap (λ (x : Conversion). x.refusal) e ∙ rw r;
-            long = ap (λ (x : Conversion). x.length) e ∙ rw r;
+            number = ap (λ (x : ConversionAnswer). x.refusal) e ∙ rw r;
+            long = ap (λ (x : ConversionAnswer). x.length) e ∙ rw r;
             room = left_refused n ∙ rw r (untouched symbols out n);
-            lack = ap (λ (x : Conversion). x.short_of_work) e;
+            lack = ap (λ (x : ConversionAnswer). x.short_of_work) e;
           }
       by (yes z) (yes k) =
           let e = is_written z (h z) in
           let m = room_enough (length out) (length symbols) k in
           record {
-            number = ap (λ (x : Conversion). x.refusal) e ∙ rw (z, m);
-            long = ap (λ (x : Conversion). x.length) e ∙ rw (z, m);
+            number = ap (λ (x : ConversionAnswer). x.refusal) e ∙ rw (z, m);
+            long = ap (λ (x : ConversionAnswer). x.length) e ∙ rw (z, m);
             room = left_written z (h z) ∙ rw (z, m);
-            lack = ap (λ (x : Conversion). x.short_of_work) e ∙ rw m;
+            lack = ap (λ (x : ConversionAnswer). x.short_of_work) e ∙ rw m;
           }
       by (yes z) (no k) =
           let e = is_written z (h z) in
           let m = room_short (length out) (length symbols) (omega arith) in
           record {
-            number = ap (λ (x : Conversion). x.refusal) e ∙ rw (z, m);
-            long = ap (λ (x : Conversion). x.length) e ∙ rw (z, m);
+            number = ap (λ (x : ConversionAnswer). x.refusal) e ∙ rw (z, m);
+            long = ap (λ (x : ConversionAnswer). x.length) e ∙ rw (z, m);
             room = left_written z (h z) ∙ rw (z, m);
-            lack = ap (λ (x : Conversion). x.short_of_work) e ∙ rw m;
+            lack = ap (λ (x : ConversionAnswer). x.short_of_work) e ∙ rw m;
           }

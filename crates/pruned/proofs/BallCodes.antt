@@ -29,41 +29,8 @@ held z = to_z w64 (of_z w64 z)
 
 -- ---- how far a place and a centre's number are apart
 module _ {x : ℕ} {c : ℤ} (p : BallPlace x) (s : DoubledCentre c) where
-  place_near : Near (to_z w64 x) (pos x) (2 * longest_side + 1)
-  place_near = near_cast x (2 * longest_side + 1) p.most tt
-
   centre_near : Near (held c) c (2 * centre_limit)
   centre_near = near (record { most = s.most }) tt
-
-  pub difference_near : Near (to_z w64 x -ℤ held c) (pos x -ℤ c) apart_limit
-  difference_near = near_sub {x = pos x} {y = c} place_near centre_near
-
-  pub turned_near : Near (pos 0 -ℤ held (to_z w64 x -ℤ held c)) (pos 0 -ℤ (pos x -ℤ c)) apart_limit
-  turned_near = near_sub {x = pos 0} {y = pos x -ℤ c} (near_lit (pos 0)) (near_back {x = pos x -ℤ c} difference_near tt)
-
-  same_difference : held (to_z w64 x -ℤ held c) ≡ pos x -ℤ c
-  same_difference = (near_back {x = pos x -ℤ c} difference_near tt).same
-
-  pub turned_cast : lt_z (held (to_z w64 x -ℤ held c)) (pos 0) ≡ true →
-      T (non_neg (held (pos 0 -ℤ held (to_z w64 x -ℤ held c)))) × Fits w64 (nat_abs (held (pos 0 -ℤ held (to_z w64 x -ℤ held c))))
-  turned_cast t =
-      let below : (pos x -ℤ c) <ℤ pos 0 = lt_z_true (pos x -ℤ c) (pos 0) (subst (λ (z : ℤ). lt_z z (pos 0) ≡ true) same_difference t) in
-      near_unsigned {x = pos 0 -ℤ (pos x -ℤ c)} (near_back {x = pos 0 -ℤ (pos x -ℤ c)} turned_near tt) tt
-      (le_by (ν 0) (ν 0 ⊖ ι (pos x -ℤ c)) (omega (arith, lt_of (ι (pos x -ℤ c)) (ν 0) below)))
-
-  pub turned_is : nat_abs (held (pos 0 -ℤ held (to_z w64 x -ℤ held c))) ≡ gap x c
-  turned_is =
-      ap nat_abs ((near_back {x = pos 0 -ℤ (pos x -ℤ c)} turned_near tt).same ∙ eq_by (ν 0 ⊖ ι (pos x -ℤ c)) (⊝ (ι (pos x -ℤ c))) (omega arith))
-      ∙ size_neg (pos x -ℤ c)
-
-  pub straight_cast : lt_z (held (to_z w64 x -ℤ held c)) (pos 0) ≡ false →
-      T (non_neg (held (to_z w64 x -ℤ held c))) × Fits w64 (nat_abs (held (to_z w64 x -ℤ held c)))
-  straight_cast t =
-      near_unsigned {x = pos x -ℤ c} (near_back {x = pos x -ℤ c} difference_near tt) tt
-      (lt_z_false (pos x -ℤ c) (pos 0) (subst (λ (z : ℤ). lt_z z (pos 0) ≡ false) same_difference t))
-
-  pub straight_is : nat_abs (held (to_z w64 x -ℤ held c)) ≡ gap x c
-  straight_is = ap nat_abs same_difference
 
   pub held_asks : DoubledCentre (held c)
   held_asks = rw centre_near.same s
@@ -71,39 +38,8 @@ module _ {x : ℕ} {c : ℤ} (p : BallPlace x) (s : DoubledCentre c) where
   pub gap_most : gap x c ≤ apart_limit
   gap_most = (near_sub {x = pos x} {y = c} (near_nat x (2 * longest_side + 1) p.most) (record { same = refl; size = s.most })).size
 
-  -- what a call handed over of it
-  pub gap_read : {d : ℕ} → d ≡ gap x (held c) → d ≡ gap x c
-  gap_read e = e ∙ ap (gap x) centre_near.same
-
 -- ---- the nearest point between two places, and the farther of them
 module _ {l h : ℕ} {c : ℤ} (p : BallPlace l) (o : BallPlace h) (s : DoubledCentre c) where
-  test_low : {t : Bool} → lt_z (held c) (to_z w64 l) ≡ t → lt_z c (pos l) ≡ t
-  test_low e = sym (ap₂ lt_z (centre_near p s).same (place_near p s).same) ∙ e
-
-  test_high : {t : Bool} → lt_z (to_z w64 h) (held c) ≡ t → lt_z (pos h) c ≡ t
-  test_high e = sym (ap₂ lt_z (place_near o s).same (centre_near o s).same) ∙ e
-
-  pub near_low : {d : ℕ} → lt_z (held c) (to_z w64 l) ≡ true → d ≡ gap l (held c) → d ≡ nearest l h c
-  unfolding nearest
-  near_low t e = rw (test_low t) (gap_read p s e)
-
-  pub near_high : {d : ℕ} → lt_z (held c) (to_z w64 l) ≡ false → lt_z (to_z w64 h) (held c) ≡ true → d ≡ gap h (held c) → d ≡ nearest l h c
-  unfolding nearest
-  near_high f t e = rw (test_low f, test_high t) (gap_read o s e)
-
-  pub near_none : lt_z (held c) (to_z w64 l) ≡ false → lt_z (to_z w64 h) (held c) ≡ false → 0 ≡ nearest l h c
-  unfolding nearest
-  near_none f t = rw (test_low f, test_high t) refl
-
-  module _ {d e : ℕ} (g : d ≡ gap l (held c)) (k : e ≡ gap h (held c)) where
-    pub far_high : d ≤ e → e ≡ farthest l h c
-    unfolding farthest
-    far_high t = rw (le-leb (gap l c) (gap h c) (omega (arith, gap_read p s g, gap_read o s k))) (gap_read o s k)
-
-    pub far_low : e < d → d ≡ farthest l h c
-    unfolding farthest
-    far_low t = rw (lt-leb (gap l c) (gap h c) (omega (arith, gap_read p s g, gap_read o s k))) (gap_read p s g)
-
   near_most : nearest l h c ≤ apart_limit
   unfolding nearest
   near_most = by (lt_z c (pos l)) (lt_z (pos h) c)
@@ -129,23 +65,8 @@ square_few : {d : ℕ} → d ≤ apart_limit → d * d ≤ square_limit
 square_few h = mul-le-mul h h
 
 module _ {ball : Ball} (small : SmallBall ball) where
-  radius_near : Near (held ball.radius) ball.radius radius_limit
-  radius_near = near (record { most = small.radius }) tt
-
-  pub radius_cast : T (non_neg (held ball.radius)) × Fits w64 (nat_abs (held ball.radius))
-  radius_cast = near_unsigned {x = ball.radius} radius_near tt small.positive
-
-  radius_same : nat_abs (held ball.radius) ≡ nat_abs ball.radius
-  radius_same = ap nat_abs radius_near.same
-
   radius_few : radius_squared ball ≤ radius_limit * radius_limit
   radius_few = mul-le-mul small.radius small.radius
-
-  pub radius_is : square (nat_abs (held ball.radius)) ≡ radius_squared ball
-  radius_is = ap square radius_same
-
-  pub radius_fits : Fits w64 (square (nat_abs (held ball.radius)))
-  radius_fits = record { fits = omega (arith, radius_is, radius_few) }
 
   pub radius_four : {most : ℕ} → most ≡ radius_squared ball → Fits w64 (4 * most)
   radius_four e = record { fits = omega (arith, radius_few) }

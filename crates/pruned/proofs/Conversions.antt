@@ -9,10 +9,13 @@ use mathlib.Core.Bool.{Bool, true, false, cond}
 use mathlib.Core.List.{List, [], ◌∷◌, ◌++◌, append-nil}
 use borrow.Author.Tests.{eq-eqb, ne_eqb}
 use lib.Dec.{eqb}
+use Rattle.std.specs.Prelude.{Result, Ok, Err}
 use lib.IntN.{ℤ}
 use lib.ListN.{length, replicate, length-append}
 use Rattle.universe.specs.declared.Universe.{Universe}
-use Rattle.universe.specs.declared.room.RoomAnswer.{RoomAnswer}
+use Rattle.universe.specs.declared.refusal.Refusal.{Refusal}
+use Rattle.universe.specs.Told.{number_of, RoomAnswer, room_told}
+use Rattle.universe.proofs.Telling.{number-not_zero}
 use Rattle.universe.specs.Universe.{most_axes, most_levels, universe_refusal, levels}
 use Rattle.universe.specs.Questions.{levels_answer}
 use Rattle.universe.specs.Refusals.{first_refusal}
@@ -35,7 +38,7 @@ use Rattle.convert.specs.Blocks.{Standing, trees_of, whole_sides}
 use Rattle.convert.specs.Shapes.{shaped}
 use Rattle.convert.specs.Answers.{one_tree_checks, one_tree_refusal, two_trees_checks, two_trees_refusal, raw_of_one, merged_of_one, raw_of_two, merged_of_two, written_of_two}
 use Rattle.convert.proofs.Blocks.{whole_standing}
-use Rattle.pruned.specs.declared.answer.Conversion.{Conversion}
+use Rattle.pruned.specs.Told.{ConversionAnswer}
 use Rattle.pruned.specs.Looked.{examine_all, nodes_looked}
 use Rattle.pruned.specs.Nodes.{postfix, all_postfix, Holds, OneOrTwo, one, two, most_shapes}
 use Rattle.pruned.specs.Laying.{SoundScene}
@@ -84,22 +87,22 @@ one_refusal u surfaces words = rw (black_accepted (named surfaces))
 
 -- ---- how a conversion ends
 module _ {refusal needed looked : ℕ} {work : List ℤ} {out written : List ℕ} where
-  pub converted_refused : {m : ℕ} → m ≡ refusal → (m ≡ 0 → ⊥) → {r : Conversion} → r ≡ refused_conversion m →
-      Converted refusal work needed out written looked r out work
+  pub converted_refused : (r : Refusal) → number_of r ≡ refusal →
+      Converted refusal work needed out written looked (refused_conversion (number_of r)) out work
   unfolding conversion_answer conversion_room
-  converted_refused {m} e h a =
-      let n = ne_eqb m 0 h in
-      rw (← e) (record { answer = a ∙ rw n; room = rw (n, n); kept = λ k. refl })
+  converted_refused r e =
+      let n = ne_eqb (number_of r) 0 (number-not_zero r) in
+      rw (← e) (record { answer = rw n; room = rw (n, n); kept = λ k. refl })
 
   module _ (z : refusal ≡ 0) where
-    pub converted_short : {n : ℕ} → n ≡ needed → nodes_lent work < n → {r : Conversion} → r ≡ short_of_work n →
-        Converted refusal work needed out written looked r out work
+    pub converted_short : {n : ℕ} → n ≡ needed → nodes_lent work < n →
+        Converted refusal work needed out written looked (short_of_work n) out work
     unfolding conversion_answer conversion_room
-    converted_short {n} e h a =
+    converted_short {n} e h =
         let s = room_short (nodes_lent work) needed (omega arith) in
-        record { answer = a ∙ rw (z, s, e); room = rw (z, s); kept = λ k. refl }
+        record { answer = rw (z, s, e); room = rw (z, s); kept = λ k. refl }
 
-    pub converted_ended : needed ≤ nodes_lent work → {r : Conversion} {out' : List ℕ} {work' : List ℤ} → Ended out written looked r out' →
+    pub converted_ended : needed ≤ nodes_lent work → {r : ConversionAnswer} {out' : List ℕ} {work' : List ℤ} → Ended out written looked r out' →
         Converted refusal work needed out written looked r out' work'
     unfolding conversion_answer conversion_room
     converted_ended h d =
@@ -115,10 +118,12 @@ module _ {u : Universe} {surfaces : Surfaces} (scene : SoundScene u surfaces) {s
   unfolding stands
   sources = record { universe = u; surfaces = surfaces; scene = scene; rows_are = refl; axes_are = refl; standing = stands }
 
--- the room question's answer
-pub room_told : (u : Universe) (x b : ℕ) {answer : RoomAnswer} → universe_refusal u ≡ 0 → answer ≡ room_answer u x b → answer.symbols ≡ room u x b
+-- the room question is answered with the room, and is not refused
+pub room_given : (u : Universe) (x b : ℕ) → universe_refusal u ≡ 0 → (a : Result ℕ Refusal) → room_told a ≡ room_answer u x b → a ≡ Ok (room u x b)
 unfolding room_answer
-room_told u x b z e = ap (λ (a : RoomAnswer). a.symbols) e ∙ rw (eq-eqb (universe_refusal u) 0 z)
+room_given u x b z (Ok r) e = ap Ok (ap (λ (a : RoomAnswer). a.symbols) e ∙ rw (eq-eqb (universe_refusal u) 0 z))
+room_given u x b z (Err r) e =
+    absurd (number-not_zero r (ap (λ (a : RoomAnswer). a.refusal) e ∙ rw (eq-eqb (universe_refusal u) 0 z)))
 
 -- trees that stand for one that is converted: room for it suffices, and its symbols are theirs
 module _ (u : Universe) {surfaces : Surfaces} {ps : List Plain} {t : Tree} (s : StandsFor surfaces ps t) where
@@ -185,7 +190,7 @@ module _ {u : Universe} {surfaces : Surfaces} {words : List ℕ} {work : List �
           suffices = omega (arith, one_in_room, a);
         }
 
-    pub one_ended : (m : Bool) (out : List ℕ) {r : Conversion} {out' : List ℕ} →
+    pub one_ended : (m : Bool) (out : List ℕ) {r : ConversionAnswer} {out' : List ℕ} →
         Ended out (symbols_of m u surfaces one_whole.trees) (nodes_looked u surfaces one_whole.trees) r out' →
         Ended out (written_of_one m u surfaces words) (nodes_looked u surfaces (one_tree surfaces words)) r out'
     unfolding one_whole written_of_one
@@ -264,9 +269,6 @@ module _ {u : Universe} {surfaces : Surfaces} {first second : List ℕ} {work : 
           (holds_same (λ k m n. f.below.same k (omega (arith, counted_first))) holds_first)
           (rw (at, append-nil (postfix plain_second)) holds_second)
 
-      abbrev both_trees_lem : Tree
-      both_trees_lem = trees_of surfaces first second
-
       two_in_room : size (examine_all surfaces (two_trees surfaces first second) (levels u) (whole_block u)) ≤ room u (x + y) (b + c)
       unfolding count_leaves
       two_in_room =
@@ -306,7 +308,7 @@ module _ {u : Universe} {surfaces : Surfaces} {first second : List ℕ} {work : 
             suffices = omega (arith, two_in_room, a);
           }
 
-      pub two_ended : (m : Bool) (out : List ℕ) {r : Conversion} {out' : List ℕ} →
+      pub two_ended : (m : Bool) (out : List ℕ) {r : ConversionAnswer} {out' : List ℕ} →
           Ended out (symbols_of m u surfaces two_whole.trees) (nodes_looked u surfaces two_whole.trees) r out' →
           Ended out (written_of_two m u surfaces first second) (nodes_looked u surfaces (two_trees surfaces first second)) r out'
       unfolding two_whole written_of_two
@@ -316,37 +318,30 @@ module _ {u : Universe} {surfaces : Surfaces} {first second : List ℕ} {work : 
 needed_few : {left words : ℕ} (u : Universe) → left ≡ levels_answer u → words ≤ 510 → (left + 1) * words ≤ suc most_levels * 510
 needed_few {left} u l h = let a : left + 1 ≤ suc most_levels = omega (arith, l, levels_answered u) in mul-le-mul a h
 
-module _ (u : Universe) (surfaces : Surfaces) (words : List ℕ) {n : ℕ} (e : n ≡ two_trees_refusal u surfaces words black_words) where
-  pub one_number : n ≡ one_tree_refusal u surfaces words
-  one_number = e ∙ one_refusal u surfaces words
+module _ (u : Universe) (surfaces : Surfaces) (words : List ℕ) (e : 0 ≡ two_trees_refusal u surfaces words black_words) where
+  pub one_zero : one_tree_refusal u surfaces words ≡ 0
+  one_zero = sym (e ∙ one_refusal u surfaces words)
 
-  module _ (z : n ≡ 0) where
-    pub one_zero : one_tree_refusal u surfaces words ≡ 0
-    one_zero = sym one_number ∙ z
+  abbrev checks : SoundScene u surfaces × ((tree_refusal (named surfaces) words ≡ 0) × (tree_refusal (named surfaces) black_words ≡ 0))
+  checks = all_accepted u surfaces words black_words (sym e)
 
-    abbrev checks : SoundScene u surfaces × ((tree_refusal (named surfaces) words ≡ 0) × (tree_refusal (named surfaces) black_words ≡ 0))
-    checks = all_accepted u surfaces words black_words (sym e ∙ z)
+  module _ {left : ℕ} (l : left ≡ levels_answer u) where
+    pub one_levels : left ≤ most_levels
+    one_levels = omega (arith, l, levels_answered u)
 
-    module _ {left : ℕ} (l : left ≡ levels_answer u) where
-      pub one_levels : left ≤ most_levels
-      one_levels = omega (arith, l, levels_answered u)
+    pub one_few : (left + 1) * length words ≤ suc most_levels * 510
+    one_few = needed_few u l (omega (arith, accepted_length (named surfaces) words checks.1.0))
 
-      pub one_few : (left + 1) * length words ≤ suc most_levels * 510
-      one_few = needed_few u l (omega (arith, accepted_length (named surfaces) words checks.1.0))
+    pub one_needed : (left + 1) * length words ≡ nodes_needed u (length words)
+    one_needed = ap (λ (k : ℕ). (k + 1) * length words) (levels_told u refl checks.0.accepted_universe l)
 
-      pub one_needed : (left + 1) * length words ≡ nodes_needed u (length words)
-      one_needed = ap (λ (k : ℕ). (k + 1) * length words) (levels_told u refl checks.0.accepted_universe l)
-
-      pub one_ready : {work : List ℤ} → (left + 1) * length words ≤ nodes_lent work → length work < 2 ^ 60 → OneReady u surfaces words work
-      one_ready h b = record { scene = checks.0; accepted = checks.1.0; enough = omega (arith, one_needed); bounded = b }
+    pub one_ready : {work : List ℤ} → (left + 1) * length words ≤ nodes_lent work → length work < 2 ^ 60 → OneReady u surfaces words work
+    one_ready h b = record { scene = checks.0; accepted = checks.1.0; enough = omega (arith, one_needed); bounded = b }
 
 -- of two
-module _ (u : Universe) (surfaces : Surfaces) (first second : List ℕ) {n : ℕ} (e : n ≡ two_trees_refusal u surfaces first second) (z : n ≡ 0) where
-  pub two_zero : two_trees_refusal u surfaces first second ≡ 0
-  two_zero = sym e ∙ z
-
+module _ (u : Universe) (surfaces : Surfaces) (first second : List ℕ) (e : 0 ≡ two_trees_refusal u surfaces first second) where
   abbrev checks₂ : SoundScene u surfaces × ((tree_refusal (named surfaces) first ≡ 0) × (tree_refusal (named surfaces) second ≡ 0))
-  checks₂ = all_accepted u surfaces first second two_zero
+  checks₂ = all_accepted u surfaces first second (sym e)
 
   pub two_words : length first + length second ≤ 510
   two_words = omega (arith, accepted_length (named surfaces) first checks₂.1.0, accepted_length (named surfaces) second checks₂.1.1)
@@ -368,37 +363,37 @@ module _ (u : Universe) (surfaces : Surfaces) (first second : List ℕ) {n : ℕ
 
 -- ---- the flag
 module _ (u : Universe) (surfaces : Surfaces) (words : List ℕ) (work : List ℤ) (out : List ℕ) where
-  abbrev OneEnds : Bool → Conversion → List ℕ → List ℤ → Type 0
+  abbrev OneEnds : Bool → ConversionAnswer → List ℕ → List ℤ → Type 0
   OneEnds m r out' work' = Converted (one_tree_refusal u surfaces words) work (nodes_needed u (length words)) out (written_of_one m u surfaces words)
       (nodes_looked u surfaces (one_tree surfaces words)) r out' work'
 
   abbrev KeptOne : List ℤ → Type 0
   KeptOne work' = (work_of_one u surfaces words work ≡ 0 → ⊥) → work' ≡ work
 
-  pub raw_one_lem : {r : Conversion} {out' : List ℕ} {work' : List ℤ} → OneEnds false r out' work' →
+  pub raw_one_lem : {r : ConversionAnswer} {out' : List ℕ} {work' : List ℤ} → OneEnds false r out' work' →
       (r ≡ raw_of_one_answer u surfaces words work out) × ((out' ≡ raw_of_one_buffer u surfaces words work out) × KeptOne work')
   unfolding raw_of_one_answer raw_of_one_buffer written_of_one raw_of_one shaped
   raw_one_lem c = (c.answer, (c.room, c.kept))
 
-  pub merged_one_lem : {r : Conversion} {out' : List ℕ} {work' : List ℤ} → OneEnds true r out' work' →
+  pub merged_one_lem : {r : ConversionAnswer} {out' : List ℕ} {work' : List ℤ} → OneEnds true r out' work' →
       (r ≡ merged_of_one_answer u surfaces words work out) × ((out' ≡ merged_of_one_buffer u surfaces words work out) × KeptOne work')
   unfolding merged_of_one_answer merged_of_one_buffer written_of_one merged_of_one shaped
   merged_one_lem c = (c.answer, (c.room, c.kept))
 
 module _ (u : Universe) (surfaces : Surfaces) (first second : List ℕ) (work : List ℤ) (out : List ℕ) where
-  abbrev TwoEnds : Bool → Conversion → List ℕ → List ℤ → Type 0
+  abbrev TwoEnds : Bool → ConversionAnswer → List ℕ → List ℤ → Type 0
   TwoEnds m r out' work' = Converted (two_trees_refusal u surfaces first second) work (nodes_needed u (length first + length second)) out
       (written_of_two m u surfaces first second) (nodes_looked u surfaces (two_trees surfaces first second)) r out' work'
 
   abbrev KeptTwo : List ℤ → Type 0
   KeptTwo work' = (work_of_two u surfaces first second work ≡ 0 → ⊥) → work' ≡ work
 
-  pub raw_two_lem : {r : Conversion} {out' : List ℕ} {work' : List ℤ} → TwoEnds false r out' work' →
+  pub raw_two_lem : {r : ConversionAnswer} {out' : List ℕ} {work' : List ℤ} → TwoEnds false r out' work' →
       (r ≡ raw_of_two_answer u surfaces first second work out) × ((out' ≡ raw_of_two_buffer u surfaces first second work out) × KeptTwo work')
   unfolding raw_of_two_answer raw_of_two_buffer written_of_two raw_of_two shaped
   raw_two_lem c = (c.answer, (c.room, c.kept))
 
-  pub merged_two : {r : Conversion} {out' : List ℕ} {work' : List ℤ} → TwoEnds true r out' work' →
+  pub merged_two : {r : ConversionAnswer} {out' : List ℕ} {work' : List ℤ} → TwoEnds true r out' work' →
       (r ≡ merged_of_two_answer u surfaces first second work out) × ((out' ≡ merged_of_two_buffer u surfaces first second work out) × KeptTwo work')
   unfolding merged_of_two_answer merged_of_two_buffer written_of_two merged_of_two shaped
   merged_two c = (c.answer, (c.room, c.kept))

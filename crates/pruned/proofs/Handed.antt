@@ -32,10 +32,6 @@ use Rattle.pruned.proofs.Reading.{length_all}
 use Rattle.pruned.proofs.Steps.{ok, rows_few, balls_few, rows_small, standing_small}
 use Rattle.pruned.proofs.Laying.{halves_size}
 
--- ---- a code is that of a side
-pub side_code : {code n : ℕ} → code ≡ n → leb first_side code ≡ true → first_side ≤ n
-side_code {code} e t = rw (← e) (leb-true first_side code t)
-
 -- ---- one node is that of a leaf
 pub record OneLeaf (surfaces : Surfaces) (b : Block) (work : List ℤ) (from : ℕ) (ps : List Plain) : Type 0 where
   pub tree : Plain
@@ -244,9 +240,6 @@ module _ {rows : List ℤ} {table side : List ℕ} {left : ℕ} {work : List ℤ
     row_named : row < row_count rows
     row_named = rw row_is told.2
 
-    pub code_from : 512 ≤ code
-    code_from = rw c job.is_side.from
-
     pub steps_asked : StepsJob rows row table side left
     steps_asked =
         record {
@@ -335,9 +328,6 @@ module _ {axes : ℕ} {balls : List ℤ} {table low side : List ℕ} {left : ℕ
   module _ {code : ℕ} (c : code ≡ nat_abs (number_at work (3 * from))) where
     abbrev i : ℕ
     i = (code - first_ball_side) / 2
-
-    pub ball_from : first_ball_side ≤ code
-    ball_from = rw c job.is_ball
 
     index_is : i ≡ told₁.1
     index_is = ap (λ (k : ℕ). (k - first_ball_side) / 2) (c ∙ code_is₁) ∙ told₁.5

@@ -572,9 +572,6 @@ module _ {surfaces : Surfaces} {axes : ℕ} {table low side : List ℕ} {left : 
       end_is : packed₂ / 256 ≡ packed₁ / 256 + size (shaped m highest)
       end_is = (unpacked (packed₁ / 256) (shaped m highest) piece₂).0
 
-      pub bytes : (packed₁ % 256 < 256) × (packed₂ % 256 < 256)
-      bytes = (omega arith, omega arith)
-
       pub join_asks : (at + 1 < end_limit) × (packed₂ / 256 < end_limit)
       join_asks = (
         omega (arith, job.fits),

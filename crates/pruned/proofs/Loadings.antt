@@ -177,13 +177,7 @@ module _ {work : List ℤ} {start at word : ℕ} (job : Joining work start at wo
       Holds job.surfaces job.block after start (ns ++ (joining meet ∷ []))
   behind {now} meet ns h e l a = rw a (holds_more ns (joining meet) h (omega (arith, job.ends)) (omega (arith, job.inside)))
 
-  pub storable : {now : List ℤ} {code : ℕ} → length now ≡ length work → code < code_limit → Storable now at code (pos 0) (pos 0)
-  storable l h = record { inside = omega (arith, job.inside); small = h; small_low = zero_small; small_high = zero_small }
-
   module _ (minus : word ≡ 4) {now : List ℤ} (t : Turned turning_asks now) where
-    pub turned_storable : Storable now at 6 (pos 0) (pos 0)
-    turned_storable = storable t.long (omega arith)
-
     pub joined_turned : {after : List ℤ} → after ≡ stored now at (pos 6) (pos 0) (pos 0) → Joined job after
     unfolding turning_asks
     joined_turned {after} a =
@@ -199,9 +193,6 @@ module _ {work : List ℤ} {start at word : ℕ} (job : Joining work start at wo
   module _ (other : word ≡ 4 → ⊥) where
     code_of : node_code (joining (meets word)) ≡ 2 * word
     code_of = operator_code word word_few.0 (omega (arith, other, word_few.1))
-
-    pub plain_storable : Storable work at (2 * word) (pos 0) (pos 0)
-    plain_storable = storable refl (omega (arith, word_few.1))
 
     pub joined_plain : {after : List ℤ} → after ≡ stored work at (pos (2 * word)) (pos 0) (pos 0) → Joined job after
     joined_plain {after} a =
@@ -271,28 +262,6 @@ module _ {axes : ℕ} {rows : List ℤ} {sides : List ℕ} (from : Sources axes 
       by v (a_ball a h k) = rw (above_ball v a) (zero_small, zero_small)
 
 module _ {axes : ℕ} {rows : List ℤ} {sides : List ℕ} {word : ℕ} (job : LeafWord axes rows sides word) where
-  pub values_constant : word < first_halfspace → LeafValues job (pos 0) (pos 0)
-  values_constant h = by word refl
-    where
-      by : (w : ℕ) → word ≡ w → LeafValues job (pos 0) (pos 0)
-      by zero e = record { least_is = rw e; greatest_is = rw e }
-      by (suc zero) e = record { least_is = rw e; greatest_is = rw e }
-      by (suc (suc w)) e = no (leaf_names (names job.sources) word job.leaf (omega arith))
-        where
-          no : Names (names job.sources) word → LeafValues job (pos 0) (pos 0)
-          no (a_halfspace a b k) = absurd (omega arith)
-          no (a_ball a b k) = absurd (omega arith)
-
-  pub values_ball : first_ball ≤ word → LeafValues job (pos 0) (pos 0)
-  values_ball h = record {
-    least_is = rw (leaf_surface word (omega arith), above_ball word h);
-    greatest_is = rw (
-      leaf_surface word
-          (omega arith),
-      above_ball word h,
-    );
-  }
-
   module _ (a : first_halfspace ≤ word) (b : word < first_ball) where
     row_there : word - first_halfspace < row_count job.sources.surfaces.rows
     row_there = by (leaf_names (names job.sources) word job.leaf (omega arith))

@@ -21,15 +21,7 @@ use Rattle.pruned.proofs.Moving.{held, extreme_near}
 pub code_held : {x : ℤ} {k : ℕ} → x ≡ pos k → k < code_limit → held x ≡ pos k
 code_held {x} {k} e h = ap held e ∙ (near {x = pos k} {b = code_limit} (record { most = omega arith }) tt).same
 
-pub code_cast : {work : List ℤ} {at : ℕ} → CodeAt work at → T (non_neg (held (number_at work (3 * at)))) × Fits w64 (nat_abs (held (number_at work (3 * at))))
-code_cast r = rw (code_held r.is r.small) (tt, record { fits = omega (arith, r.small) })
-
 -- ---- a store of a node
-pub stored_is : {work : List ℤ} {at code : ℕ} {low high : ℤ} → Storable work at code low high →
-    set (set (set work (3 * at) (to_z w64 code)) (3 * at + 1) (held low)) (3 * at + 2) (held high) ≡ stored work at (pos code) low high
-stored_is {code = code} s =
-    rw ((near_cast code code_limit (omega (arith, s.small)) tt).same, (extreme_near s.small_low).same, (extreme_near s.small_high).same)
-
 module _ (work : List ℤ) (at : ℕ) (c l h : ℤ) where
   pub stored_long : length (stored work at c l h) ≡ length work
   stored_long = simp length-set

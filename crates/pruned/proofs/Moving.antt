@@ -1,14 +1,16 @@
 -- What the machine computes of a halfspace's least and greatest value over a half. The amount, a coefficient times half a length, is small, as a product or
 -- shifted; where it is not negative all of it rises and nothing falls, else the other way round.
-use Prim.Native.Nat.{ℕ, ◌+◌, ◌*◌, ◌^◌, ◌≤◌, ◌<◌}
+use Prim.Native.Nat.{ℕ, zero, suc, ◌+◌, ◌*◌, ◌^◌, ◌≤◌, ◌<◌}
 use mathlib.Core.Path.{◌≡◌, refl, sym, ap, ◌∙◌}
 use mathlib.Core.Bool.{Bool, true, false, cond}
 use native.Mathlib.Omega.{arith}
+use borrow.Author.Tests.{lt-ltb, le-leb}
 use lib.Dec.{lit≤}
-use lib.IntN.{ℤ, pos, nat_abs, ◌+ℤ◌, ◌-ℤ◌, ◌*ℤ◌}
+use lib.IntN.{ℤ, pos, negsuc, nat_abs, ◌+ℤ◌, ◌-ℤ◌, ◌*ℤ◌}
 use lib.Signed.{le_z}
 use mir.Syntax.{w64}
 use mir.Val.{SFits, to_z, of_z}
+use Rattle.std.specs.Int.{int_min}
 use Rattle.lemmas.proofs.Machine.{Near, near, near_cast, near_lit, near_add, near_sub, near_mul, near_back, near_fits}
 use Rattle.lemmas.proofs.Whole.{up, dn, one_part, Is, is_nat, is_self, is_add, is_sub, is_mul, is_eq, le_is, lt_is, le_z_true, le_z_false}
 use Rattle.universe.specs.Universe.{coefficient_limit, longest_side}
@@ -82,9 +84,6 @@ module _ {a : ℤ} {half : ℕ} (sa : SmallCoefficient a) (sh : SmallPlace half)
   amount_near : Near (held a *ℤ to_z w64 half) (a *ℤ pos half) amount_limit
   amount_near = near_mul {x = a} {y = pos half} (near (record { most = sa.most }) tt) (near_cast half longest_side sh.most tt)
 
-  pub amount_fits : SFits w64 (held a *ℤ to_z w64 half)
-  amount_fits = near_fits {x = a *ℤ pos half} amount_near tt
-
   pub amount_held : held (held a *ℤ to_z w64 half) ≡ a *ℤ pos half
   amount_held = (near_back {x = a *ℤ pos half} amount_near tt).same
 
@@ -113,9 +112,6 @@ module _ {a : ℤ} {half : ℕ} (sa : SmallCoefficient a) (sh : SmallPlace half)
 module _ {a : ℤ} {times : ℕ} (sa : SmallCoefficient a) (sh : SmallPlace (doubled times)) (few : times < 64) where
   length_is : doubled times ≡ 2 ^ times
   length_is = doubled_few few
-
-  pub shift_asks : SmallCoefficient (held a) × ((times < 64) × SmallPlace (2 ^ times))
-  shift_asks = (rw (near (record { most = sa.most }) tt).same sa, (few, rw length_is at sh))
 
   module _ {m : ℤ} (told : m ≡ held a *ℤ pos (2 ^ times)) where
     m_is : m ≡ a *ℤ pos (doubled times)
@@ -172,29 +168,8 @@ module _ {m : ℤ} (sm : SmallAmount m) where
   by_near : Near (held m) m amount_limit
   by_near = near (record { most = sm.most }) tt
 
-  test_is : {t : Bool} → le_z (pos 0) (held m) ≡ t → le_z (pos 0) m ≡ t
-  test_is e = rw by_near.same at e
-
-  pub falls_nothing : le_z (pos 0) (held m) ≡ true → pos 0 ≡ lesser (pos 0) m
-  falls_nothing t = rw (test_is t)
-
-  pub falls_whole : le_z (pos 0) (held m) ≡ false → held m ≡ lesser (pos 0) m
-  falls_whole t = rw (test_is t) by_near.same
-
-  pub held_small : SmallAmount (held m)
-  held_small = rw by_near.same sm
-
   opposite_near : Near (pos 0 -ℤ held m) (pos 0 -ℤ m) amount_limit
   opposite_near = near_sub {x = pos 0} {y = m} (near_lit (pos 0)) by_near
-
-  pub opposite_fits : SFits w64 (pos 0 -ℤ held m)
-  opposite_fits = near_fits {x = pos 0 -ℤ m} opposite_near tt
-
-  pub towards_high : {high : Bool} → high ≡ true → held m ≡ moved_towards high m
-  towards_high h = rw h by_near.same
-
-  pub towards_low : {high : Bool} → high ≡ false → held (pos 0 -ℤ held m) ≡ moved_towards high m
-  towards_low h = rw h (near_back {x = pos 0 -ℤ m} opposite_near tt).same
 
   towards_size : (high : Bool) → nat_abs (moved_towards high m) ≤ amount_limit
   towards_size true = sm.most
@@ -206,6 +181,12 @@ module _ {m : ℤ} (sm : SmallAmount m) where
       by : (t : Bool) → nat_abs (cond t (pos 0) m) ≤ amount_limit
       by true = omega arith
       by false = sm.most
+
+-- what falls of an amount, as the lesser of it and of nothing
+pub min_lesser : (m : ℤ) → int_min m (pos 0) ≡ lesser (pos 0) m
+min_lesser (pos zero) = refl
+min_lesser (pos (suc n)) = rw (lt-ltb 0 (suc n) (omega arith), le-leb 0 (suc n) (omega arith))
+min_lesser (negsuc n) = refl
 
 -- the values moved
 module _ {m x y s : ℤ} (high : Bool) (sm : SmallAmount m) (sx : SmallExtreme x) (sy : SmallExtreme y) (se : s ≡ moved_towards high (held m)) where
@@ -258,14 +239,6 @@ module _ {m x y s : ℤ} (high : Bool) (sm : SmallAmount m) (sx : SmallExtreme x
 module _ {x y : ℤ} (sx : SmallExtreme x) (sy : SmallExtreme y) where
   total_near : Near (held x +ℤ held y) (x +ℤ y) (extreme_limit + extreme_limit)
   total_near = near_add {x = x} {y = y} (extreme_near sx) (extreme_near sy)
-
-  pub total_fits : SFits w64 (held x +ℤ held y)
-  total_fits = near_fits {x = x +ℤ y} total_near tt
-
-  pub centre_code : {centre t : Bool} → centre ≡ true → le_z (pos 0) (held (held x +ℤ held y)) ≡ t → tested_code t true ≡ value_code centre x y
-  centre_code h e =
-      let p : le_z (pos 0) (x +ℤ y) ≡ _ = rw (near_back {x = x +ℤ y} total_near tt).same at e in
-      rw (h, p)
 
   pub block_code : {centre s t : Bool} → centre ≡ false → le_z (pos 0) (held x) ≡ s → le_z (held y) (pos 0) ≡ t → tested_code s t ≡ value_code centre x y
   block_code h e f =

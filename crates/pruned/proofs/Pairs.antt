@@ -41,12 +41,6 @@ use Rattle.pruned.proofs.Reading.{Reads, join_code_lem, last_first, reads_all}
 use Rattle.pruned.proofs.Stacks.{stack_of, length_stack, stack_push, stack_two, stack_joined}
 
 -- ---- digits
-pub pair_few : (a b : Bool) → pair_of a b ≤ 3
-pair_few true true = omega arith
-pair_few true false = omega arith
-pair_few false true = omega arith
-pair_few false false = omega arith
-
 pub digits_turned : (turned a b : Bool) → turned_pair turned (pair_of a b) ≡ pair_of (turned_black turned a) (turned_black turned b)
 digits_turned true true true = refl
 digits_turned true true false = refl
@@ -112,19 +106,6 @@ black_joined false (still p) (settled White) = refl
 black_joined false (still p) (settled Black) = refl
 black_joined false (still p) (still q) = refl
 
--- the digits of a pair, one by one
-pub pair_below : (a b : Bool) → pair_of a b % 2 ≡ bit_of a
-pair_below true true = refl
-pair_below true false = refl
-pair_below false true = refl
-pair_below false false = refl
-
-pub pair_above : (a b : Bool) → pair_of a b / 2 ≡ bit_of b
-pair_above true true = refl
-pair_above true false = refl
-pair_above false true = refl
-pair_above false false = refl
-
 -- ---- a halfspace by its values
 low_sum : (a x y : ℤ) → moved_least false a 1 x +ℤ moved_greatest false a 1 y ≡ (x +ℤ y) -ℤ a
 low_sum a x y =
@@ -150,12 +131,6 @@ module _ {a x y : ℤ} (sa : SmallCoefficient a) (sx : SmallExtreme x) (sy : Sma
   more_near : Near (held (held x +ℤ held y) +ℤ held a) ((x +ℤ y) +ℤ a) (extreme_limit + extreme_limit + coefficient_limit)
   more_near = near_add {x = x +ℤ y} {y = a} sum_back coefficient_near
 
-  pub row_fits : SFits w64 (held x +ℤ held y) × (SFits w64 (held (held x +ℤ held y) -ℤ held a) × SFits w64 (held (held x +ℤ held y) +ℤ held a))
-  row_fits = (
-    near_fits {x = x +ℤ y} sum_near tt,
-    (near_fits {x = (x +ℤ y) -ℤ a} less_near tt, near_fits {x = (x +ℤ y) +ℤ a} more_near tt),
-  )
-
   pub row_pair : pair_of (le_z (pos 0) (held (held (held x +ℤ held y) -ℤ held a))) (le_z (pos 0) (held (held (held x +ℤ held y) +ℤ held a)))
       ≡ pair_of (le_z (pos 0) ((x +ℤ y) -ℤ a)) (le_z (pos 0) ((x +ℤ y) +ℤ a))
   row_pair = rw ((near_back {x = (x +ℤ y) -ℤ a} less_near tt).same, (near_back {x = (x +ℤ y) +ℤ a} more_near tt).same)
@@ -164,18 +139,6 @@ module _ {a x y : ℤ} (sa : SmallCoefficient a) (sx : SmallExtreme x) (sy : Sma
 module _ {places i : ℕ} {balls : List ℤ} {low : List ℕ} (ready : BallReady places balls i low) (long : length low ≡ most_axes) (axis : ℕ) where
   abbrev copied : List ℕ
   copied = get_or low 0 0 ∷ get_or low 1 0 ∷ get_or low 2 0 ∷ get_or low 3 0 ∷ []
-
-  pub next_fits : get_or copied axis 0 + 1 < 2 ^ 64
-  next_fits = subst (λ (l : List ℕ). get_or l axis 0 + 1 < 2 ^ 64) (sym (four low long)) (omega (arith, (ready.lows.place axis).most))
-
-  pub next_ready : BallReady places balls i (next_places low axis) → BallReady places balls i (next_places copied axis)
-  next_ready r = subst (λ (l : List ℕ). BallReady places balls i (next_places l axis)) (sym (four low long)) r
-
-  pub balls_pair : {a b r : ℕ} → a ≡ ball_code_at places (ball_at balls i) low → b ≡ ball_code_at places (ball_at balls i) (next_places copied axis) →
-      r ≡ pair_of (eqb a 1) (eqb b 1) →
-      r ≡ pair_of (is_black (ball_code_at places (ball_at balls i) low)) (is_black (ball_code_at places (ball_at balls i) (next_places low axis)))
-  balls_pair p q e =
-      e ∙ ap₂ pair_of (ap is_black p) (ap is_black (q ∙ ap (λ (l : List ℕ). ball_code_at places (ball_at balls i) (next_places l axis)) (four low long)))
 
 -- ---- a leaf's node
 module _ {surfaces : Surfaces} {axes : ℕ} {low : List ℕ} {axis code : ℕ} {x y : ℤ} (job : PairLeaf surfaces axes low axis code x y) where
@@ -220,10 +183,6 @@ module _ {surfaces : Surfaces} {axes : ℕ} {low : List ℕ} {axis code : ℕ} {
         let a = moved_asks s₁ job.tree job.leaf job.stands job.code_is job.least_is job.greatest_is from upto in
         (a.0, a.1.1)
 
-    pub row_few : {pair : ℕ} →
-        pair ≡ pair_of (le_z (pos 0) ((held x +ℤ held y) -ℤ coefficient)) (le_z (pos 0) ((held x +ℤ held y) +ℤ coefficient)) → pair ≤ 3
-    row_few e = rw e (pair_few (le_z (pos 0) ((held x +ℤ held y) -ℤ coefficient)) (le_z (pos 0) ((held x +ℤ held y) +ℤ coefficient)))
-
     pub row_leaf_pair : {pair r : ℕ} →
         pair ≡ pair_of (le_z (pos 0) ((held x +ℤ held y) -ℤ coefficient)) (le_z (pos 0) ((held x +ℤ held y) +ℤ coefficient)) →
         r ≡ turned_pair (eqb (code % 2) 1) pair → r ≡ leaf_pair job
@@ -255,11 +214,6 @@ module _ {surfaces : Surfaces} {axes : ℕ} {low : List ℕ} {axis code : ℕ} {
     abbrev ball_pair : ℕ
     ball_pair = pair_of (is_black (ball_code_at (axes - 1) (ball_at surfaces.balls index) low))
         (is_black (ball_code_at (axes - 1) (ball_at surfaces.balls index) (next_places low axis)))
-
-    pub ball_few : {pair : ℕ} → pair ≡ ball_pair → pair ≤ 3
-    ball_few e =
-        rw e (pair_few (is_black (ball_code_at (axes - 1) (ball_at surfaces.balls index) low))
-        (is_black (ball_code_at (axes - 1) (ball_at surfaces.balls index) (next_places low axis))))
 
     pub ball_leaf_pair : {pair r : ℕ} →
         pair ≡ ball_pair → r ≡ turned_pair (eqb (code % 2) 1) pair → r ≡ leaf_pair job
@@ -309,24 +263,6 @@ module _ {surfaces : Surfaces} {axes : ℕ} {low : List ℕ} {axis : ℕ} (step 
       ≡ pair_of (is_black (bits_of (all_mark_by (marks_of step.below) (p ∷ q ∷ [])))) (is_black (bits_of (all_mark_by (marks_of step.above) (p ∷ q ∷ []))))
   two_pair p q = digits_joined true (low_black p) (high_black p) (low_black q) (high_black q)
       ∙ ap₂ pair_of (two_black (marks_of step.below) p q) (two_black (marks_of step.above) p q)
-
--- ---- the symbols of both voxels, laid and joined
-module _ {surfaces : Surfaces} {axes : ℕ} {low : List ℕ} {axis : ℕ} {work : List ℤ} {from count : ℕ}
-    (job : PairTrees surfaces axes low axis work from count) {pair s₁ s₂ : ℕ} (e : pair ≡ trees_pair job) (p : s₁ ≡ symbol_of_bits (pair % 2))
-    (q : s₂ ≡ symbol_of_bits (pair / 2)) where
-  below_told : s₁ ≡ below_symbol job
-  below_told = p ∙ ap symbol_of_bits (ap (λ (x : ℕ). x % 2) e ∙ pair_below (below_black job) (above_black job))
-
-  above_told : s₂ ≡ above_symbol job
-  above_told = q ∙ ap symbol_of_bits (ap (λ (x : ℕ). x / 2) e ∙ pair_above (below_black job) (above_black job))
-
-  pub pair_packed : (m : Bool) (at : ℕ) {r : ℕ} → r ≡ joined_packed m at s₁ s₂ (at + 3) →
-      r ≡ joined_packed m at (below_symbol job) (above_symbol job) (at + 3)
-  pair_packed m at f = f ∙ ap₂ (λ (x y : ℕ). joined_packed m at x y (at + 3)) below_told above_told
-
-  pub pair_out : (m : Bool) (out : List ℕ) (at : ℕ) {out₁ : List ℕ} → out₁ ≡ joined_out m out at s₁ (at + 2) s₂ →
-      out₁ ≡ joined_out m out at (below_symbol job) (at + 2) (above_symbol job)
-  pair_out m out at f = f ∙ ap₂ (λ (x y : ℕ). joined_out m out at x (at + 2) y) below_told above_told
 
 -- ---- the pass over the nodes
 module _ {surfaces : Surfaces} {axes : ℕ} {low : List ℕ} {axis : ℕ} {work : List ℤ} {from count : ℕ} where

@@ -6,7 +6,6 @@ use mathlib.Core.Bool.{true}
 use mathlib.Core.List.{List}
 use native.Mathlib.Omega.{arith}
 use native.Mathlib.Nat.{mul-le-mul}
-use lib.Dec.{lit<}
 use lib.IntN.{ℤ, pos, nat_abs, ◌+ℤ◌}
 use lib.ListN.{get_or}
 use Rattle.lemmas.specs.Sums.{sum}
@@ -97,24 +96,9 @@ module _ {axes : ℕ} {rows : List ℤ} {i : ℕ} {side : List ℕ} (ready : Who
   abbrev next : ℕ → Extremes → Extremes
   next n s = widened s (held (h.coefficient n)) (sides n)
 
-  goes_on : {s r : Extremes} (n : ℕ) → n < most_axes → s ≡ at n → r ≡ next n s → r ≡ at (suc n)
+  pub goes_on : {s r : Extremes} (n : ℕ) → n < most_axes → s ≡ at n → r ≡ next n s → r ≡ at (suc n)
   unfolding whole_extremes
   goes_on n l e f = f ∙ rw (e, coefficient n l)
-
-  module _ {r₁ : Extremes} (e₁ : r₁ ≡ next 0 first) where
-    pub one : r₁ ≡ at 1
-    one = goes_on 0 (lit< tt) starts e₁
-
-    module _ {r₂ : Extremes} (e₂ : r₂ ≡ next 1 r₁) where
-      pub two : r₂ ≡ at 2
-      two = goes_on 1 (lit< tt) one e₂
-
-      module _ {r₃ : Extremes} (e₃ : r₃ ≡ next 2 r₂) where
-        pub three : r₃ ≡ at 3
-        three = goes_on 2 (lit< tt) two e₃
-
-        pub four : {r₄ : Extremes} → r₄ ≡ next 3 r₃ → r₄ ≡ at 4
-        four e₄ = goes_on 3 (lit< tt) three e₄
 
   -- over a block that begins at 0 and has these sides they are the least and the greatest
   module _ (b : Block) (same-axes : axes ≡ axes_of b) (begins : (j : ℕ) → j < axes_of b → low_along b j ≡ 0)

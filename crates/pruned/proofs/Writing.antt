@@ -33,7 +33,7 @@ use Rattle.convert.specs.Blocks.{Standing, block_left}
 use Rattle.convert.specs.Shapes.{shaped, symbol_of_bits, end_limit}
 use Rattle.convert.proofs.Blocks.{whole_is}
 use Rattle.convert.proofs.Shapes.{shaped_leaf, shaped_size}
-use Rattle.pruned.specs.declared.answer.Conversion.{Conversion}
+use Rattle.pruned.specs.Told.{ConversionAnswer}
 use Rattle.pruned.specs.Left.{all_nodes}
 use Rattle.pruned.specs.Looked.{examine_all, looked_at, nodes_looked, looked_from}
 use Rattle.pruned.specs.Nodes.{all_postfix, Holds, SameBelow, Pruned}
@@ -49,31 +49,31 @@ use Rattle.pruned.proofs.Laying.{unpacked, Judgement, one_leaf, unsettled, block
 
 -- ---- how a conversion ends that lacks no work room
 module _ {out symbols : List ℕ} {looked k : ℕ} (e : k ≡ length symbols) where
-  pub ended_short : length out < k → {r : Conversion} → r ≡ short_of_symbols k → Ended out symbols looked r out
+  pub ended_short : length out < k → Ended out symbols looked (short_of_symbols k) out
   unfolding written_conversion written_room
-  ended_short h a =
+  ended_short h =
       record {
-        answer = a ∙ rw (room_short (length out) (length symbols) (omega arith), e);
+        answer = rw (room_short (length out) (length symbols) (omega arith), e);
         room = untouched symbols out (λ z. omega (arith, room_short (length out) (length symbols) (omega arith)));
       }
 
-  pub ended_done : k ≤ length out → {out' : List ℕ} → out' ≡ sets out 0 symbols → {l : ℕ} → l ≡ looked → {r : Conversion} → r ≡ done_conversion k l →
-      Ended out symbols looked r out'
+  pub ended_done : k ≤ length out → {out' : List ℕ} → out' ≡ sets out 0 symbols → {l : ℕ} → l ≡ looked →
+      Ended out symbols looked (done_conversion k l) out'
   unfolding written_conversion written_room
-  ended_done h f m a =
+  ended_done h f m =
       let z = room_enough (length out) (length symbols) (omega arith) in
       record {
-        answer = a ∙ rw (z, e, m);
+        answer = rw (z, e, m);
         room = f ∙ sets_first symbols out (omega arith) ∙ written symbols out z refl;
       }
 
 -- the one symbol of a leaf
 module _ {out : List ℕ} {symbol looked : ℕ} where
-  pub symbol_short : length out < 1 → {r : Conversion} → r ≡ short_of_symbols 1 → Ended out (symbol ∷ []) looked r out
-  symbol_short h a = ended_short refl h a
+  pub symbol_short : length out < 1 → Ended out (symbol ∷ []) looked (short_of_symbols 1) out
+  symbol_short h = ended_short refl h
 
-  pub symbol_done : 1 ≤ length out → {r : Conversion} → r ≡ done_conversion 1 looked → Ended out (symbol ∷ []) looked r (set out 0 symbol)
-  symbol_done h a = ended_done refl h refl refl a
+  pub symbol_done : 1 ≤ length out → Ended out (symbol ∷ []) looked (done_conversion 1 looked) (set out 0 symbol)
+  symbol_done h = ended_done refl h refl refl
 
 -- ---- both halves, from the room's front on
 module _ {surfaces : Surfaces} {axes : ℕ} {table low side : List ℕ} {left : ℕ} {work : List ℤ} {from count : ℕ} {looked : List ℕ}
@@ -103,10 +103,9 @@ module _ {surfaces : Surfaces} {axes : ℕ} {table low side : List ℕ} {left : 
 
   -- written at once
   pub open_once : room ≤ length out → {k : ℕ} {out' looked' low' side' : List ℕ} {work' : List ℤ} →
-      HalvesWritten job.halves m out k out' looked' low' side' work' → {r : Conversion} → r ≡ done_conversion k (get_or looked' 0 0) →
-      Ended out written' total r out'
-  open_once h w a =
-      ended_done w.long_is (omega (arith, job.suffices m, w.long_is)) w.room (ap (λ (l : List ℕ). get_or l 0 0) w.counted) a
+      HalvesWritten job.halves m out k out' looked' low' side' work' → Ended out written' total (done_conversion k (get_or looked' 0 0)) out'
+  open_once h w =
+      ended_done w.long_is (omega (arith, job.suffices m, w.long_is)) w.room (ap (λ (l : List ℕ). get_or l 0 0) w.counted)
 
 -- written into scratch room first, or measured with none
 module _ {surfaces : Surfaces} {axes : ℕ} {table low side : List ℕ} {left : ℕ} {work : List ℤ} {count before : ℕ}
@@ -118,8 +117,8 @@ module _ {surfaces : Surfaces} {axes : ℕ} {table low side : List ℕ} {left : 
   in_all = before + looked_in job
 
   module _ {scratch scratch' looked' low' side' : List ℕ} {k : ℕ} {work' : List ℤ} (w : HalvesWritten job m scratch k scratch' looked' low' side' work') where
-    pub through_short : length out < k → {r : Conversion} → r ≡ short_of_symbols k → Ended out laid_out in_all r out
-    through_short h a = ended_short w.long_is h a
+    pub through_short : length out < k → Ended out laid_out in_all (short_of_symbols k) out
+    through_short h = ended_short w.long_is h
 
     abbrev Again : List ℕ → List ℕ → Type 0
     Again lows sides = HalvesJob surfaces axes table lows sides left work' 0 count (before ∷ []) 0
@@ -149,25 +148,25 @@ module _ {surfaces : Surfaces} {axes : ℕ} {table low side : List ℕ} {left : 
     through_again = rw (w.lows, w.sides) again_exact
 
     pub through_twice : k ≤ length out → {k₂ : ℕ} {out' looked₂ low₂ side₂ : List ℕ} {work₂ : List ℤ} →
-        ((j : Again low' side') → HalvesWritten j m out k₂ out' looked₂ low₂ side₂ work₂) → {r : Conversion} → r ≡ done_conversion k (get_or looked' 0 0) →
-        Ended out laid_out in_all r out'
+        ((j : Again low' side') → HalvesWritten j m out k₂ out' looked₂ low₂ side₂ work₂) →
+        Ended out laid_out in_all (done_conversion k (get_or looked' 0 0)) out'
     unfolding again_exact
-    through_twice h {k₂} {out'} {looked₂} {low₂} {side₂} {work₂} f a =
+    through_twice h {k₂} {out'} {looked₂} {low₂} {side₂} {work₂} f =
         let g : (j : Again low side) → HalvesWritten j m out k₂ out' looked₂ low₂ side₂ work₂ = rw (w.lows, w.sides) at f in
-        ended_done w.long_is h (g again_exact).room (ap (λ (l : List ℕ). get_or l 0 0) w.counted) a
+        ended_done w.long_is h (g again_exact).room (ap (λ (l : List ℕ). get_or l 0 0) w.counted)
 
     -- the scratch room is no shorter than the room lent, so it holds whatever fits there
     module _ (f : k ≤ length out) (g : length out ≤ length scratch) where
       pub through_within : k ≤ length scratch'
       through_within = omega (arith, f, g, ap length w.room, length-sets scratch 0 laid_out)
 
-      pub through_copied : {out' : List ℕ} → out' ≡ sets out 0 (take k scratch') → {r : Conversion} → r ≡ done_conversion k (get_or looked' 0 0) →
-          Ended out laid_out in_all r out'
-      through_copied p a =
+      pub through_copied : {out' : List ℕ} → out' ≡ sets out 0 (take k scratch') →
+          Ended out laid_out in_all (done_conversion k (get_or looked' 0 0)) out'
+      through_copied p =
           let same : take k scratch' ≡ laid_out =
           ap (λ (j : ℕ). take j scratch') w.long_is ∙ ap (take (length laid_out)) w.room
           ∙ sets_front laid_out scratch (omega (arith, f, g, w.long_is)) in
-          ended_done w.long_is f (p ∙ ap (sets out 0) same) (ap (λ (l : List ℕ). get_or l 0 0) w.counted) a
+          ended_done w.long_is f (p ∙ ap (sets out 0) same) (ap (λ (l : List ℕ). get_or l 0 0) w.counted)
 
 -- ---- the whole universe
 module _ {u : Universe} {surfaces : Surfaces} {side : List ℕ} {work : List ℤ} {count : ℕ} {starts : List ℕ} {room : ℕ}
@@ -256,7 +255,7 @@ module _ {u : Universe} {surfaces : Surfaces} {side : List ℕ} {work : List ℤ
       judgement = how root pruned
 
       -- decided over the universe, it is one symbol
-      pub whole_closed : (m : Bool) (out : List ℕ) {symbol : ℕ} → (mark ≡ 0 → ⊥) → symbol ≡ symbol_of_bits mark → {r : Conversion} {out' : List ℕ} →
+      pub whole_closed : (m : Bool) (out : List ℕ) {symbol : ℕ} → (mark ≡ 0 → ⊥) → symbol ≡ symbol_of_bits mark → {r : ConversionAnswer} {out' : List ℕ} →
           Ended out (symbol ∷ []) count r out' → Ended out (symbols_of m u surfaces ps) (nodes_looked u surfaces ps) r out'
       unfolding symbols
       whole_closed m out {symbol} z e {r} {out'} ended = by judgement
@@ -314,7 +313,7 @@ module _ {u : Universe} {surfaces : Surfaces} {side : List ℕ} {work : List ℤ
               );
             }
 
-        pub whole_open : (m : Bool) (out : List ℕ) {r : Conversion} {out' : List ℕ} →
+        pub whole_open : (m : Bool) (out : List ℕ) {r : ConversionAnswer} {out' : List ℕ} →
             Ended out (symbols (halves_of m open_job.halves)) (count + looked_in open_job.halves) r out' →
             Ended out (symbols_of m u surfaces ps) (nodes_looked u surfaces ps) r out'
         unfolding open_job

@@ -13,7 +13,7 @@ use Rattle.csg.specs.Words.{tree_of}
 use Rattle.csg.specs.Raw.{raw}
 use Rattle.convert.specs.Shapes.{shaped}
 use Rattle.convert.specs.Answers.{one_tree_refusal, two_trees_refusal, raw_of_one, merged_of_one, raw_of_two, merged_of_two}
-use Rattle.pruned.specs.declared.answer.Conversion.{Conversion}
+use Rattle.pruned.specs.Told.{ConversionAnswer}
 use Rattle.pruned.specs.Looked.{nodes_looked}
 use Rattle.pruned.specs.Nodes.{node_length}
 
@@ -32,20 +32,20 @@ abbrev pub nodes_needed : Universe → ℕ → ℕ
 nodes_needed u words = (levels u + 1) * words
 
 -- a conversion is refused, lacks work room, lacks room for its symbols, or is done; 16.3: with a refusal come no nodes
-abbrev pub refused_conversion : ℕ → Conversion
+abbrev pub refused_conversion : ℕ → ConversionAnswer
 refused_conversion number = record { refusal = number; short_of_work = false; length = 0; looked = 0 }
 
-abbrev pub short_of_work : ℕ → Conversion
+abbrev pub short_of_work : ℕ → ConversionAnswer
 short_of_work needed = record { refusal = no_room; short_of_work = true; length = needed; looked = 0 }
 
-abbrev pub short_of_symbols : ℕ → Conversion
+abbrev pub short_of_symbols : ℕ → ConversionAnswer
 short_of_symbols needed = record { refusal = no_room; short_of_work = false; length = needed; looked = 0 }
 
-abbrev pub done_conversion : ℕ → ℕ → Conversion
+abbrev pub done_conversion : ℕ → ℕ → ConversionAnswer
 done_conversion written looked = record { refusal = 0; short_of_work = false; length = written; looked = looked }
 
 -- what a conversion that lacks no work room answers, which writes these symbols, and what it leaves of the room lent
-unfoldable pub written_conversion : List ℕ → List ℕ → ℕ → Conversion
+unfoldable pub written_conversion : List ℕ → List ℕ → ℕ → ConversionAnswer
 written_conversion out symbols looked =
     unless_refused (room_refusal (length out) (length symbols)) (λ six. short_of_symbols (length symbols))
     (done_conversion (length symbols) looked)
@@ -57,7 +57,7 @@ written_room out symbols = overwritten (room_refusal (length out) (length symbol
 abbrev pub work_refusal : ℕ → List ℤ → ℕ → ℕ
 work_refusal refusal work needed = first_refusal (refusal ∷ room_refusal (nodes_lent work) needed ∷ [])
 
-unfoldable pub conversion_answer : ℕ → List ℤ → ℕ → List ℕ → List ℕ → ℕ → Conversion
+unfoldable pub conversion_answer : ℕ → List ℤ → ℕ → List ℕ → List ℕ → ℕ → ConversionAnswer
 conversion_answer refusal work needed out symbols looked =
     unless_refused refusal refused_conversion
     (unless_refused (room_refusal (nodes_lent work) needed) (λ six. short_of_work needed)
@@ -72,7 +72,7 @@ unfoldable pub written_of_one : Bool → Universe → Surfaces → List ℕ → 
 written_of_one merging u surfaces words = symbols (shaped merging (raw u surfaces (tree_of (named surfaces) words)))
 
 -- rule 16.3: of one tree, raw and merged
-unfoldable pub raw_of_one_answer : Universe → Surfaces → List ℕ → List ℤ → List ℕ → Conversion
+unfoldable pub raw_of_one_answer : Universe → Surfaces → List ℕ → List ℤ → List ℕ → ConversionAnswer
 raw_of_one_answer u surfaces words work out =
     conversion_answer (one_tree_refusal u surfaces words) work (nodes_needed u (length words)) out
     (raw_of_one u surfaces words)
@@ -82,7 +82,7 @@ unfoldable pub raw_of_one_buffer : Universe → Surfaces → List ℕ → List �
 raw_of_one_buffer u surfaces words work out =
     conversion_room (one_tree_refusal u surfaces words) work (nodes_needed u (length words)) out (raw_of_one u surfaces words)
 
-unfoldable pub merged_of_one_answer : Universe → Surfaces → List ℕ → List ℤ → List ℕ → Conversion
+unfoldable pub merged_of_one_answer : Universe → Surfaces → List ℕ → List ℤ → List ℕ → ConversionAnswer
 merged_of_one_answer u surfaces words work out =
     conversion_answer (one_tree_refusal u surfaces words) work (nodes_needed u (length words)) out
     (merged_of_one u surfaces words) (nodes_looked u surfaces (one_tree surfaces words))
@@ -93,7 +93,7 @@ merged_of_one_buffer u surfaces words work out =
     (merged_of_one u surfaces words)
 
 -- of two
-unfoldable pub raw_of_two_answer : Universe → Surfaces → List ℕ → List ℕ → List ℤ → List ℕ → Conversion
+unfoldable pub raw_of_two_answer : Universe → Surfaces → List ℕ → List ℕ → List ℤ → List ℕ → ConversionAnswer
 raw_of_two_answer u surfaces first second work out =
     conversion_answer (two_trees_refusal u surfaces first second) work (nodes_needed u (length first + length second)) out
     (raw_of_two u surfaces first second) (nodes_looked u surfaces (two_trees surfaces first second))
@@ -103,7 +103,7 @@ raw_of_two_buffer u surfaces first second work out =
     conversion_room (two_trees_refusal u surfaces first second) work (nodes_needed u (length first + length second)) out
     (raw_of_two u surfaces first second)
 
-unfoldable pub merged_of_two_answer : Universe → Surfaces → List ℕ → List ℕ → List ℤ → List ℕ → Conversion
+unfoldable pub merged_of_two_answer : Universe → Surfaces → List ℕ → List ℕ → List ℤ → List ℕ → ConversionAnswer
 merged_of_two_answer u surfaces first second work out =
     conversion_answer (two_trees_refusal u surfaces first second) work (nodes_needed u (length first + length second)) out
     (merged_of_two u surfaces first second) (nodes_looked u surfaces (two_trees surfaces first second))

@@ -9,5 +9,6 @@ pub mod Loading
 pub mod Single
 pub mod Alone
 pub mod Round
+pub mod Told
 pub mod Answers
 pub mod Whole

@@ -11,7 +11,7 @@ use Rattle.csg.specs.Tree.{Plain}
 use Rattle.csg.specs.Words.{most_words, tree_refusal}
 use Rattle.convert.specs.Blocks.{Standing, block_left}
 use Rattle.convert.specs.Shapes.{shaped}
-use Rattle.pruned.specs.declared.answer.Conversion.{Conversion}
+use Rattle.pruned.specs.Told.{ConversionAnswer}
 use Rattle.pruned.specs.Looked.{examine_all, nodes_looked}
 use Rattle.pruned.specs.Nodes.{all_postfix, node_length, Holds, SameBelow, OneOrTwo, most_shapes}
 use Rattle.pruned.specs.Laying.{SoundScene, halves_shape, looked_in_halves, HalvesJob}
@@ -57,7 +57,7 @@ short_scratch = 768
 abbrev pub most_scratch : ℕ
 most_scratch = 4096
 
-pub record Ended (out written : List ℕ) (looked : ℕ) (r : Conversion) (out' : List ℕ) : Type 0 where
+pub record Ended (out written : List ℕ) (looked : ℕ) (r : ConversionAnswer) (out' : List ℕ) : Type 0 where
   pub answer : r ≡ written_conversion out written looked
   pub room : out' ≡ written_room out written
 
@@ -97,7 +97,7 @@ pub record TwoReady (u : Universe) (surfaces : Surfaces) (first second : List �
 -- how a conversion ends: its answer, what it leaves of the room for symbols, and that it leaves the work room alone
 -- where the checks up to that of the work room refuse it; `refusal` is that of the checks up to the trees
 pub record Converted (refusal : ℕ) (work : List ℤ) (needed : ℕ) (out written : List ℕ) (looked : ℕ)
-    (r : Conversion) (out' : List ℕ) (work' : List ℤ) : Type 0 where
+    (r : ConversionAnswer) (out' : List ℕ) (work' : List ℤ) : Type 0 where
   pub answer : r ≡ conversion_answer refusal work needed out written looked
   pub room : out' ≡ conversion_room refusal work needed out written
   pub kept : (work_refusal refusal work needed ≡ 0 → ⊥) → work' ≡ work

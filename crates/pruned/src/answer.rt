@@ -1,63 +1,59 @@
 // What a pruned conversion answers.
 ghost use Rattle.std.specs.Prelude.{◌≡◌};
-ghost use Rattle.pruned.specs.Answers.{refused_conversion, short_of_work, short_of_symbols, done_conversion};
+ghost use Rattle.pruned.specs.declared.answer.Unconverted.TheVariants.{Refused};
+ghost use Rattle.pruned.specs.Told.{number_unconverted, needed_to_convert, lacks_work};
 
-use universe::refusals;
+use universe::{Refusal, Unwritten};
 
-// 0, the length written and the nodes looked at; 6, and what is needed, nodes of work room where `short_of_work` and
-// else symbols; or another refusal. With a refusal no nodes were looked at.
-#[derive(Clone, Copy)]
+// So many symbols are written, and so many nodes were looked at.
+#[derive(Clone, Copy, Debug, PartialEq, Eq)]
 pub struct Conversion {
-    pub refusal: u64,
-    pub short_of_work: bool,
     pub length: u64,
     pub looked: u64,
 }
 
-// Refused with a number other than 6.
-pub(crate) fn refused(number: u64) -> Conversion
-    ensures { result ≡ refused_conversion number }
-{
-    Conversion {
-        refusal: number,
-        short_of_work: false,
-        length: 0,
-        looked: 0,
+// Why a conversion writes nothing: it refuses what it is given, or so many nodes of work room, or so many symbols, are
+// needed, and fewer are lent.
+#[derive(Clone, Copy, Debug, PartialEq, Eq)]
+pub enum Unconverted {
+    Refused(Refusal),
+    ShortOfWork(u64),
+    ShortOfSymbols(u64),
+}
+
+impl Unconverted {
+    pub fn number(self) -> u64
+        ensures { result ≡ number_unconverted self }
+    {
+        match self {
+            Unconverted::Refused(refusal) => refusal.number(),
+            Unconverted::ShortOfWork(_) | Unconverted::ShortOfSymbols(_) => Unwritten::NO_ROOM,
+        }
+    }
+
+    // How much is needed: nodes or symbols with 6, and 0 with another number (rule 16.4).
+    pub fn needed(self) -> u64
+        ensures { result ≡ needed_to_convert self }
+    {
+        match self {
+            Unconverted::Refused(_) => 0,
+            Unconverted::ShortOfWork(nodes) => nodes,
+            Unconverted::ShortOfSymbols(symbols) => symbols,
+        }
+    }
+
+    // Whether it is work room that is lacking.
+    pub fn lacks_work(self) -> bool
+        ensures { result ≡ lacks_work self }
+    {
+        matches!(self, Unconverted::ShortOfWork(_))
     }
 }
 
-// Refused 6: so many nodes of work room are needed.
-pub(crate) fn short_of_work(needed: u64) -> Conversion
-    ensures { result ≡ short_of_work needed }
-{
-    Conversion {
-        refusal: refusals::NO_ROOM,
-        short_of_work: true,
-        length: needed,
-        looked: 0,
-    }
-}
+impl From<Refusal> for Unconverted {
+    ghost from_gives = { λ r e. e ≡ Refused r };
 
-// Refused 6: room for so many symbols is needed.
-pub(crate) fn short_of_symbols(needed: u64) -> Conversion
-    ensures { result ≡ short_of_symbols needed }
-{
-    Conversion {
-        refusal: refusals::NO_ROOM,
-        short_of_work: false,
-        length: needed,
-        looked: 0,
-    }
-}
-
-// So many symbols are written, and so many nodes were looked at.
-pub(crate) fn done(length: u64, looked: u64) -> Conversion
-    ensures { result ≡ done_conversion length looked }
-{
-    Conversion {
-        refusal: 0,
-        short_of_work: false,
-        length: length,
-        looked: looked,
+    fn from(refusal: Refusal) -> Unconverted {
+        Unconverted::Refused(refusal)
     }
 }

@@ -22,9 +22,10 @@ ghost use Rattle.pruned.specs.Answers.{
   work_of_one,
   work_of_two,
 };
+ghost use Rattle.pruned.specs.Told.{conversion_told};
 ghost use Rattle.pruned.specs.Whole.{Ended, OneReady, TwoReady, Converted};
 
-use crate::answer::{Conversion, refused, short_of_work};
+use crate::answer::{Conversion, Unconverted};
 use crate::load::load;
 use crate::prune::{MOST_SHAPES, NODE_LENGTH};
 use crate::scratch::SHORT_SCRATCH;
@@ -55,8 +56,7 @@ fn room_for(universe: Universe, leaves: u64, balls: u64, lent: usize) -> u64
     if lent <= SHORT_SCRATCH {
         return MOST_ROOM;
     }
-    let room = universe.room(leaves, balls);
-    room.symbols
+    universe.room(leaves, balls).unwrap()
 }
 
 // The expression of one tree that no check refuses, where the work room suffices.
@@ -68,12 +68,12 @@ fn written_of_one(
     merging: bool,
     work: &mut [i64],
     out: &mut [u8],
-) -> Conversion
+) -> Result<Conversion, Unconverted>
     requires { OneReady universe (surfaces_of rows.now balls.now) words.now work.old }
     ensures { let surfaces = surfaces_of rows.now balls.now in
         let words = words.entry.now in
         Ended out.old (written_of_one merging universe surfaces words)
-        (nodes_looked universe surfaces (one_tree surfaces words)) result out.new }
+        (nodes_looked universe surfaces (one_tree surfaces words)) (conversion_told result) out.new }
 {
     let mut side = whole_sides(universe);
     let mut starts = [0usize; MOST_SHAPES];
@@ -113,13 +113,13 @@ fn written_of_two(
     merging: bool,
     work: &mut [i64],
     out: &mut [u8],
-) -> Conversion
+) -> Result<Conversion, Unconverted>
     requires { TwoReady universe (surfaces_of rows.now balls.now) first.now second.now work.old }
     ensures { let surfaces = surfaces_of rows.now balls.now in
         let first = first.entry.now in
         let second = second.entry.now in
         Ended out.old (written_of_two merging universe surfaces first second)
-        (nodes_looked universe surfaces (two_trees surfaces first second)) result out.new }
+        (nodes_looked universe surfaces (two_trees surfaces first second)) (conversion_told result) out.new }
 {
     let mut side = whole_sides(universe);
     let mut starts = [0usize; MOST_SHAPES];
@@ -152,21 +152,17 @@ fn of_one(
     merging: bool,
     work: &mut [i64],
     out: &mut [u8],
-) -> Conversion
+) -> Result<Conversion, Unconverted>
     ensures { let surfaces = surfaces_of rows.now balls.now in
         let words = words.entry.now in
         Converted (one_tree_refusal universe surfaces words) work.old (nodes_needed universe (length words))
         out.old (written_of_one merging universe surfaces words)
-        (nodes_looked universe surfaces (one_tree surfaces words)) result out.new work.new }
+        (nodes_looked universe surfaces (one_tree surfaces words)) (conversion_told result) out.new work.new }
 {
-    let black = [csg::BLACK];
-    let refusal = convert::scene_refusal(universe, rows, balls, words, &black);
-    if refusal != 0 {
-        return refused(refusal);
-    }
+    convert::check_scene(universe, rows, balls, words, &[csg::BLACK])?;
     let needed = (universe.levels() + 1) * words.len() as u64;
     if ((work.len() / NODE_LENGTH) as u64) < needed {
-        return short_of_work(needed);
+        return Err(Unconverted::ShortOfWork(needed));
     }
     written_of_one(universe, rows, balls, words, merging, work, out)
 }
@@ -181,23 +177,20 @@ fn of_two(
     merging: bool,
     work: &mut [i64],
     out: &mut [u8],
-) -> Conversion
+) -> Result<Conversion, Unconverted>
     ensures { let surfaces = surfaces_of rows.now balls.now in
         let first = first.entry.now in
         let second = second.entry.now in
         Converted (two_trees_refusal universe surfaces first second) work.old
         (nodes_needed universe (length first + length second)) out.old
         (written_of_two merging universe surfaces first second)
-        (nodes_looked universe surfaces (two_trees surfaces first second)) result out.new work.new }
+        (nodes_looked universe surfaces (two_trees surfaces first second)) (conversion_told result) out.new work.new }
 {
-    let refusal = convert::scene_refusal(universe, rows, balls, first, second);
-    if refusal != 0 {
-        return refused(refusal);
-    }
+    convert::check_scene(universe, rows, balls, first, second)?;
     let words = (first.len() + second.len()) as u64;
     let needed = (universe.levels() + 1) * words;
     if ((work.len() / NODE_LENGTH) as u64) < needed {
-        return short_of_work(needed);
+        return Err(Unconverted::ShortOfWork(needed));
     }
     written_of_two(universe, rows, balls, first, second, merging, work, out)
 }
@@ -211,9 +204,9 @@ pub fn raw_of_one(
     words: &[u16],
     work: &mut [i64],
     out: &mut [u8],
-) -> Conversion
+) -> Result<Conversion, Unconverted>
     ensures answer { let surfaces = surfaces_of rows.now balls.now in
-        result ≡ raw_of_one_answer universe surfaces words.now work.old out.old }
+        conversion_told result ≡ raw_of_one_answer universe surfaces words.now work.old out.old }
     ensures symbols { let surfaces = surfaces_of rows.now balls.now in
         out.new
         ≡ raw_of_one_buffer universe surfaces words.now work.old out.old }
@@ -233,9 +226,9 @@ pub fn merged_of_one(
     words: &[u16],
     work: &mut [i64],
     out: &mut [u8],
-) -> Conversion
+) -> Result<Conversion, Unconverted>
     ensures answer { let surfaces = surfaces_of rows.now balls.now in
-        result ≡ merged_of_one_answer universe surfaces words.now work.old out.old }
+        conversion_told result ≡ merged_of_one_answer universe surfaces words.now work.old out.old }
     ensures symbols { let surfaces = surfaces_of rows.now balls.now in
         out.new
         ≡ merged_of_one_buffer universe surfaces words.now work.old out.old }
@@ -256,9 +249,9 @@ pub fn raw_of_two(
     second: &[u16],
     work: &mut [i64],
     out: &mut [u8],
-) -> Conversion
+) -> Result<Conversion, Unconverted>
     ensures answer { let surfaces = surfaces_of rows.now balls.now in
-        result ≡ raw_of_two_answer universe surfaces first.now second.now work.old
+        conversion_told result ≡ raw_of_two_answer universe surfaces first.now second.now work.old
         out.old }
     ensures symbols { let surfaces = surfaces_of rows.now balls.now in
         out.new
@@ -281,9 +274,9 @@ pub fn merged_of_two(
     second: &[u16],
     work: &mut [i64],
     out: &mut [u8],
-) -> Conversion
+) -> Result<Conversion, Unconverted>
     ensures answer { let surfaces = surfaces_of rows.now balls.now in
-        result ≡ merged_of_two_answer universe surfaces first.now second.now work.old
+        conversion_told result ≡ merged_of_two_answer universe surfaces first.now second.now work.old
         out.old }
     ensures symbols { let surfaces = surfaces_of rows.now balls.now in
         out.new

@@ -23,13 +23,11 @@ pub(crate) fn symbol_of(mark: u8) -> u8
 }
 
 // Whether two halves are held back as one: leaves of one colour, where shapes are merged.
+#[tactic(auto, unfolding(convert::specs::Shapes::is_one))]
 fn is_one(merging: bool, below: u8, above: u8) -> bool
     ensures { result ≡ is_one merging below above }
 {
-    if merging {
-        return bintree::is_alike(below, above);
-    }
-    false
+    merging && bintree::is_alike(below, above)
 }
 
 // Joins two halves that are laid behind the place of their `(`, and packs what they come to.

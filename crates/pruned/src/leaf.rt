@@ -2,7 +2,7 @@
 // one of which moves, a ball afresh.
 ghost use Rattle.std.specs.Prelude.{◌≡◌, false, ◌%◌, ◌^◌, ◌<◌, eqb, pos, ◌*ℤ◌};
 ghost use Rattle.std.specs.Int.Count.{count_trailing_zeros};
-ghost use Rattle.csg.specs.Halfspace.{row_at, lesser};
+ghost use Rattle.csg.specs.Halfspace.{row_at};
 ghost use Rattle.pruned.specs.Loading.{widened, whole_extremes, WholeReady};
 ghost use Rattle.csg.specs.Surfaces.{surfaces_of};
 ghost use Rattle.convert.specs.Small.{SmallCoefficient, SmallPlace};
@@ -37,21 +37,7 @@ fn towards(high: bool, amount: i64) -> i64
     requires { SmallAmount amount }
     ensures { result ≡ moved_towards high amount }
 {
-    if high {
-        return amount;
-    }
-    0 - amount
-}
-
-// What falls by an amount: all of it where it is negative, else nothing.
-fn falling(amount: i64) -> i64
-    requires { SmallAmount amount }
-    ensures { result ≡ lesser (pos 0) amount }
-{
-    if 0 <= amount {
-        return 0;
-    }
-    amount
+    if high { amount } else { -amount }
 }
 
 // What the values come to over a half, which moves one of them by this amount: that of the coefficient and half the
@@ -63,7 +49,7 @@ pub(crate) fn moved_by(amount: i64, high: bool, least: i64, greatest: i64) -> Ex
     ensures { MovedBy amount high least greatest result.least result.greatest }
 {
     let step = towards(high, amount);
-    let fall = falling(step);
+    let fall = step.min(0);
     Extremes {
         least: least + (step - fall),
         greatest: greatest + fall,
@@ -77,7 +63,7 @@ pub(crate) const NO_HALF: u64 = 64;
 pub(crate) fn doublings(length: u64) -> u64
     ensures { result ≡ count_trailing_zeros 64 length }
 {
-    u64::trailing_zeros(length) as u64
+    u64::from(length.trailing_zeros())
 }
 
 // The amount of a coefficient and a length to which 1 is doubled so often: the coefficient, doubled so often.
@@ -154,8 +140,8 @@ fn judge_over(code: u64, least: i64, greatest: i64) -> Judged
 {
     Judged {
         code: side_code(code, 0 <= least, greatest <= 0),
-        least: least,
-        greatest: greatest,
+        least,
+        greatest,
     }
 }
 
@@ -170,8 +156,8 @@ fn judge_side(turned: bool, centre: bool, least: i64, greatest: i64) -> Judged
     let judged = turned_code(turned, bits);
     Judged {
         code: judged,
-        least: least,
-        greatest: greatest,
+        least,
+        greatest,
     }
 }
 
@@ -201,8 +187,8 @@ pub(crate) fn judge_leaf(
         let constant = if code == 0 { WHITE_BIT } else { BLACK_BIT };
         return Judged {
             code: constant,
-            least: least,
-            greatest: greatest,
+            least,
+            greatest,
         };
     }
     if code < moving_below(times) {
@@ -220,8 +206,8 @@ pub(crate) fn judge_leaf(
     let judged = turned_code(turned, bits);
     Judged {
         code: judged,
-        least: least,
-        greatest: greatest,
+        least,
+        greatest,
     }
 }
 
@@ -256,21 +242,12 @@ pub(crate) fn whole_extremes(
     ensures { result ≡ whole_extremes axes (row_at rows.now i) side.now }
 {
     let first = csg::ROW_LENGTH * i;
-    let none = Extremes {
+    let mut values = Extremes {
         least: rows[first],
         greatest: rows[first],
     };
-    let one = widened(none, rows[first + 1], side[0]);
-    if axes == 1 {
-        return one;
+    for axis in 0..axes {
+        values = widened(values, rows[first + 1 + axis], side[axis]);
     }
-    let two = widened(one, rows[first + 2], side[1]);
-    if axes == 2 {
-        return two;
-    }
-    let three = widened(two, rows[first + 3], side[2]);
-    if axes == 3 {
-        return three;
-    }
-    widened(three, rows[first + 4], side[3])
+    values
 }

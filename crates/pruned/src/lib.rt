@@ -17,6 +17,6 @@ mod scratch;
 mod single;
 mod whole;
 
-pub use answer::Conversion;
+pub use answer::{Conversion, Unconverted};
 pub use conversion::{merged_of_one, merged_of_two, raw_of_one, raw_of_two};
 pub use scratch::MOST_SCRATCH;

@@ -40,11 +40,9 @@ pub(crate) fn turn(work: &mut [i64], from: usize, to: usize)
     requires { Turning work.old from to }
     ensures { (job : Turning work.old from to) → Turned job work.new }
 {
-    let mut place = from;
-    while place < to {
+    for place in from..to {
         let code = code_at(work, place);
         work[NODE_LENGTH * place] = turned_number(code) as i64;
-        place += 1;
     }
 }
 
@@ -72,13 +70,7 @@ fn leaf_values(
     ensures { (job : LeafWord axes rows.now side.now word)
         → LeafValues job result.least result.greatest }
 {
-    if word < csg::FIRST_HALFSPACE {
-        return Extremes {
-            least: 0,
-            greatest: 0,
-        };
-    }
-    if csg::FIRST_BALL <= word {
+    if word < csg::FIRST_HALFSPACE || csg::FIRST_BALL <= word {
         return Extremes {
             least: 0,
             greatest: 0,
@@ -105,9 +97,7 @@ pub(crate) fn load(
         → Loaded job work.new starts.new) }
 {
     let mut pending: usize = 0;
-    let mut i: usize = 0;
-    while i < words.len() {
-        let word = words[i];
+    for (i, &word) in words.iter().enumerate() {
         let at = from + i;
         if csg::is_operator(word) {
             let start = starts[pending - 1];
@@ -119,6 +109,5 @@ pub(crate) fn load(
             starts[pending] = at;
             pending += 1;
         }
-        i += 1;
     }
 }

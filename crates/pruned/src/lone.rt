@@ -39,14 +39,12 @@ fn set_steps(
         → Steps job.universe (row_at rows row) 0 left steps.new) }
 {
     let first = csg::ROW_LENGTH * row + 1;
-    let mut sides = [side[0], side[1], side[2], side[3]];
-    let mut n = left;
-    while 0 < n {
-        n -= 1;
-        let axis = table[n as usize];
+    let mut sides = *side;
+    for n in (0..left as usize).rev() {
+        let axis = table[n];
         let half = sides[axis] / 2;
         sides[axis] = half;
-        steps[n as usize] = amount(rows[first + axis], doublings(half));
+        steps[n] = amount(rows[first + axis], doublings(half));
     }
 }
 

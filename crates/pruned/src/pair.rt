@@ -71,7 +71,7 @@ fn pair_of_ball(
         result ≡ pair_of (is_black (ball_code_at places ball low.now))
         (is_black (ball_code_at places ball (next_places low.now axis))) }
 {
-    let mut next = [low[0], low[1], low[2], low[3]];
+    let mut next = *low;
     next[axis] += 1;
     let below = code_at_voxel(places, balls, i, low);
     let above = code_at_voxel(places, balls, i, &next);
@@ -163,10 +163,8 @@ fn trees_pair(
         → result ≡ trees_pair job) }
     ensures pairs_len_2 { length pairs.new ≡ most_shapes }
 {
-    let stop = from + count;
     let mut pending: usize = 0;
-    let mut i = from;
-    while i < stop {
+    for i in from..from + count {
         let code = code_at(work, i);
         if is_join(code) {
             let second = pairs[pending - 1];
@@ -179,7 +177,6 @@ fn trees_pair(
             pairs[pending] = pair_of_leaf(axes, rows, balls, low, axis, code, least, greatest);
             pending += 1;
         }
-        i += 1;
     }
     whole_pair(pairs, pending)
 }

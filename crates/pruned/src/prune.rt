@@ -56,10 +56,7 @@ pub(crate) fn store_node(work: &mut [i64], at: usize, code: u64, least: i64, gre
 pub(crate) fn is_join(code: u64) -> bool
     ensures { result ≡ is_join code }
 {
-    if code < UNION_NODE {
-        return false;
-    }
-    code < PAST_JOINS
+    UNION_NODE <= code && code < PAST_JOINS
 }
 
 // The mark of one tree, or of two intersected, by their codes.
@@ -110,11 +107,9 @@ pub(crate) fn prune(
         → Pruned job work.new result.mark result.nodes) }
     ensures shelves_2 { Shelves starts.new codes.new }
 {
-    let stop = from + count;
     let mut pending: usize = 0;
     let mut end = to;
-    let mut i = from;
-    while i < stop {
+    for i in from..from + count {
         let code = code_at(work, i);
         if is_join(code) {
             let second = codes[pending - 1];
@@ -138,12 +133,9 @@ pub(crate) fn prune(
             end = end_after(bits, 0, 0, end, end);
             pending += 1;
         }
-        i += 1;
     }
-    let mark = whole_mark(codes, pending);
-    let nodes = end - to;
     Kept {
-        mark: mark,
-        nodes: nodes,
+        mark: whole_mark(codes, pending),
+        nodes: end - to,
     }
 }

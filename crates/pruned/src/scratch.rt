@@ -5,9 +5,10 @@ ghost use Rattle.csg.specs.Surfaces.{surfaces_of};
 ghost use Rattle.bintree.specs.Shape.{symbols};
 ghost use Rattle.pruned.specs.Nodes.{Shelves};
 ghost use Rattle.pruned.specs.Laying.{HalvesJob};
+ghost use Rattle.pruned.specs.Told.{conversion_told};
 ghost use Rattle.pruned.specs.Whole.{halves_of, looked_in, Ended, short_scratch, most_scratch};
 
-use crate::answer::{Conversion, done, short_of_symbols};
+use crate::answer::{Conversion, Unconverted};
 use crate::prune::MOST_SHAPES;
 use crate::whole::write_halves;
 use universe::Universe;
@@ -35,7 +36,7 @@ fn through(
     before: u64,
     scratch: &mut [u8],
     out: &mut [u8],
-) -> Conversion
+) -> Result<Conversion, Unconverted>
     requires fact { let surfaces = surfaces_of rows.now balls.now in
         HalvesJob surfaces axes table.now low.old side.old left work.old 0 count (before ∷ []) 0 }
     requires shelves { Shelves starts.old codes.old }
@@ -45,7 +46,8 @@ fn through(
         let side₀ = side.old in
         let work₀ = work.old in
         ((job : HalvesJob surfaces axes table.now low₀ side₀ left work₀ 0 count (before ∷ []) 0)
-        → Ended out.old (symbols (halves_of merging job)) (before + looked_in job) result out.new) }
+        → Ended out.old (symbols (halves_of merging job)) (before + looked_in job) (conversion_told result)
+        out.new) }
 {
     let mut looked = [before];
     let length = write_halves(
@@ -65,10 +67,13 @@ fn through(
         scratch,
     );
     if out.len() < length {
-        return short_of_symbols(length as u64);
+        return Err(Unconverted::ShortOfSymbols(length as u64));
     }
     bintree::copy(&scratch[..length], out, 0);
-    done(length as u64, looked[0])
+    Ok(Conversion {
+        length: length as u64,
+        looked: looked[0],
+    })
 }
 
 // The same with little scratch room, where little is lent.
@@ -87,7 +92,7 @@ pub(crate) fn short(
     codes: &mut [u8; MOST_SHAPES],
     before: u64,
     out: &mut [u8],
-) -> Conversion
+) -> Result<Conversion, Unconverted>
     requires fact { let surfaces = surfaces_of rows.now balls.now in
         HalvesJob surfaces axes table.now low.old side.old left work.old 0 count (before ∷ []) 0 }
     requires shelves { Shelves starts.old codes.old }
@@ -97,7 +102,8 @@ pub(crate) fn short(
         let side₀ = side.old in
         let work₀ = work.old in
         ((job : HalvesJob surfaces axes table.now low₀ side₀ left work₀ 0 count (before ∷ []) 0)
-        → Ended out.old (symbols (halves_of merging job)) (before + looked_in job) result out.new) }
+        → Ended out.old (symbols (halves_of merging job)) (before + looked_in job) (conversion_told result)
+        out.new) }
 {
     let mut scratch = [0u8; SHORT_SCRATCH];
     through(
@@ -135,7 +141,7 @@ pub(crate) fn long(
     codes: &mut [u8; MOST_SHAPES],
     before: u64,
     out: &mut [u8],
-) -> Conversion
+) -> Result<Conversion, Unconverted>
     requires fact { let surfaces = surfaces_of rows.now balls.now in
         HalvesJob surfaces axes table.now low.old side.old left work.old 0 count (before ∷ []) 0 }
     requires shelves { Shelves starts.old codes.old }
@@ -145,7 +151,8 @@ pub(crate) fn long(
         let side₀ = side.old in
         let work₀ = work.old in
         ((job : HalvesJob surfaces axes table.now low₀ side₀ left work₀ 0 count (before ∷ []) 0)
-        → Ended out.old (symbols (halves_of merging job)) (before + looked_in job) result out.new) }
+        → Ended out.old (symbols (halves_of merging job)) (before + looked_in job) (conversion_told result)
+        out.new) }
 {
     let mut scratch = [0u8; MOST_SCRATCH];
     through(
@@ -183,7 +190,7 @@ pub(crate) fn measured(
     codes: &mut [u8; MOST_SHAPES],
     before: u64,
     out: &mut [u8],
-) -> Conversion
+) -> Result<Conversion, Unconverted>
     requires fact { let surfaces = surfaces_of rows.now balls.now in
         HalvesJob surfaces axes table.now low.old side.old left work.old 0 count (before ∷ []) 0 }
     requires shelves { Shelves starts.old codes.old }
@@ -192,7 +199,8 @@ pub(crate) fn measured(
         let side₀ = side.old in
         let work₀ = work.old in
         ((job : HalvesJob surfaces axes table.now low₀ side₀ left work₀ 0 count (before ∷ []) 0)
-        → Ended out.old (symbols (halves_of merging job)) (before + looked_in job) result out.new) }
+        → Ended out.old (symbols (halves_of merging job)) (before + looked_in job) (conversion_told result)
+        out.new) }
 {
     let mut looked = [before];
     let mut none = [0u8; 0];
@@ -213,12 +221,15 @@ pub(crate) fn measured(
         &mut none,
     );
     if out.len() < length {
-        return short_of_symbols(length as u64);
+        return Err(Unconverted::ShortOfSymbols(length as u64));
     }
     let mut again = [before];
     write_halves(
         axes, rows, balls, table, low, side, left, merging, work, count, starts, codes, &mut again,
         out,
     );
-    done(length as u64, looked[0])
+    Ok(Conversion {
+        length: length as u64,
+        looked: looked[0],
+    })
 }

@@ -16,11 +16,7 @@ pub(crate) fn is_single(work: &[i64], from: usize, count: usize) -> bool
     ensures { let code = nat_abs (number_at work.now (node_length * from)) in
         (result ≡ true → (count ≡ 1) × (first_side ≤ code)) }
 {
-    if count != 1 {
-        return false;
-    }
-    let code = code_at(work, from);
-    FIRST_SIDE <= code
+    count == 1 && FIRST_SIDE <= code_at(work, from)
 }
 
 // Lays both halves of an undecided block over which one side of a surface is left, whose node stands at `from`.

@@ -6,6 +6,7 @@ ghost use Rattle.bintree.specs.Shape.{symbols};
 ghost use Rattle.pruned.specs.Nodes.{Shelves};
 ghost use Rattle.pruned.specs.Looked.{nodes_looked};
 ghost use Rattle.pruned.specs.Laying.{HalvesJob};
+ghost use Rattle.pruned.specs.Told.{conversion_told};
 ghost use Rattle.pruned.specs.Whole.{
   halves_of,
   looked_in,
@@ -16,7 +17,7 @@ ghost use Rattle.pruned.specs.Whole.{
   symbols_of,
 };
 
-use crate::answer::{Conversion, done, short_of_symbols};
+use crate::answer::{Conversion, Unconverted};
 use crate::lay::{HELD_UNIT, lay_halves, symbol_of};
 use crate::leaf::NO_HALF;
 use crate::prune::{MOST_SHAPES, prune};
@@ -79,7 +80,7 @@ fn write_open(
     before: u64,
     room: u64,
     out: &mut [u8],
-) -> Conversion
+) -> Result<Conversion, Unconverted>
     requires fact { let surfaces = surfaces_of rows.now balls.now in
         OpenJob surfaces axes table.now low.old side.old left work.old count before room }
     requires shelves { Shelves starts.old codes.old }
@@ -88,8 +89,8 @@ fn write_open(
         let side₀ = side.old in
         let work₀ = work.old in
         ((job : OpenJob surfaces axes table.now low₀ side₀ left work₀ count before room)
-        → Ended out.old (symbols (halves_of merging job.halves)) (before + looked_in job.halves) result
-        out.new) }
+        → Ended out.old (symbols (halves_of merging job.halves)) (before + looked_in job.halves)
+        (conversion_told result) out.new) }
 {
     if room <= out.len() as u64 {
         let mut looked = [before];
@@ -109,7 +110,10 @@ fn write_open(
             &mut looked,
             out,
         );
-        return done(length as u64, looked[0]);
+        return Ok(Conversion {
+            length: length as u64,
+            looked: looked[0],
+        });
     }
     if out.len() <= scratch::SHORT_SCRATCH {
         return scratch::short(
@@ -129,14 +133,14 @@ fn write_open(
 }
 
 // Writes the one symbol of a universe over which the trees are decided.
-fn write_symbol(symbol: u8, looked: u64, out: &mut [u8]) -> Conversion
-    ensures { Ended out.old (symbol ∷ []) looked result out.new }
+fn write_symbol(symbol: u8, looked: u64, out: &mut [u8]) -> Result<Conversion, Unconverted>
+    ensures { Ended out.old (symbol ∷ []) looked (conversion_told result) out.new }
 {
-    if out.len() < 1 {
-        return short_of_symbols(1);
+    if out.is_empty() {
+        return Err(Unconverted::ShortOfSymbols(1));
     }
     out[0] = symbol;
-    done(1, looked)
+    Ok(Conversion { length: 1, looked })
 }
 
 // Writes the whole universe, of the full trees whose nodes stand in the work room.
@@ -151,13 +155,13 @@ pub(crate) fn write_whole(
     starts: &mut [usize; MOST_SHAPES],
     room: u64,
     out: &mut [u8],
-) -> Conversion
+) -> Result<Conversion, Unconverted>
     requires { let surfaces = surfaces_of rows.now balls.now in
         WholeJob universe surfaces side.old work.old count starts.old room }
     ensures { let surfaces = surfaces_of rows.now balls.now in
         ((job : WholeJob universe surfaces side.old work.old count starts.old room)
         → Ended out.old (symbols_of merging universe surfaces job.trees)
-        (nodes_looked universe surfaces job.trees) result out.new) }
+        (nodes_looked universe surfaces job.trees) (conversion_told result) out.new) }
 {
     let axes = universe.axes as usize;
     let levels = universe.levels();

@@ -3,11 +3,10 @@
 // behind it the number, the length and the room of the first conversion of the same scene.
 #![tactic(auto)]
 
-use bintree::Written;
-use pruned::Conversion;
+use pruned::{Conversion, Unconverted};
 use std::io;
 use std::io::Write;
-use universe::Universe;
+use universe::{Universe, Unwritten};
 
 // What the work room holds before a call.
 const BEFORE: i64 = 77;
@@ -26,58 +25,45 @@ const TWO_ROWS: [i64; 10] = [-7, 2, 2, 0, 0, -1, 0, 1, 0, 0];
 
 fn universe(axes: u64, bits: u64, frame_bits: u64) -> Universe {
     Universe {
-        axes: axes,
-        bits: bits,
-        frame_bits: frame_bits,
+        axes,
+        bits,
+        frame_bits,
     }
-}
-
-fn say(to: &mut impl Write, text: &[u8]) -> io::Result<()> {
-    to.write_all(text)
-}
-
-// A number behind a space.
-fn next_number(to: &mut impl Write, n: u64) -> io::Result<()> {
-    write!(to, " {n}")
 }
 
 // Whether the first number of the work room, where there is one, is as it was.
 fn is_untouched(work: &[i64]) -> bool {
-    if work.len() == 0 {
-        return true;
-    }
-    work[0] == BEFORE
+    work.is_empty() || work[0] == BEFORE
 }
 
 // A line: what the pruned conversion answered and left, and what the first one did.
 fn tell(
     to: &mut impl Write,
-    label: &[u8],
-    found: Conversion,
+    label: &str,
+    found: Result<Conversion, Unconverted>,
     work: &[i64],
     out: &[u8],
-    first: Written,
+    first: Result<u64, Unwritten>,
     other: &[u8],
 ) -> io::Result<()> {
-    say(to, label)?;
-    say(to, b":")?;
-    next_number(to, found.refusal)?;
-    if found.short_of_work {
-        say(to, b"w")?;
+    match found {
+        Ok(done) => write!(to, "{label}: 0 {} {}", done.length, done.looked)?,
+        Err(why) => {
+            let lack = if why.lacks_work() { "w" } else { "" };
+            write!(to, "{label}: {}{lack} {} 0", why.number(), why.needed())?;
+        }
     }
-    next_number(to, found.length)?;
-    next_number(to, found.looked)?;
     if is_untouched(work) {
-        say(to, b" untouched")?;
+        write!(to, " untouched")?;
     }
-    say(to, b" ")?;
-    say(to, out)?;
-    say(to, b" /")?;
-    next_number(to, first.refusal)?;
-    next_number(to, first.length)?;
-    say(to, b" ")?;
-    say(to, other)?;
-    say(to, b"\n")
+    write!(to, " ")?;
+    to.write_all(out)?;
+    match first {
+        Ok(length) => write!(to, " / 0 {length} ")?,
+        Err(why) => write!(to, " / {} {} ", why.number(), why.needed())?,
+    }
+    to.write_all(other)?;
+    writeln!(to)
 }
 
 // The expression of one tree by the pruned conversion, merged or raw.
@@ -89,7 +75,7 @@ fn pruned_of_one(
     words: &[u16],
     work: &mut [i64],
     out: &mut [u8],
-) -> Conversion {
+) -> Result<Conversion, Unconverted> {
     if merging {
         return pruned::merged_of_one(universe, rows, balls, words, work, out);
     }
@@ -104,7 +90,7 @@ fn plain_of_one(
     balls: &[i64],
     words: &[u16],
     out: &mut [u8],
-) -> Written {
+) -> Result<u64, Unwritten> {
     if merging {
         return convert::merged_of_one(universe, rows, balls, words, out);
     }
@@ -115,7 +101,7 @@ fn plain_of_one(
 fn one(
     to: &mut impl Write,
     merging: bool,
-    label: &[u8],
+    label: &str,
     universe: Universe,
     rows: &[i64],
     balls: &[i64],
@@ -139,7 +125,7 @@ fn pruned_of_two(
     second: &[u16],
     work: &mut [i64],
     out: &mut [u8],
-) -> Conversion {
+) -> Result<Conversion, Unconverted> {
     if merging {
         return pruned::merged_of_two(universe, rows, balls, first, second, work, out);
     }
@@ -155,7 +141,7 @@ fn plain_of_two(
     first: &[u16],
     second: &[u16],
     out: &mut [u8],
-) -> Written {
+) -> Result<u64, Unwritten> {
     if merging {
         return convert::merged_of_two(universe, rows, balls, first, second, out);
     }
@@ -166,7 +152,7 @@ fn plain_of_two(
 fn two(
     to: &mut impl Write,
     merging: bool,
-    label: &[u8],
+    label: &str,
     universe: Universe,
     rows: &[i64],
     balls: &[i64],
@@ -185,7 +171,7 @@ fn two(
 fn one_in(
     to: &mut impl Write,
     merging: bool,
-    label: &[u8],
+    label: &str,
     universe: Universe,
     rows: &[i64],
     balls: &[i64],
@@ -196,22 +182,19 @@ fn one_in(
     let mut work = [BEFORE; NODE_LENGTH * MOST_NODES];
     let mut out = [b'.'; LENT];
     let mut other = [b'.'; LENT];
-    if nodes <= MOST_NODES {
-        if lent <= LENT {
-            let numbers = NODE_LENGTH * nodes;
-            one(
-                to,
-                merging,
-                label,
-                universe,
-                rows,
-                balls,
-                words,
-                &mut work[..numbers],
-                &mut out[..lent],
-                &mut other[..lent],
-            )?;
-        }
+    if nodes <= MOST_NODES && lent <= LENT {
+        one(
+            to,
+            merging,
+            label,
+            universe,
+            rows,
+            balls,
+            words,
+            &mut work[..NODE_LENGTH * nodes],
+            &mut out[..lent],
+            &mut other[..lent],
+        )?;
     }
     Ok(())
 }
@@ -220,7 +203,7 @@ fn one_in(
 fn two_in(
     to: &mut impl Write,
     merging: bool,
-    label: &[u8],
+    label: &str,
     universe: Universe,
     rows: &[i64],
     balls: &[i64],
@@ -232,23 +215,20 @@ fn two_in(
     let mut work = [BEFORE; NODE_LENGTH * MOST_NODES];
     let mut out = [b'.'; LENT];
     let mut other = [b'.'; LENT];
-    if nodes <= MOST_NODES {
-        if lent <= LENT {
-            let numbers = NODE_LENGTH * nodes;
-            two(
-                to,
-                merging,
-                label,
-                universe,
-                rows,
-                balls,
-                first,
-                second,
-                &mut work[..numbers],
-                &mut out[..lent],
-                &mut other[..lent],
-            )?;
-        }
+    if nodes <= MOST_NODES && lent <= LENT {
+        two(
+            to,
+            merging,
+            label,
+            universe,
+            rows,
+            balls,
+            first,
+            second,
+            &mut work[..NODE_LENGTH * nodes],
+            &mut out[..lent],
+            &mut other[..lent],
+        )?;
     }
     Ok(())
 }
@@ -257,7 +237,7 @@ fn two_in(
 fn plane(
     to: &mut impl Write,
     merging: bool,
-    label: &[u8],
+    label: &str,
     plane: [i64; 5],
     words: &[u16],
     nodes: usize,
@@ -280,7 +260,7 @@ fn plane(
 fn moved(
     to: &mut impl Write,
     merging: bool,
-    label: &[u8],
+    label: &str,
     nodes: usize,
     lent: usize,
 ) -> io::Result<()> {
@@ -303,7 +283,7 @@ fn constants(to: &mut impl Write) -> io::Result<()> {
     one_in(
         to,
         false,
-        b"WHITE",
+        "WHITE",
         universe(2, 2, 2),
         none,
         none,
@@ -314,7 +294,7 @@ fn constants(to: &mut impl Write) -> io::Result<()> {
     one_in(
         to,
         true,
-        b"BLACK less WHITE",
+        "BLACK less WHITE",
         universe(2, 2, 2),
         none,
         none,
@@ -326,11 +306,11 @@ fn constants(to: &mut impl Write) -> io::Result<()> {
 
 // Trees that are decided over the universe.
 fn decided(to: &mut impl Write) -> io::Result<()> {
-    plane(to, false, b"decided at once", [5, 1, 0, 0, 0], &[256], 5, 1)?;
+    plane(to, false, "decided at once", [5, 1, 0, 0, 0], &[256], 5, 1)?;
     one_in(
         to,
         false,
-        b"decided at once by one son",
+        "decided at once by one son",
         universe(2, 2, 2),
         &[5, 1, 0, 0, 0, -2, 1, 0, 0, 0],
         &[],
@@ -343,9 +323,9 @@ fn decided(to: &mut impl Write) -> io::Result<()> {
 // Walls, and centres that lie on a plane.
 fn walls(to: &mut impl Write) -> io::Result<()> {
     let row: &[u16] = &[256];
-    plane(to, false, b"a wall", [-2, 1, 0, 0, 0], row, 5, 3)?;
-    plane(to, false, b"through centres", [-3, 2, 0, 0, 0], row, 5, 13)?;
-    plane(to, true, b"through centres", [-3, 2, 0, 0, 0], row, 5, 13)
+    plane(to, false, "a wall", [-2, 1, 0, 0, 0], row, 5, 3)?;
+    plane(to, false, "through centres", [-3, 2, 0, 0, 0], row, 5, 13)?;
+    plane(to, true, "through centres", [-3, 2, 0, 0, 0], row, 5, 13)
 }
 
 // MINUS, and MINUS within MINUS.
@@ -353,7 +333,7 @@ fn cuts(to: &mut impl Write) -> io::Result<()> {
     one_in(
         to,
         false,
-        b"MINUS within MINUS",
+        "MINUS within MINUS",
         universe(2, 2, 2),
         &[-2, 1, 0, 0, 0, -1, 0, 1, 0, 0, 3, -1, 0, 0, 0],
         &[],
@@ -362,8 +342,8 @@ fn cuts(to: &mut impl Write) -> io::Result<()> {
         11,
     )?;
     let cut: &[u16] = &[256, 256, 4];
-    plane(to, false, b"less itself", [-3, 2, 0, 0, 0], cut, 15, 13)?;
-    plane(to, true, b"less itself", [-3, 2, 0, 0, 0], cut, 15, 1)
+    plane(to, false, "less itself", [-3, 2, 0, 0, 0], cut, 15, 13)?;
+    plane(to, true, "less itself", [-3, 2, 0, 0, 0], cut, 15, 1)
 }
 
 // Two trees side by side, one of them BLACK or decided early.
@@ -373,7 +353,7 @@ fn pairs(to: &mut impl Write) -> io::Result<()> {
     two_in(
         to,
         false,
-        b"BLACK beside a wall",
+        "BLACK beside a wall",
         universe(2, 3, 3),
         &[-3, 1, 0, 0, 0],
         none,
@@ -385,7 +365,7 @@ fn pairs(to: &mut impl Write) -> io::Result<()> {
     two_in(
         to,
         true,
-        b"a wall beside a frame",
+        "a wall beside a frame",
         universe(2, 3, 3),
         &[-3, 1, 0, 0, 0, -5, 0, 1, 0, 0],
         none,
@@ -401,7 +381,7 @@ fn balls(to: &mut impl Write) -> io::Result<()> {
     one_in(
         to,
         true,
-        b"a ball",
+        "a ball",
         universe(3, 2, 1),
         &[],
         &[2, 2, 0, 2],
@@ -412,7 +392,7 @@ fn balls(to: &mut impl Write) -> io::Result<()> {
     two_in(
         to,
         true,
-        b"a ball less a ball beside a wall",
+        "a ball less a ball beside a wall",
         universe(3, 2, 1),
         &[-1, 1, 0, 0, 0],
         &[2, 2, 0, 2, 2, 2, 0, 1],
@@ -425,16 +405,16 @@ fn balls(to: &mut impl Write) -> io::Result<()> {
 
 // The work room exact, and a node short with the room for symbols short too.
 fn work_rooms(to: &mut impl Write) -> io::Result<()> {
-    moved(to, false, b"exact", 15, 23)?;
-    moved(to, false, b"a node short", 14, 23)?;
-    moved(to, false, b"both short", 14, 0)
+    moved(to, false, "exact", 15, 23)?;
+    moved(to, false, "a node short", 14, 23)?;
+    moved(to, false, "both short", 14, 0)
 }
 
 // The room for symbols a symbol short.
 fn symbol_rooms(to: &mut impl Write) -> io::Result<()> {
-    moved(to, false, b"a symbol short", 15, 22)?;
-    moved(to, true, b"merged, a symbol short", 15, 16)?;
-    moved(to, true, b"merged, exact", 15, 17)
+    moved(to, false, "a symbol short", 15, 22)?;
+    moved(to, true, "merged, a symbol short", 15, 16)?;
+    moved(to, true, "merged, exact", 15, 17)
 }
 
 // Refusals before both.
@@ -445,7 +425,7 @@ fn refused(to: &mut impl Write) -> io::Result<()> {
     one_in(
         to,
         false,
-        b"no such row",
+        "no such row",
         universe(2, 2, 2),
         rows,
         none,
@@ -456,7 +436,7 @@ fn refused(to: &mut impl Write) -> io::Result<()> {
     one_in(
         to,
         false,
-        b"no universe",
+        "no universe",
         universe(5, 2, 2),
         rows,
         none,
@@ -467,7 +447,7 @@ fn refused(to: &mut impl Write) -> io::Result<()> {
     two_in(
         to,
         false,
-        b"no second tree",
+        "no second tree",
         universe(2, 2, 2),
         rows,
         none,
@@ -487,7 +467,7 @@ fn two_rooms(to: &mut impl Write) -> io::Result<()> {
     two_in(
         to,
         false,
-        b"two exact",
+        "two exact",
         universe(2, 2, 2),
         rows,
         none,
@@ -499,7 +479,7 @@ fn two_rooms(to: &mut impl Write) -> io::Result<()> {
     two_in(
         to,
         true,
-        b"two, a node short",
+        "two, a node short",
         universe(2, 2, 2),
         rows,
         none,
@@ -515,7 +495,7 @@ fn no_levels(to: &mut impl Write) -> io::Result<()> {
     one_in(
         to,
         false,
-        b"no levels",
+        "no levels",
         universe(1, 0, 0),
         &[1, 0, 0, 0, 0],
         &[],

@@ -4,7 +4,6 @@ use mathlib.Core.Path.{◌≡◌, refl, sym, ap, ◌∙◌}
 use mathlib.Core.List.{List, ◌++◌}
 use Prim.Native.Nat.{ℕ, ◌+◌, ◌-◌, ◌*◌, ◌^◌, ◌≤◌, ◌<◌}
 use native.Mathlib.Omega.{arith}
-use borrow.Author.Rules.{rules}
 use lib.ListN.{length, get_or, drop}
 use lib.Pow.{pow_mono}
 use Rattle.lemmas.proofs.Grid.{listed_cong, listed_own}
@@ -48,14 +47,8 @@ pub record Going (w : Window) (axes s before : List ℕ) (left bits p : ℕ) (ro
   pub behind : drop (length_of w) row ≡ drop (length_of w) before
 
 module _ (w : Window) (s before : List ℕ) (l : Listed w s before) where
-  pub list_opened : Opened w
-  list_opened = l.opened
-
   pub list_axes : 1 ≤ w.universe.axes
   list_axes = (accepted w.universe l.opened.accepts).some_axes
-
-  pub list_places : (n : ℕ) → n ≡ length_of w → n ≤ length before
-  list_places n e = omega (arith, l.long)
 
   pub list_first :
       (axes row : List ℕ) (left bits n : ℕ) → axes ≡ axes_left w.universe → left ≡ levels_answer w.universe →
@@ -83,9 +76,6 @@ module _ (w : Window) (s before : List ℕ) (l : Listed w s before) where
 module _ (w : Window) (axes s before : List ℕ) (left bits p : ℕ) (row : List ℕ) (g : Going w axes s before left bits p row) where
   -- THEOREM: where no tree is left the row is the list's
   module _ (n : ℕ) (entry : List ℕ) (e : n ≡ length_of w) (x : Cleared n entry before) where
-    pub list_kept : length row ≡ length entry
-    list_kept = g.long ∙ x.long
-
     pub list_done : length s ≤ p → row ≡ frame_counts w.universe s w.first w.last ++ drop (length_of w) entry
     unfolding frame_counts sum_over
     list_done h =
@@ -184,5 +174,3 @@ module _ (w : Window) (axes s before : List ℕ) (left bits p : ℕ) (row : List
                 );
             behind = y.behind ∙ g.behind;
           }
-
-pub ruleset list_laws = (rules, list_opened, list_axes, list_places, list_first, list_kept, list_done, list_tree, list_less, list_next)

@@ -1,11 +1,11 @@
 -- Lists of expressions, by what stands at a place: nothing more, no tree, or a tree and the list behind it. `Follow u s n p list`: these shapes, at most n,
--- follow each other in s from place p to its end; it is what `list_from` finds, both ways round. Last, the laws of `list_refusal`.
+-- follow each other in s from place p to its end; it is what `list_from` finds, both ways round. Last, the laws of `check_list`.
 use mathlib.Core.Path.{◌≡◌, refl, sym, ap, ◌∙◌}
 use mathlib.Core.List.{List, [], ◌∷◌}
+use Rattle.std.specs.Prelude.{Option, Some, None}
 use Prim.Native.Nat.{ℕ, zero, suc, ◌+◌, ◌-◌, ◌≤◌, ◌<◌}
 use native.Mathlib.Decide.{ℕ_discrete}
 use native.Mathlib.Omega.{arith}
-use borrow.Author.Rules.{rules}
 use borrow.Author.Tests.{eq-eqb, ne_eqb}
 use lib.ListN.{length}
 use Rattle.universe.specs.declared.Universe.{Universe}
@@ -129,7 +129,7 @@ pub no_more : {u : Universe} {s : List ℕ} {n p : ℕ} {list : List Shape} → 
 no_more (nothing_follows e) h = refl
 no_more {u} {s} (tree_follows {p = p} {a = a} r f) h = absurd (omega (arith, tree_inside u s p a r, size_positive a))
 
--- ---- the laws of `list_refusal`: what is told of the list from place p on is what is asked
+-- ---- the laws of `check_list`: what is told of the list of at most `more` expressions from place p on is what is asked
 pub record Judging (u : Universe) (s : List ℕ) (p more : ℕ) : Type 0 where
   pub accepts : universe_refusal u ≡ 0
   pub within : p ≤ length s
@@ -140,42 +140,31 @@ unfolding list_refusal list_of
 judging_first u s ok = record { accepts = ok; within = omega arith; tells = refl }
 
 module _ (u : Universe) (s : List ℕ) (p more : ℕ) (j : Judging u s p more) where
-  pub judging_end : length s ≤ p → 0 ≡ list_refusal u s
-  judging_end h = sym (ap listing_refusal (list_end u s more p (omega (arith, j.within)))) ∙ j.tells
+  pub judging_end : p ≡ length s → 0 ≡ list_refusal u s
+  judging_end h = sym (ap listing_refusal (list_end u s more p h)) ∙ j.tells
 
-  module _ (h : p < length s) where
-    there : p ≡ length s → ⊥
-    there e = omega arith
-
+  module _ (there : p ≡ length s → ⊥) where
     pub judging_over : more ≡ 0 → bad_expression ≡ list_refusal u s
     judging_over z = sym (ap listing_refusal (ap (λ n. list_from u s n p) z ∙ list_over u s p there)) ∙ j.tells
 
-    module _ (some : more ≡ 0 → ⊥) (end : ℕ) (e : end ≡ tree_end u s p) where
+    module _ (some : 0 < more) (end : Option ℕ) (e : end ≡ tree_end u s p) where
       again : more ≡ suc (more - 1)
       again = omega arith
 
-      pub judging_none : end ≡ 0 → bad_expression ≡ list_refusal u s
+      pub judging_none : end ≡ None → bad_expression ≡ list_refusal u s
       judging_none z =
           sym (ap listing_refusal (ap (λ n. list_from u s n p) again ∙ list_none u s p there (more - 1) (end_none u j.accepts s p end e z))) ∙ j.tells
 
-      module _ (n : end ≡ 0 → ⊥) where
-        pub judging_less : length s - end < length s - p
-        judging_less =
-            let w = end_some u j.accepts s p end e n in
-            omega (arith, w.after, size_positive w.shape, tree_inside u s p w.shape w.is)
-
-        pub judging_next : Judging u s end (more - 1)
-        judging_next =
-            let w = end_some u j.accepts s p end e n in
-            let a = w.shape in
-            record {
-              accepts = j.accepts;
-              within = omega (arith, w.after, tree_inside u s p a w.is);
-              tells =
-                  ap (λ q. listing_refusal (list_from u s (more - 1) q)) w.after
-                  ∙ sym (same_refusal a (list_from u s (more - 1) (p + size a)))
-                  ∙ sym (ap listing_refusal (ap (λ m. list_from u s m p) again ∙ list_more u s p there (more - 1) a w.is))
-                  ∙ j.tells;
-            }
-
-pub ruleset judging_laws = (rules, judging_first, judging_end, judging_over, judging_none, judging_less, judging_next)
+      pub judging_next : (q : ℕ) → end ≡ Some q → Judging u s q (more - 1)
+      judging_next q z =
+          let w = end_some u j.accepts s p end e q z in
+          let a = w.shape in
+          record {
+            accepts = j.accepts;
+            within = omega (arith, w.after, tree_inside u s p a w.is);
+            tells =
+                ap (λ i. listing_refusal (list_from u s (more - 1) i)) w.after
+                ∙ sym (same_refusal a (list_from u s (more - 1) (p + size a)))
+                ∙ sym (ap listing_refusal (ap (λ m. list_from u s m p) again ∙ list_more u s p there (more - 1) a w.is))
+                ∙ j.tells;
+          }

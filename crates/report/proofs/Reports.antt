@@ -8,8 +8,9 @@ use native.Mathlib.Decide.{ℕ_discrete}
 use native.Mathlib.Omega.{arith}
 use borrow.Author.Rules.{rules}
 use borrow.Author.Tests.{eq-eqb, ne_eqb}
-use lib.ListN.{length, get_or, drop, get_or-append}
+use lib.ListN.{length, get_or, drop, take, get_or-append, length-append}
 use lib.Pow.{pow_mono}
+use Rattle.std.specs.List.{sum as list-sum}
 use Rattle.lemmas.specs.Sums.{sum}
 use Rattle.lemmas.proofs.Sums.{sum_cong}
 use Rattle.lemmas.proofs.Grid.{listed_length, listed_at}
@@ -19,17 +20,19 @@ use Rattle.universe.specs.Universe.{universe_refusal, levels, most_levels}
 use Rattle.universe.specs.Voxel.{window_refusal}
 use Rattle.universe.proofs.Lent.{untouched, written, room_enough, room_short}
 use Rattle.universe.proofs.Refusing.{last_check}
+use Rattle.universe.proofs.Telling.{number-not_zero}
 use Rattle.universe.proofs.Universes.{accepted, levels_few, voxels_left_lem}
 use Rattle.bintree.specs.Shape.{Shape, depth}
 use Rattle.bintree.specs.Counts.{voxels_at}
 use Rattle.bintree.specs.Verdicts.{window_length, voxels_in}
 use Rattle.bintree.proofs.Counts.{volume_most, window_most}
 use Rattle.bintree.proofs.WindowAnswers.{window_accepted}
-use Rattle.report.specs.declared.Report.{Report}
+use Rattle.report.specs.Told.{ReportAnswer}
 use Rattle.report.specs.Lists.{list_of, shapes_of, list_refusal, sum_over}
 use Rattle.report.specs.Reports.{frame_voxels, frame_counts, total_voxels, refused_report, short_report, done_report}
 use Rattle.report.specs.Reports.{report_refusal, report_answer, report_row}
-use Rattle.report.specs.Filling.{most_total, first_sum, Opened, Listed}
+use Rattle.report.specs.Filling.{most_total, Opened, Listed}
+use Rattle.report.proofs.Rows.{sum_taken}
 use Rattle.report.proofs.Lists.{whole_list, follow_few, follow_fit}
 use Rattle.report.proofs.Sums.{sum_over_lem, over_most, over_colours}
 
@@ -83,7 +86,7 @@ module _ (u : Universe) (s : List ℕ) (first last : ℕ) where
           let most : length (shapes_of (list_of u s)) * 2 ^ most_levels ≤ most_total = mul-le-mul (follow_few w) (le_refl (2 ^ most_levels)) in
           omega (arith, total_shapes, over_most (levels u) (2 ^ most_levels) (λ a. voxels_in u a first last) shape_most (follow_fit w))
 
--- ---- the laws of `report_refusal`
+-- ---- the laws of `check`
 module _ (u : Universe) (s : List ℕ) (first last two : ℕ) (e : two ≡ universe_refusal u) where
   pub refused_universe : (two ≡ 0 → ⊥) → two ≡ report_refusal u s first last
   refused_universe n = rw (← e, ne_eqb two 0 n)
@@ -99,7 +102,7 @@ module _ (u : Universe) (s : List ℕ) (first last two : ℕ) (e : two ≡ unive
       pub refused_window : seven ≡ 0 → (nine : ℕ) → nine ≡ window_refusal u first last → nine ≡ report_refusal u s first last
       refused_window y nine g = rw (← e, eq-eqb two 0 z, ← f, eq-eqb seven 0 y, ← g) (sym (last_check nine))
 
-pub ruleset refusal_laws = (rules, refused_universe, universe_taken, refused_list, refused_window)
+pub ruleset refusal_laws = (rules, number-not_zero, refused_universe, universe_taken, refused_list, refused_window)
 
 -- what was accepted, read from the number
 pub record Taken (u : Universe) (s : List ℕ) (first last : ℕ) : Type 0 where
@@ -136,19 +139,19 @@ module _ (u : Universe) (s : List ℕ) (first last : ℕ) (row : List ℕ) (numb
     done_is h = rw (← e, eq-eqb number 0 z, room_enough (length row) (window_length first last) h)
 
   -- and the row by the answer's number
-  module _ {answer : Report} (f : answer ≡ report_answer u s first last row) where
+  module _ {answer : ReportAnswer} (f : answer ≡ report_answer u s first last row) where
     pub row_kept : (answer.refusal ≡ 0 → ⊥) → row ≡ report_row u s first last row
     unfolding report_row
-    row_kept h = untouched (frame_counts u s first last) row (λ z. h (ap (λ (a : Report). a.refusal) f ∙ z))
+    row_kept h = untouched (frame_counts u s first last) row (λ z. h (ap (λ (a : ReportAnswer). a.refusal) f ∙ z))
 
     pub row_set : answer.refusal ≡ 0 → frame_counts u s first last ++ drop (window_length first last) row ≡ report_row u s first last row
     unfolding report_row
-    row_set z = written (frame_counts u s first last) row (sym (ap (λ (a : Report). a.refusal) f) ∙ z) (sym (counts_length u s first last))
+    row_set z = written (frame_counts u s first last) row (sym (ap (λ (a : ReportAnswer). a.refusal) f) ∙ z) (sym (counts_length u s first last))
 
 -- ---- the laws of `report_of`
 module _ (u : Universe) (s : List ℕ) (first last : ℕ) (row : List ℕ) (number : ℕ) (e : number ≡ report_refusal u s first last) where
   pub report_refused :
-      (answer : Report) → (number ≡ 0 → ⊥) → answer ≡ refused_report number →
+      (answer : ReportAnswer) → (number ≡ 0 → ⊥) → answer ≡ refused_report number →
       (answer ≡ report_answer u s first last row) × (row ≡ report_row u s first last row)
   report_refused answer n f = let x = refused_is u s first last row number e n in (f ∙ x, row_kept u s first last row number e x n)
 
@@ -161,7 +164,7 @@ module _ (u : Universe) (s : List ℕ) (first last : ℕ) (row : List ℕ) (numb
 
     module _ (frames : ℕ) (g : frames ≡ window_length first last) where
       pub report_short :
-          (answer : Report) → length row < frames → answer ≡ short_report frames →
+          (answer : ReportAnswer) → length row < frames → answer ≡ short_report frames →
           (answer ≡ report_answer u s first last row) × (row ≡ report_row u s first last row)
       report_short answer h f =
           let x = short_is u s first last row number e z (omega arith) in
@@ -172,21 +175,22 @@ module _ (u : Universe) (s : List ℕ) (first last : ℕ) (row : List ℕ) (numb
         report_listed = record { opened = report_opened; list = accepts.list; long = omega arith }
 
         module _ (after : List ℕ) (x : after ≡ frame_counts u s first last ++ drop (window_length first last) row) where
-          pub report_places : length after ≡ length row → frames ≤ length after
-          report_places k = omega arith
+          sum_is : list-sum (take frames after) ≡ total_voxels u s first last
+          sum_is =
+              sym (sum_taken frames after (omega (
+                arith,
+                ap length x,
+                length-append (frame_counts u s first last) (drop (window_length first last) row),
+                counts_length u s first last,
+              )))
+              ∙ rw g (front_sum u s first last after (drop (window_length first last) row) x)
 
-          sum_is : first_sum frames after ≡ total_voxels u s first last
-          unfolding first_sum
-          sum_is = rw g (front_sum u s first last after (drop (window_length first last) row) x)
-
-          pub report_fits : first_sum frames after < 2 ^ 64
+          pub report_fits : list-sum (take frames after) < 2 ^ 64
           report_fits = omega (arith, sum_is, total_most u s first last accepts.universe accepts.list accepts.window)
 
           pub report_done :
-              (answer : Report) (total : ℕ) → total ≡ first_sum frames after → answer ≡ done_report frames total →
+              (answer : ReportAnswer) (total : ℕ) → total ≡ list-sum (take frames after) → answer ≡ done_report frames total →
               (answer ≡ report_answer u s first last row) × (after ≡ report_row u s first last row)
           report_done answer total t f =
               let y = done_is u s first last row number e z (omega arith) in
               (f ∙ rw (t, sum_is, g) y, x ∙ row_set u s first last row number e y refl)
-
-pub ruleset report_laws = (rules, report_refused, report_opened, report_short, report_listed, report_places, report_fits, report_done)

@@ -1,14 +1,15 @@
--- The small functions of src/row.rt: the row cleared, places of frames, as much added at each place of a run, a black block, the frames of halves, the sum.
+-- The small functions of src/row.rt: the frames of a window, a black block, the frames of halves; and the sum of counts as the library sums them.
 -- Each law takes its premises in the form that code leaves them.
 use mathlib.Core.Path.{◌≡◌, refl, sym, ap, ◌∙◌}
 use mathlib.Core.List.{List}
-use Prim.Native.Nat.{ℕ, suc, ◌+◌, ◌-◌, ◌*◌, ◌%◌, ◌^◌, ◌≤◌, ◌<◌}
-use native.Mathlib.Decide.{ℕ_discrete, dec_le, dec_lt}
+use Rattle.std.specs.List.{sum as list-sum}
+use Rattle.std.proofs.lemmas.List.Sums.{sum_by_more}
+use Prim.Native.Nat.{ℕ, zero, suc, ◌+◌, ◌-◌, ◌*◌, ◌%◌, ◌^◌, ◌≤◌, ◌<◌}
+use native.Mathlib.Decide.{dec_le, dec_lt}
 use native.Mathlib.Omega.{arith}
 use borrow.Author.Rules.{rules}
-use lib.ListN.{length, get_or, set, drop, length-set}
+use lib.ListN.{length, get_or, take}
 use lib.Pow.{pow_mono}
-use lib.Seq.{get_or-set_same, get_or-set_other, drop-set-lt}
 use Rattle.lemmas.specs.Sums.{sum}
 use Rattle.lemmas.proofs.Machine.{shifted_one}
 use Rattle.universe.specs.declared.Universe.{Universe}
@@ -17,13 +18,12 @@ use Rattle.universe.proofs.Questions.{axes_left_at}
 use Rattle.universe.proofs.Universes.{accepted, levels_few, side_few}
 use Rattle.bintree.specs.Counts.{inside}
 use Rattle.bintree.specs.Windows.{frame_bits}
-use Rattle.bintree.proofs.Counts.{sum_split}
 use Rattle.bintree.proofs.Owed.{bit_under}
 use Rattle.bintree.proofs.Frames.{bits_across, bits_along_lem}
 use Rattle.bintree.proofs.Windows.{inside_at, outside_at}
 use Rattle.bintree.proofs.WindowAnswers.{InUniverse, window_accepted}
 use Rattle.report.specs.declared.row.Window.{Window}
-use Rattle.report.specs.Filling.{length_of, places_before, first_sum, Cleared, Adds, Roomy, AddsEach, Takes, Opened, black_of, Halved}
+use Rattle.report.specs.Filling.{length_of, places_before, Adds, Roomy, AddsEach, Takes, Opened, black_of, Halved}
 
 -- ---- a window that is accepted: its ends are in order, and it is no longer than the longest side
 module _ (w : Window) (o : Opened w) where
@@ -43,133 +43,7 @@ module _ (w : Window) (o : Opened w) where
   pub frames_are : w.last - w.first + 1 ≡ length_of w
   frames_are = omega (arith, in_universe.order)
 
-  -- the laws of `places_before`
-  module _ (frame : ℕ) where
-    pub places_none : frame < w.first → 0 ≡ places_before w frame
-    places_none h = omega arith
-
-    module _ (all : ℕ) (e : all ≡ length_of w) where
-      pub places_all : all < frame - w.first → all ≡ places_before w frame
-      places_all h = omega arith
-
-      pub places_some : frame - w.first ≤ all → frame - w.first ≡ places_before w frame
-      places_some h = omega arith
-
 pub ruleset frames_laws = (rules, ends_order, ends_fit, frames_are)
-
-pub ruleset places_laws = (rules, places_none, places_all, places_some)
-
--- ---- the laws of `clear`: the first c of n places are cleared
-pub record Clearing (n : ℕ) (before : List ℕ) (c : ℕ) (now : List ℕ) : Type 0 where
-  pub fits : n ≤ length before
-  pub few : c ≤ n
-  pub long : length now ≡ length before
-  pub front : (i : ℕ) → i < c → get_or now i 0 ≡ 0
-  pub behind : drop n now ≡ drop n before
-
-module _ (n : ℕ) (before : List ℕ) where
-  pub clearing_first : n ≤ length before → Clearing n before 0 before
-  clearing_first h = record { fits = h; few = omega arith; long = refl; front = λ i k. absurd (omega arith); behind = refl }
-
-  module _ (c : ℕ) (now : List ℕ) (w : Clearing n before c now) where
-    pub clearing_place : c < n → c < length now
-    clearing_place h = omega (arith, w.fits, w.long)
-
-    pub clearing_long : length now ≡ length before
-    clearing_long = w.long
-
-    pub clearing_next : c < n → Clearing n before (c + 1) (set now c 0)
-    clearing_next h =
-        record {
-          fits = w.fits;
-          few = omega arith;
-          long = length-set now c 0 ∙ w.long;
-          front = λ i k. at i k (ℕ_discrete i c);
-          behind = drop-set-lt n now c 0 h ∙ w.behind;
-        }
-      where
-        at : (i : ℕ) → i < c + 1 → Dec (i ≡ c) → get_or (set now c 0) i 0 ≡ 0
-        at i k (yes e) = rw e (get_or-set_same now c 0 0 (clearing_place h))
-        at i k (no e) = get_or-set_other now c i 0 0 e ∙ w.front i (omega arith)
-
-    pub clearing_end : n ≤ c → Cleared n before now
-    clearing_end h = record { long = w.long; front = λ i k. w.front i (omega arith); behind = w.behind }
-
-pub ruleset clearing_laws = (rules, clearing_first, clearing_place, clearing_long, clearing_next, clearing_end)
-
--- ---- the laws of `add_each`: so much is added at the places from `from` on before c
-pub record Adding (before : List ℕ) (from to each c : ℕ) (now : List ℕ) : Type 0 where
-  pub fits : to ≤ length before
-  pub begins : from ≤ c
-  pub few : c ≤ to
-  pub long : length now ≡ length before
-  pub at : (i : ℕ) → get_or now i 0 ≡ get_or before i 0 + inside from (c - from) (λ e. each) i
-  pub behind : (n : ℕ) → to ≤ n → drop n now ≡ drop n before
-
--- one place more: only there is something changed
-inside_more : (from n each i : ℕ) → (i ≡ from + n → ⊥) → inside from (n + 1) (λ e. each) i ≡ inside from n (λ e. each) i
-inside_more from n each i h = go (dec_le from i) (dec_lt i (from + n))
-  where
-    go : Dec (from ≤ i) → Dec (i < from + n) → inside from (n + 1) (λ e. each) i ≡ inside from n (λ e. each) i
-    go (yes k) (yes l) = inside_at from (n + 1) (λ e. each) i k (omega arith) ∙ sym (inside_at from n (λ e. each) i k l)
-    go (yes k) (no l) = outside_at from (n + 1) (λ e. each) i (λ a b. omega arith) ∙ sym (outside_at from n (λ e. each) i (λ a b. omega arith))
-    go (no k) l = outside_at from (n + 1) (λ e. each) i (λ a b. omega arith) ∙ sym (outside_at from n (λ e. each) i (λ a b. omega arith))
-
-module _ (before : List ℕ) (from to each : ℕ) where
-  pub adding_first : from ≤ to → Roomy to each before → Adding before from to each from before
-  adding_first h k =
-      record {
-        fits = k.long;
-        begins = omega arith;
-        few = h;
-        long = refl;
-        at = λ i. omega (arith, outside_at from (from - from) (λ e. each) i (λ a b. omega arith));
-        behind = λ n l. refl;
-      }
-
-  module _ (c : ℕ) (now : List ℕ) (w : Adding before from to each c now) where
-    pub adding_long : length now ≡ length before
-    adding_long = w.long
-
-    module _ (h : c < to) where
-      pub adding_place : c < length now
-      adding_place = omega (arith, w.fits, w.long)
-
-      here : get_or now c 0 ≡ get_or before c 0
-      here = omega (arith, w.at c, outside_at from (c - from) (λ e. each) c (λ a b. omega (arith, w.begins)))
-
-      pub adding_fits : Roomy to each before → get_or now c 0 + each < 2 ^ 64
-      adding_fits k = omega (arith, here, k.under c h)
-
-      pub adding_next : Adding before from to each (c + 1) (set now c (get_or now c 0 + each))
-      adding_next =
-          record {
-            fits = w.fits;
-            begins = omega (arith, w.begins);
-            few = omega arith;
-            long = length-set now c (get_or now c 0 + each) ∙ w.long;
-            at = λ i. at i (ℕ_discrete i c);
-            behind = λ n l. drop-set-lt n now c (get_or now c 0 + each) (omega arith) ∙ w.behind n l;
-          }
-        where
-          more : c + 1 - from ≡ c - from + 1
-          more = omega (arith, w.begins)
-
-          at : (i : ℕ) → Dec (i ≡ c) → get_or (set now c (get_or now c 0 + each)) i 0 ≡ get_or before i 0 + inside from (c + 1 - from) (λ e. each) i
-          at i (yes e) =
-              rw e (get_or-set_same now c (get_or now c 0 + each) 0 adding_place
-              ∙ omega (arith, here, inside_at from (c + 1 - from) (λ e. each) c w.begins (omega (arith, w.begins))))
-          at i (no e) =
-              get_or-set_other now c i (get_or now c 0 + each) 0 e
-              ∙ w.at i
-              ∙ ap (λ (x : ℕ). get_or before i 0 + x) (sym (rw more (inside_more from (c - from) each i (λ f. e (omega (arith, w.begins))))))
-
-    pub adding_end : to ≤ c → AddsEach from to each before now
-    adding_end h =
-        let z : c ≡ to = omega (arith, w.few) in
-        record { adds = λ n l. record { long = w.long; front = λ i k. w.at i ∙ rw z; behind = w.behind n l } }
-
-pub ruleset adding_laws = (rules, adding_first, adding_long, adding_place, adding_fits, adding_next, adding_end)
 
 -- ---- the laws of `add_block`: places of the row and frames of the block are the same run
 few_bits : (frame bits : ℕ) → frame + 2 ^ bits ≤ longest_side → bits ≤ most_frame_bits
@@ -286,39 +160,10 @@ module _ (frame bits below : ℕ) (less : below ≤ bits) (h : frame + 2 ^ bits 
 
 pub ruleset later_laws = (rules, wide_shift, narrow_shift, later_less, later_fits, later_is)
 
--- ---- the laws of `total_of`: the sum of the first c counts
-pub record Totalling (row : List ℕ) (n c total : ℕ) : Type 0 where
-  pub fits : n ≤ length row
-  pub small : first_sum n row < 2 ^ 64
-  pub few : c ≤ n
-  pub is : total ≡ first_sum c row
-
-module _ (row : List ℕ) (n : ℕ) where
-  pub totalling_first : n ≤ length row → first_sum n row < 2 ^ 64 → Totalling row n 0 0
-  unfolding first_sum sum
-  totalling_first h k = record { fits = h; small = k; few = omega arith; is = refl }
-
-  module _ (c total : ℕ) (w : Totalling row n c total) where
-    pub totalling_end : n ≤ c → total ≡ first_sum n row
-    totalling_end h = let e : c ≡ n = omega (arith, w.few) in w.is ∙ ap (λ m. first_sum m row) e
-
-    module _ (h : c < n) where
-      pub totalling_place : c < length row
-      totalling_place = omega (arith, w.fits)
-
-      next : total + get_or row c 0 ≡ first_sum (suc c) row
-      unfolding first_sum sum
-      next = omega (arith, w.is)
-
-      pub totalling_fits : total + get_or row c 0 < 2 ^ 64
-      unfolding first_sum
-      totalling_fits =
-          let e : n ≡ suc c + (n - suc c) = omega arith in
-          omega (arith, next, w.small, ap (λ m. first_sum m row) e, sum_split (suc c) (n - suc c) (λ i. get_or row i 0))
-
-      pub totalling_next : Totalling row n (c + 1) (total + get_or row c 0)
-      totalling_next =
-          let e : c + 1 ≡ suc c = omega arith in
-          record { fits = w.fits; small = w.small; few = omega arith; is = next ∙ ap (λ m. first_sum m row) (sym e) }
-
-pub ruleset totalling_laws = (rules, totalling_first, totalling_end, totalling_place, totalling_fits, totalling_next)
+-- ---- the sum of the first counts, as the library sums them
+pub sum_taken : (n : ℕ) (row : List ℕ) → n ≤ length row → sum n (λ c. get_or row c 0) ≡ list-sum (take n row)
+unfolding sum
+sum_taken zero row h = refl
+sum_taken (suc n) row h =
+    let e : n + 1 ≡ suc n = omega arith in
+    omega (arith, sum_taken n row (omega arith), rw e at (sum_by_more (λ (x : ℕ). x) row n 0 (omega arith)))

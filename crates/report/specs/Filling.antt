@@ -1,7 +1,6 @@
 -- How the code meets rules 5.5 to 5.7: the row is cleared, and then each tree of the list, block by block, adds its
 -- black voxels at the places of its frames in the window. Place c of the row is frame first + c.
 use Rattle.std.specs.Prelude.{ℕ, ◌+◌, ◌-◌, ◌*◌, ◌^◌, ◌≤◌, ◌<◌, min, ◌≡◌, List, length, get_or, drop}
-use Rattle.lemmas.specs.Sums.{sum}
 use Rattle.universe.specs.declared.Universe.{Universe}
 use Rattle.universe.specs.Questions.{axes_left}
 use Rattle.universe.specs.Universe.{universe_refusal, levels, most_levels, frame_count}
@@ -25,10 +24,6 @@ length_of w = window_length w.first w.last
 -- how many places of its row are of frames before this one
 abbrev pub places_before : Window → ℕ → ℕ
 places_before w frame = min (frame - w.first) (length_of w)
-
--- the sum of the first n counts of a row
-unfoldable pub first_sum : ℕ → List ℕ → ℕ
-first_sum n row = sum n (λ c. get_or row c 0)
 
 -- a row whose first n places are zeros, the rest as before
 pub record Cleared (n : ℕ) (before after : List ℕ) : Type 0 where

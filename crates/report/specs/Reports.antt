@@ -13,7 +13,7 @@ use Rattle.bintree.specs.Answers.{unless_refused}
 use Rattle.bintree.specs.Parts.{colour_at}
 use Rattle.bintree.specs.Verdicts.{window_length}
 use Rattle.demands.specs.Voxels.{black_voxels_at}
-use Rattle.report.specs.declared.Report.{Report}
+use Rattle.report.specs.Told.{ReportAnswer}
 use Rattle.report.specs.Lists.{list_of, shapes_of, list_refusal, sum_over}
 
 -- rule 5.6: how many voxels of a frame are black, summed over the shapes of a list
@@ -30,13 +30,13 @@ total_voxels u s first last =
     sum (window_length first last) (λ c. frame_voxels u (shapes_of (list_of u s)) (first + c))
 
 -- a report is refused, has too short a row, or is done; rule 8.3: with 6 comes the length that is needed
-abbrev pub refused_report : ℕ → Report
+abbrev pub refused_report : ℕ → ReportAnswer
 refused_report number = record { refusal = number; frames = 0; total = 0 }
 
-abbrev pub short_report : ℕ → Report
+abbrev pub short_report : ℕ → ReportAnswer
 short_report needed = record { refusal = no_room; frames = needed; total = 0 }
 
-abbrev pub done_report : ℕ → ℕ → Report
+abbrev pub done_report : ℕ → ℕ → ReportAnswer
 done_report frames total = record { refusal = 0; frames = frames; total = total }
 
 -- rule 5.8: 2, 7 and 9, and then 6
@@ -46,7 +46,7 @@ list_checks u s first last = universe_refusal u ∷ list_refusal u s ∷ window_
 abbrev pub report_refusal : Universe → List ℕ → ℕ → ℕ → ℕ
 report_refusal u s first last = first_refusal (list_checks u s first last)
 
-unfoldable pub report_answer : Universe → List ℕ → ℕ → ℕ → List ℕ → Report
+unfoldable pub report_answer : Universe → List ℕ → ℕ → ℕ → List ℕ → ReportAnswer
 report_answer u s first last row =
     unless_refused (report_refusal u s first last) refused_report
     (unless_refused (room_refusal (length row) (window_length first last)) (λ six. short_report (window_length first last))

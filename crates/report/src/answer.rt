@@ -1,54 +1,51 @@
 // The report: the checks in their order, and the row.
 ghost use Rattle.std.specs.Prelude.{◌≡◌};
+ghost use Rattle.universe.specs.Told.{number_told};
 ghost use Rattle.report.specs.Reports.{report_refusal, report_answer, report_row};
+ghost use Rattle.report.specs.Told.{report_told};
 
 use crate::Report;
-use crate::list::list_refusal;
-use crate::row::{Window, fill_list, frames_in, total_of};
-use universe::Universe;
+use crate::list::check_list;
+use crate::row::{Window, fill_list, frames_in};
+use universe::{Refusal, Universe, Unwritten};
 
-// The first of 2, 7 and 9 that refuses, or 0.
-fn report_refusal(universe: Universe, expressions: &[u8], first: u64, last: u64) -> u64
-    ensures { result ≡ report_refusal universe expressions.now first last }
+// Refused by the first of 2, 7 and 9.
+fn check(universe: Universe, expressions: &[u8], first: u64, last: u64) -> Result<(), Refusal>
+    ensures { number_told result ≡ report_refusal universe expressions.now first last }
 {
-    let two = universe.refusal();
-    if two != 0 {
-        return two;
-    }
-    let seven = list_refusal(universe, expressions);
-    if seven != 0 {
-        return seven;
-    }
-    universe.window_refusal(first, last)
+    universe.check()?;
+    check_list(universe, expressions)?;
+    universe.check_window(first, last)
 }
 
 // How many black voxels each frame from first to last has, both ends in, summed over a list of expressions: one count
-// for each frame, set from the row's front on, and their total. A refusal leaves the row as it was.
+// for each frame, set from the row's front on, and their total. A refusal leaves the row as it was; with too short a row
+// comes how many frames there are.
 pub fn report_of(
     universe: Universe,
     expressions: &[u8],
     first: u64,
     last: u64,
     counts: &mut [u64],
-) -> Report
+) -> Result<Report, Unwritten>
     ensures result_value { let row = counts.old in
-        result ≡ report_answer universe expressions.now first last row }
+        report_told result ≡ report_answer universe expressions.now first last row }
     ensures counts_after { let row = counts.old in
         counts.new ≡ report_row universe expressions.now first last row }
 {
-    let refusal = report_refusal(universe, expressions, first, last);
-    if refusal != 0 {
-        return Report::refused(refusal);
-    }
+    check(universe, expressions, first, last)?;
     let window = Window {
-        universe: universe,
-        first: first,
-        last: last,
+        universe,
+        first,
+        last,
     };
     let frames = frames_in(window);
     if counts.len() < frames {
-        return Report::short(frames as u64);
+        return Err(Unwritten::NoRoom(frames as u64));
     }
     fill_list(window, expressions, counts);
-    Report::done(frames as u64, total_of(counts, frames))
+    Ok(Report {
+        frames: frames as u64,
+        total: counts[..frames].iter().sum(),
+    })
 }

@@ -1,12 +1,11 @@
 // The row of a window, one count for each frame: it is cleared, and each tree of a list adds its black voxels.
-ghost use Rattle.std.specs.Prelude.{◌≡◌, ◌++◌, ◌+◌, ◌-◌, ◌^◌, ◌≤◌, ◌<◌, length, drop};
+ghost use Rattle.std.specs.Prelude.{◌≡◌, ◌++◌, ◌+◌, ◌-◌, ◌^◌, ◌≤◌, length, drop};
 ghost use Rattle.universe.specs.Universe.{most_levels, longest_side};
 ghost use Rattle.bintree.specs.Windows.{frame_bits};
 ghost use Rattle.report.specs.Reports.{frame_counts};
 ghost use Rattle.report.specs.Filling.{
   length_of,
   places_before,
-  first_sum,
   Cleared,
   Adds,
   Roomy,
@@ -43,11 +42,7 @@ fn clear(counts: &mut [u64], frames: usize)
     requires { frames ≤ length counts.old }
     ensures { Cleared frames counts.old counts.new }
 {
-    let mut c: usize = 0;
-    while c < frames {
-        counts[c] = 0;
-        c += 1;
-    }
+    counts[..frames].fill(0);
 }
 
 // How many places of the row are of frames before this one.
@@ -55,12 +50,8 @@ fn places_before(window: Window, frame: u64) -> usize
     requires { Opened window }
     ensures { result ≡ places_before window frame }
 {
-    if frame < window.first {
-        return 0;
-    }
-    let places = (frame - window.first) as usize;
-    let all = frames_in(window);
-    if all < places { all } else { places }
+    let places = frame.saturating_sub(window.first) as usize;
+    places.min(frames_in(window))
 }
 
 // Adds as much at each place from `from` on before `to`.
@@ -69,10 +60,8 @@ fn add_each(counts: &mut [u64], from: usize, to: usize, each: u64)
     requires roomy { Roomy to each counts.old }
     ensures { AddsEach from to each counts.old counts.new }
 {
-    let mut c = from;
-    while c < to {
-        counts[c] += each;
-        c += 1;
+    for count in &mut counts[from..to] {
+        *count += each;
     }
 }
 
@@ -91,6 +80,7 @@ fn add_block(window: Window, frame: u64, bits: u64, rest: u64, counts: &mut [u64
 }
 
 // The bits of the frames of a block's halves: one less where the block is halved across the frame axis.
+#[tactic(auto, using(crate::proofs::Rows::below_laws))]
 fn bits_below(
     universe: Universe,
     axes: &[usize; Universe::MOST_LEVELS as usize],
@@ -101,9 +91,10 @@ fn bits_below(
     ensures { result ≡ frame_bits universe (left - 1) }
 {
     if axes[(left - 1) as usize] as u64 == universe.axes - 1 {
-        return bits - 1;
+        bits - 1
+    } else {
+        bits
     }
-    bits
 }
 
 // Where the frames of a high half begin: later than its block's by as many frames as it has fewer.
@@ -174,23 +165,9 @@ pub(crate) fn fill_list(window: Window, expressions: &[u8], counts: &mut [u64])
     let levels = window.universe.levels();
     let bits = window.universe.bits_along(window.universe.axes - 1);
     clear(counts, frames_in(window));
-    let mut at: usize = 0;
+    let mut at = 0;
+    // By no range: a turn goes on where the expression before ends.
     while at < expressions.len() {
         at = fill(window, &axes, expressions, at, levels, bits, 0, counts);
     }
-}
-
-// The sum of the first counts of a row.
-pub(crate) fn total_of(counts: &[u64], frames: usize) -> u64
-    requires frames_in_bounds { frames ≤ length counts.now }
-    requires counts_bound { first_sum frames counts.now < 2 ^ 64 }
-    ensures { result ≡ first_sum frames counts.now }
-{
-    let mut total: u64 = 0;
-    let mut place: usize = 0;
-    while place < frames {
-        total += counts[place];
-        place += 1;
-    }
-    total
 }

@@ -2,9 +2,10 @@
 // to be set shows as the 9 it was.
 #![tactic(auto)]
 
+use report::Report;
 use std::io;
 use std::io::Write;
-use universe::Universe;
+use universe::{Universe, Unwritten};
 
 // The frames of d 2, k 2.
 const FRAMES: usize = 4;
@@ -25,10 +26,26 @@ fn count(to: &mut impl Write, n: u64) -> io::Result<()> {
 
 // The counts of a row.
 fn row(to: &mut impl Write, counts: &[u64]) -> io::Result<()> {
-    for c in 0..counts.len() {
-        count(to, counts[c])?;
+    for n in counts {
+        count(to, *n)?;
     }
     Ok(())
+}
+
+// What a report tells: 0, how many frames there are and the total; or the refusal, how many are needed and 0.
+fn tell_answer(to: &mut impl Write, answer: Result<Report, Unwritten>) -> io::Result<()> {
+    match answer {
+        Ok(report) => {
+            tell(to, b": ", 0)?;
+            tell(to, b" frames ", report.frames)?;
+            tell(to, b" total ", report.total)
+        }
+        Err(unwritten) => {
+            tell(to, b": ", unwritten.number())?;
+            tell(to, b" frames ", unwritten.needed())?;
+            tell(to, b" total ", 0)
+        }
+    }
 }
 
 // A report over a window in the row lent, where every axis has so many bits, on a line.
@@ -47,9 +64,7 @@ fn over(
     say(to, label)?;
     tell(to, b", ", first_frame)?;
     tell(to, b" to ", last_frame)?;
-    tell(to, b": ", answer.refusal)?;
-    tell(to, b" frames ", answer.frames)?;
-    tell(to, b" total ", answer.total)?;
+    tell_answer(to, answer)?;
     say(to, b" row")?;
     row(to, counts)?;
     say(to, b"\n")
@@ -126,9 +141,8 @@ fn most(to: &mut impl Write) -> io::Result<()> {
     let mut counts = [9u64; Universe::LONGEST_SIDE as usize];
     let last = Universe::LONGEST_SIDE - 1;
     let answer = report::report_of(universe, &[b'B'; 256], 0, last, &mut counts);
-    tell(to, b"all of the largest universe: ", answer.refusal)?;
-    tell(to, b" frames ", answer.frames)?;
-    tell(to, b" total ", answer.total)?;
+    say(to, b"all of the largest universe")?;
+    tell_answer(to, answer)?;
     tell(to, b" first ", counts[0])?;
     tell(to, b" last ", counts[last as usize])?;
     say(to, b"\n")

@@ -1,6 +1,7 @@
--- What the code holds between its two steps keeps the limits, so no sum or product of the second step overflows; and where all of it is taken, it
--- is the proxy's numbers in sixteenths.
-use Rattle.std.proofs.Common.{◌≡◌, ℕ, ◌*◌, ◌^◌, ◌≤◌, Bool, true, false, cond, ◌&&◌, T, ltb, ℤ, pos, negsuc, ◌+ℤ◌, ◌-ℤ◌, ◌*ℤ◌, neg_ℤ, nat_abs, sym, refl, ap, ◌∙◌, subst, true≢false, zero-le, le_trans, le_refl, arith, lt→ltb, leb→le, w64, SFits, to_z, of_z, rules}
+-- What the code holds between its two steps keeps the limits, so no sum or product of the second step overflows, and is the proxy's numbers in
+-- sixteenths.
+use Rattle.std.proofs.Common.{Option, Some, None, ◌≡◌, ℕ, ◌*◌, ◌^◌, ◌≤◌, Bool, true, false, cond, ◌&&◌, T, ltb, ℤ, pos, negsuc, ◌+ℤ◌, ◌-ℤ◌, ◌*ℤ◌, neg_ℤ, nat_abs, sym, refl, ap, ◌∙◌, subst, true≢false, zero-le, le_trans, le_refl, arith, lt→ltb, leb→le, w64, SFits, to_z, of_z}
+use Rattle.std.specs.Bool.{then_some}
 use lib.IntN.{+ℤ_idl}
 use lib.Signed.{le_z}
 use lib.Ieee.{Float, nan, inf, fin, up, down}
@@ -11,13 +12,13 @@ use Rattle.standin.specs.declared.Triple.{Triple}
 use Rattle.standin.specs.declared.Corners.{Corners}
 use Rattle.standin.specs.declared.Plane.{Plane}
 use Rattle.standin.specs.declared.Numbers.{Numbers}
-use Rattle.standin.specs.declared.Scaled.{Scaled}
-use Rattle.standin.specs.declared.ScaledTriple.{ScaledTriple}
+use Rattle.standin.specs.declared.ScaledBox.{ScaledBox}
+use Rattle.standin.specs.declared.ScaledCut.{ScaledCut}
 use Rattle.standin.specs.Sixteenths.{sixteenths, is_taken, corner_limit, normal_limit}
 use Rattle.standin.specs.Rows.{numbers_of, alike, scaled_triple, at_most, takes_triple, takes_box, takes_cut, in_order, is_limited, dot}
 use Rattle.standin.specs.Held.{is_limit, held, scaled_of, scaled_box, scaled_cut, Limited, negated_numbers}
 use Rattle.standin.proofs.Sixteenths.{test_le, size_with_sign}
-use Rattle.standin.proofs.Parts.{both, parts, order_parts}
+use Rattle.standin.proofs.Parts.{both, parts, order_parts, box_parts, cut_parts}
 
 -- what is taken is within its limit, and so is what is held
 pub taken_small : (limit : ℕ) (x : Float) → is_taken limit x ≡ true → nat_abs (sixteenths x) ≤ limit
@@ -26,14 +27,6 @@ taken_small limit nan t = absurd (true≢false (sym t))
 taken_small limit (inf s) t = absurd (true≢false (sym t))
 taken_small limit (fin s m e) t = rw size_with_sign (test_le (m * up e) (down e) limit (subst T (sym t) tt))
 
-pub held_small : (limit : ℕ) (x : Float) → nat_abs (held limit x) ≤ limit
-unfolding held
-held_small limit x = go (is_taken limit x) (taken_small limit x)
-  where
-    go : (b : Bool) → (b ≡ true → nat_abs (sixteenths x) ≤ limit) → nat_abs (cond b (sixteenths x) (pos 0)) ≤ limit
-    go true h = h refl
-    go false h = omega arith
-
 pub triple_small : (limit : ℕ) (p : Triple) → takes_triple limit p ≡ true → Limited limit (numbers_of p)
 triple_small limit p t =
     let a = parts limit p t in
@@ -41,14 +34,6 @@ triple_small limit p t =
 
 pub zeros_limited : {limit : ℕ} → Limited limit (alike (pos 0))
 zeros_limited = record { x = zero-le; y = zero-le; z = zero-le }
-
-pub triple_limited : (limit : ℕ) (p : Triple) → Limited limit (scaled_triple limit p).numbers
-unfolding scaled_triple
-triple_limited limit p = go (takes_triple limit p) (triple_small limit p)
-  where
-    go : (b : Bool) → (b ≡ true → Limited limit (numbers_of p)) → Limited limit (cond b (numbers_of p) (alike (pos 0)))
-    go true h = h refl
-    go false h = zeros_limited
 
 pub wider : {limit wide : ℕ} {a : Numbers} → limit ≤ wide → Limited limit a → Limited wide a
 wider l w = record { x = le_trans w.x l; y = le_trans w.y l; z = le_trans w.z l }
@@ -130,35 +115,6 @@ module _ {a b : Numbers} (h : Reads normal_limit a) (k : Reads normal_limit b) w
 pub dot_read : {a b : Numbers} {r : ℤ} → Limited normal_limit a → Limited normal_limit b → r ≡ dot a b → Near (back r) (dot a b) 3145728
 dot_read h k e = near_call e (record { same = refl; size = (three (reads h tt) (reads k tt)).size }) tt
 
--- what is held of a number, and of a triple, that is taken
-pub held_is : (limit : ℕ) (x : Float) → is_taken limit x ≡ true → held limit x ≡ sixteenths x
-unfolding held
-held_is limit x t = rw t
-
-pub numbers_are : (limit : ℕ) (p : Triple) → takes_triple limit p ≡ true → (scaled_triple limit p).numbers ≡ numbers_of p
-unfolding scaled_triple
-numbers_are limit p t = rw t
-
--- a Box: the order of what is held is that of the corners where both are taken
-order_is : (c : Corners) → takes_triple corner_limit c.near ≡ true → takes_triple corner_limit c.far ≡ true
-    → at_most (scaled_triple corner_limit c.near).numbers (scaled_triple corner_limit c.far).numbers ≡ in_order c
-unfolding in_order
-order_is c s t = rw (numbers_are corner_limit c.near s, numbers_are corner_limit c.far t)
-
-last_same : (a b v o p : Bool) → (a ≡ true → b ≡ true → o ≡ p) → a && b && v && o ≡ a && b && v && p
-last_same true true v o p h = ap (λ (q : Bool). v && q) (h refl refl)
-last_same true false v o p h = refl
-last_same false b v o p h = refl
-
-pub box_taken : (c : Corners) (v : Triple) → (scaled_box c v).taken ≡ takes_box c v
-unfolding scaled_box takes_box scaled_triple
-box_taken c v =
-    last_same (takes_triple corner_limit c.near) (takes_triple corner_limit c.far) (takes_triple normal_limit v) _ (in_order c) (order_is c)
-
-pub cut_taken : (p : Plane) (v : Triple) → (scaled_cut p v).taken ≡ takes_cut p v
-unfolding scaled_cut takes_cut scaled_triple
-cut_taken p v = refl
-
 -- a limit negated, as the machine has it
 pub lower_fits : (l : ℤ) → SFits w64 l → T (le_z (pos 0) l) → SFits w64 (pos 0 -ℤ l)
 lower_fits (pos n) f t = near_fits (negated (near_nat n n (le_refl n))) (lt→ltb n (2 ^ 63) f.sfits)
@@ -166,9 +122,6 @@ lower_fits (negsuc n) f t = absurd t
 
 pub lower_is : (l : ℤ) → SFits w64 l → T (le_z (pos 0) l) → back (pos 0 -ℤ back l) ≡ neg_ℤ l
 lower_is l f t = ap (λ (z : ℤ). back (pos 0 -ℤ z)) (to_z-of_z w64 l f) ∙ to_z-of_z w64 (pos 0 -ℤ l) (lower_fits l f t) ∙ +ℤ_idl (neg_ℤ l)
-
-pub read_fits : (l : ℤ) → SFits w64 l → T (le_z (pos 0) l) → SFits w64 (pos 0 -ℤ back l)
-read_fits l f t = rw (to_z-of_z w64 l f) (lower_fits l f t)
 
 itself : (l : ℤ) → T (le_z (pos 0) l) → pos (nat_abs l) ≡ l
 itself (pos n) t = refl
@@ -180,63 +133,188 @@ pub limited_test : (n : Numbers) (l : ℤ) {least most : Numbers} {a b : Bool} �
 unfolding is_limited
 limited_test n l f t h k i j = rw (i, j, h, k, lower_is l f t, to_z-of_z w64 l f, itself l t)
 
-pub ruleset limit_laws = (rules, read_fits, limited_test)
+-- a triple that is taken is held as its numbers
+pub numbers_are : (limit : ℕ) (p : Triple) → takes_triple limit p ≡ true → scaled_triple limit p ≡ Some (numbers_of p)
+unfolding scaled_triple
+numbers_are limit p t = rw t
 
--- what the calls of `scale` gave: the count is read back from its bits, and so is the limit that was passed on
-pub count_of : (r : Scaled) (x : Float) (l : ℤ) → r ≡ scaled_of x l → T (ltb (nat_abs l) (2 ^ 63)) → back r.count ≡ held (nat_abs l) x
-count_of r x l e t = ap (λ (s : Scaled). back s.count) e ∙ (near (record { most = held_small (nat_abs l) x }) t).same
+-- a number, and a triple, that is held is taken, and is its sixteenths
+held_some : (limit : ℕ) (x : Float) (n : ℤ) → held limit x ≡ Some n → (is_taken limit x ≡ true) × (sixteenths x ≡ n)
+unfolding held
+held_some limit x n e = go (is_taken limit x) e
+  where
+    go : (t : Bool) → cond t (Some (sixteenths x)) None ≡ Some n → (t ≡ true) × (sixteenths x ≡ n)
+    go true e = (refl, cc)
+    go false e = absurd (cc)
 
+held_none : (limit : ℕ) (x : Float) → held limit x ≡ None → is_taken limit x ≡ false
+unfolding held
+held_none limit x e = go (is_taken limit x) e
+  where
+    go : (t : Bool) → cond t (Some (sixteenths x)) None ≡ None → t ≡ false
+    go true e = absurd (cc)
+    go false e = refl
+
+pub triple_some : (limit : ℕ) (p : Triple) (n : Numbers) → scaled_triple limit p ≡ Some n → (takes_triple limit p ≡ true) × (numbers_of p ≡ n)
+unfolding scaled_triple
+triple_some limit p n e = go (takes_triple limit p) e
+  where
+    go : (t : Bool) → cond t (Some (numbers_of p)) None ≡ Some n → (t ≡ true) × (numbers_of p ≡ n)
+    go true e = (refl, cc)
+    go false e = absurd (cc)
+
+triple_none : (limit : ℕ) (p : Triple) → scaled_triple limit p ≡ None → takes_triple limit p ≡ false
+unfolding scaled_triple
+triple_none limit p e = go (takes_triple limit p) e
+  where
+    go : (t : Bool) → cond t (Some (numbers_of p)) None ≡ None → t ≡ false
+    go true e = absurd (cc)
+    go false e = refl
+
+any_false : (a b : Bool) → b ≡ false → a && b ≡ false
+any_false true b e = e
+any_false false b e = refl
+
+-- a limit is within what a machine number holds
 limit_small : (l : ℤ) → T (is_limit l) → T (ltb (nat_abs l) (2 ^ 63))
 limit_small (pos n) t = lt→ltb n (2 ^ 63) (omega (arith, leb→le n corner_limit t))
 limit_small (negsuc n) t = absurd t
 
-module _ (p : Triple) (l : ℤ) (r s t : Scaled) (b : T (is_limit l)) (f : SFits w64 l)
-    (i : r ≡ scaled_of p.x (back l)) (j : s ≡ scaled_of p.y (back l)) (k : t ≡ scaled_of p.z (back l)) where
+-- what the calls of `scale` gave: the limit was passed on by its bits
+module _ (p : Triple) (l : ℤ) (f : SFits w64 l) where
   same_limit : back l ≡ l
   same_limit = to_z-of_z w64 l f
 
-  all_taken : (q : Bool) → r.taken && s.taken && t.taken ≡ q → takes_triple (nat_abs l) p ≡ q
-  unfolding takes_triple
-  all_taken q h = rw (i, j, k, same_limit) at h
+  scaled : (x : Float) → scaled_of x (back l) ≡ held (nat_abs l) x
+  scaled x = ap (scaled_of x) same_limit
 
-  exact : (x : Float) (n : Scaled) → n ≡ scaled_of x (back l) → is_taken (nat_abs l) x ≡ true → back n.count ≡ sixteenths x
-  exact x n e h = count_of n x l (e ∙ ap (scaled_of x) same_limit) (limit_small l b) ∙ held_is (nat_abs l) x h
+  module _ {r : Option ℤ} (i : r ≡ scaled_of p.x (back l)) where
+    pub triple_x : r ≡ None → None ≡ scaled_triple (nat_abs l) p
+    unfolding scaled_triple takes_triple
+    triple_x e = rw (held_none (nat_abs l) p.x (sym (scaled p.x) ∙ sym i ∙ e))
 
-  pub triple_taken : r.taken && s.taken && t.taken ≡ true
-      → record { taken = true; numbers = record { x = back r.count; y = back s.count; z = back t.count } } ≡ scaled_triple (nat_abs l) p
-  unfolding scaled_triple
-  triple_taken h =
-      let e = all_taken true h in
-      let a = parts (nat_abs l) p e in
-      rw (e, exact p.x r i a.x, exact p.y s j a.y, exact p.z t k a.z)
+  module _ {s : Option ℤ} (j : s ≡ scaled_of p.y (back l)) where
+    pub triple_y : s ≡ None → None ≡ scaled_triple (nat_abs l) p
+    unfolding scaled_triple takes_triple
+    triple_y e = rw (held_none (nat_abs l) p.y (sym (scaled p.y) ∙ sym j ∙ e), any_false (is_taken (nat_abs l) p.x) false refl)
 
-  pub triple_not_taken : r.taken && s.taken && t.taken ≡ false → (n : Numbers) → n ≡ alike (pos 0)
-      → record { taken = false; numbers = n } ≡ scaled_triple (nat_abs l) p
-  unfolding scaled_triple
-  triple_not_taken h n e = rw (all_taken false h, e)
+  module _ {t : Option ℤ} (k : t ≡ scaled_of p.z (back l)) where
+    pub triple_z : t ≡ None → None ≡ scaled_triple (nat_abs l) p
+    unfolding scaled_triple takes_triple
+    triple_z e =
+        rw
+        (held_none (nat_abs l) p.z (sym (scaled p.z) ∙ sym k ∙ e), any_false (is_taken (nat_abs l) p.x && is_taken (nat_abs l) p.y) false refl)
 
--- what `scale_box` and `scale_cut` make of those
-pub box_made : (c : Corners) (v : Triple) {near far step : ScaledTriple} {order : Bool}
-    → near ≡ scaled_triple corner_limit c.near → far ≡ scaled_triple corner_limit c.far → step ≡ scaled_triple normal_limit v
-    → order ≡ at_most near.numbers far.numbers
-    → record {
-      taken = near.taken && far.taken && step.taken && order;
-      near = near.numbers;
-      far = far.numbers;
-      displacement = step.numbers;
-    } ≡ scaled_box c v
+  pub triple_all : T (is_limit l) → {r s t : Option ℤ} {m n o : ℤ}
+      → r ≡ scaled_of p.x (back l) → r ≡ Some m
+      → s ≡ scaled_of p.y (back l) → s ≡ Some n
+      → t ≡ scaled_of p.z (back l) → t ≡ Some o
+      → Some (record { x = back m; y = back n; z = back o }) ≡ scaled_triple (nat_abs l) p
+  unfolding scaled_triple takes_triple
+  triple_all b i e j g k h =
+      let x = held_some (nat_abs l) p.x _ (sym (scaled p.x) ∙ sym i ∙ e) in
+      let y = held_some (nat_abs l) p.y _ (sym (scaled p.y) ∙ sym j ∙ g) in
+      let z = held_some (nat_abs l) p.z _ (sym (scaled p.z) ∙ sym k ∙ h) in
+      let read : (x : Float) (n : ℤ) → (is_taken (nat_abs l) x ≡ true) × (sixteenths x ≡ n) → back n ≡ sixteenths x =
+      λ x n a. (near (record { most = rw (← a.1) (taken_small (nat_abs l) x a.0) }) (limit_small l b)).same ∙ sym a.1 in
+      rw (x.0, y.0, z.0, read p.x _ x, read p.y _ y, read p.z _ z)
+
+by_test : {A : Type 0} (t : Bool) (x : A) → then_some t x ≡ cond t (Some x) None
+by_test true x = refl
+by_test false x = refl
+
+-- what those of `scale_triple` gave of a Box
+module _ (c : Corners) (v : Triple) where
+  pub box_near : {near : Option Numbers} → near ≡ scaled_triple corner_limit c.near → near ≡ None → None ≡ scaled_box c v
+  unfolding scaled_box takes_box
+  box_near n e = rw (triple_none corner_limit c.near (sym n ∙ e))
+
+  pub box_far : {far : Option Numbers} → far ≡ scaled_triple corner_limit c.far → far ≡ None → None ≡ scaled_box c v
+  unfolding scaled_box takes_box
+  box_far f e = rw (triple_none corner_limit c.far (sym f ∙ e), any_false (takes_triple corner_limit c.near) false refl)
+
+  pub box_step : {step : Option Numbers} → step ≡ scaled_triple normal_limit v → step ≡ None → None ≡ scaled_box c v
+  unfolding scaled_box takes_box
+  box_step s e =
+      rw
+      (triple_none normal_limit v (sym s ∙ e), any_false (takes_triple corner_limit c.near && takes_triple corner_limit c.far) false refl)
+
+  order_as : {a b : Numbers} → numbers_of c.near ≡ a → numbers_of c.far ≡ b → in_order c ≡ at_most a b
+  unfolding in_order
+  order_as x y = rw (← x, ← y)
+
+  pub box_all : {near far step : Option Numbers} {a b d : Numbers}
+      → near ≡ scaled_triple corner_limit c.near → near ≡ Some a
+      → far ≡ scaled_triple corner_limit c.far → far ≡ Some b
+      → step ≡ scaled_triple normal_limit v → step ≡ Some d
+      → then_some (at_most a b) (record { near = a; far = b; displacement = d }) ≡ scaled_box c v
+  unfolding scaled_box takes_box
+  box_all {a = a} {b = b} {d = d} n e f g s h =
+      let x = triple_some corner_limit c.near _ (sym n ∙ e) in
+      let y = triple_some corner_limit c.far _ (sym f ∙ g) in
+      let z = triple_some normal_limit v _ (sym s ∙ h) in
+      rw (x.0, y.0, z.0, order_as x.1 y.1, x.1, y.1, z.1) (by_test (at_most a b) (record { near = a; far = b; displacement = d }))
+
+-- and of a Cut
+module _ (a : Plane) (v : Triple) where
+  pub cut_normal : {normal : Option Numbers} → normal ≡ scaled_triple normal_limit a.normal → normal ≡ None → None ≡ scaled_cut a v
+  unfolding scaled_cut takes_cut
+  cut_normal n e = rw (triple_none normal_limit a.normal (sym n ∙ e))
+
+  pub cut_offset : {offset : Option ℤ} → offset ≡ scaled_of a.offset (pos corner_limit) → offset ≡ None → None ≡ scaled_cut a v
+  unfolding scaled_cut takes_cut
+  cut_offset o e = rw (held_none corner_limit a.offset (sym o ∙ e), any_false (takes_triple normal_limit a.normal) false refl)
+
+  pub cut_step : {step : Option Numbers} → step ≡ scaled_triple normal_limit v → step ≡ None → None ≡ scaled_cut a v
+  unfolding scaled_cut takes_cut
+  cut_step s e =
+      rw
+      (triple_none normal_limit v (sym s ∙ e), any_false (takes_triple normal_limit a.normal && is_taken corner_limit a.offset) false refl)
+
+  pub cut_all : {normal step : Option Numbers} {offset : Option ℤ} {b d : Numbers} {m : ℤ}
+      → normal ≡ scaled_triple normal_limit a.normal → normal ≡ Some b
+      → offset ≡ scaled_of a.offset (pos corner_limit) → offset ≡ Some m
+      → step ≡ scaled_triple normal_limit v → step ≡ Some d
+      → Some (record { normal = b; offset = back m; displacement = d }) ≡ scaled_cut a v
+  unfolding scaled_cut takes_cut
+  cut_all n e o g s h =
+      let x = triple_some normal_limit a.normal _ (sym n ∙ e) in
+      let y = held_some corner_limit a.offset _ (sym o ∙ g) in
+      let z = triple_some normal_limit v _ (sym s ∙ h) in
+      let read = (number (sixteenths a.offset) (taken_small corner_limit a.offset y.0)).same in
+      rw (x.0, y.0, z.0, ← x.1, ← y.1, ← z.1, read)
+
+-- a Box and a Cut that are held keep the limits
+pub box_limited : (c : Corners) (v : Triple) (b : ScaledBox) → scaled_box c v ≡ Some b
+    → Limited corner_limit b.near × Limited corner_limit b.far × Limited normal_limit b.displacement
 unfolding scaled_box
-box_made c v n f s o = rw (o, n, f, s)
+box_limited c v b e = go (takes_box c v) refl e
+  where
+    go : (t : Bool) → takes_box c v ≡ t
+        → cond t (Some (record { near = numbers_of c.near; far = numbers_of c.far; displacement = numbers_of v })) None ≡ Some b
+        → Limited corner_limit b.near × Limited corner_limit b.far × Limited normal_limit b.displacement
+    go true t e =
+        let p = box_parts c v t in
+        let same : record { near = numbers_of c.near; far = numbers_of c.far; displacement = numbers_of v } ≡ b = cc in
+        rw (← same) (triple_small corner_limit c.near p.near, triple_small corner_limit c.far p.far, triple_small normal_limit v p.displacement)
+    go false t e = absurd (cc)
 
-pub cut_made : (p : Plane) (v : Triple) {normal step : ScaledTriple} {offset : Scaled}
-    → normal ≡ scaled_triple normal_limit p.normal → offset ≡ scaled_of p.offset (pos corner_limit) → step ≡ scaled_triple normal_limit v
-    → record {
-      taken = normal.taken && offset.taken && step.taken;
-      normal = normal.numbers;
-      offset = back offset.count;
-      displacement = step.numbers;
-    } ≡ scaled_cut p v
+pub cut_limited : (a : Plane) (v : Triple) (b : ScaledCut) → scaled_cut a v ≡ Some b
+    → Limited normal_limit b.normal × (nat_abs b.offset ≤ corner_limit) × Limited normal_limit b.displacement
 unfolding scaled_cut
-cut_made p v {normal} {step} {offset} n o s = rw (count_of offset p.offset (pos corner_limit) o tt, n, o, s)
+cut_limited a v b e = go (takes_cut a v) refl e
+  where
+    go : (t : Bool) → takes_cut a v ≡ t
+        → cond t (Some (record { normal = numbers_of a.normal; offset = sixteenths a.offset; displacement = numbers_of v })) None ≡ Some b
+        → Limited normal_limit b.normal × (nat_abs b.offset ≤ corner_limit) × Limited normal_limit b.displacement
+    go true t e =
+        let p = cut_parts a v t in
+        let same : record { normal = numbers_of a.normal; offset = sixteenths a.offset; displacement = numbers_of v } ≡ b = cc in
+        rw (← same) (triple_small normal_limit a.normal p.normal, taken_small corner_limit a.offset p.offset, triple_small normal_limit v p.displacement)
+    go false t e = absurd (cc)
 
-pub ruleset scale_laws = (rules, triple_taken, triple_not_taken, box_made, cut_made)
+pub ruleset triple_laws = (triple_x, triple_y, triple_z)
+
+pub ruleset box_laws = (box_near, box_far, box_step)
+
+pub ruleset cut_laws = (cut_normal, cut_offset, cut_step, cut_all)

@@ -1,7 +1,7 @@
 -- One number. x times 16, cut to a whole number n, is the number of sixteenths in x exactly where n over 16 is x again: if n is small, n / 16 is a
 -- float, with no rounding, and if x is n / 16, then 16·x is n, with no rounding. All other floats fail one of the tests, and no other fact of
 -- rounding is needed.
-use Rattle.std.proofs.Common.{◌≡◌, ℕ, zero, suc, ◌+◌, ◌*◌, ◌/◌, ◌%◌, ◌^◌, ◌<◌, ◌≤◌, Bool, true, false, ◌&&◌, ◌||◌, T, eqb, ltb, leb, ◌⊎◌, ℤ, pos, negsuc, neg_ℤ, nat_abs, sym, refl, ap, ◌∙◌, subst, inl, inr, true≢false, zero-le, le_trans, lt_of_lt_of_le, le_of_suc-le-suc, not-suc-le-zero, lt_of_le_of_lt, add-zero, mul_assoc, mul-lt-mul_of_pos_right, mul-pos, div-add-mod', zero-mul, mul-one, mul_right_comm, mul-div_cancel, arith, lit<, lit≤, le→leb, eqb→eq, lt→ltb, leb→le, pow_mono, shl_lt, ltb-false, le-ltb}
+use Rattle.std.proofs.Common.{Some, None, ◌≡◌, ℕ, zero, suc, ◌+◌, ◌*◌, ◌/◌, ◌%◌, ◌^◌, ◌<◌, ◌≤◌, Bool, true, false, ◌&&◌, ◌||◌, T, eqb, ltb, leb, ◌⊎◌, ℤ, pos, negsuc, neg_ℤ, nat_abs, sym, refl, ap, ◌∙◌, subst, inl, inr, true≢false, zero-le, le_trans, lt_of_lt_of_le, le_of_suc-le-suc, not-suc-le-zero, lt_of_le_of_lt, add-zero, mul_assoc, mul-lt-mul_of_pos_right, mul-pos, div-add-mod', zero-mul, mul-one, mul_right_comm, mul-div_cancel, arith, lit<, lit≤, le→leb, eqb→eq, lt→ltb, leb→le, pow_mono, shl_lt, ltb-false, le-ltb}
 use mathlib.Core.Bool.{beq}
 use native.Mathlib.Nat.{eq_of_mul-eq-mul_right}
 use native.Mathlib.Nat.{mul-mod_left}
@@ -14,7 +14,6 @@ use lib.Ieee.Back.{round_whole, positive_back, negative_back}
 use lib.Ieee.Scale.{round_same}
 use Rattle.standin.specs.Sixteenths.{with_sign, sixteenths, is_taken}
 use Rattle.standin.specs.Held.{is_limit, held, scaled_of}
-use Rattle.standin.specs.declared.Scaled.{Scaled}
 
 -- 16·x and n / 16, as the code has them
 abbrev pub times16 : Float → Float
@@ -134,24 +133,17 @@ sign_of (negsuc n) false A t h = absurd (no n (h (eqb→eq A 0 t)))
 
 -- ---- what passes every test is taken
 
--- a number that is taken, as the code hands it back
-abbrev pub some : ℤ → Scaled
-some n = record { taken = true; count = n }
-
-abbrev pub none : Scaled
-none = record { taken = false; count = pos 0 }
-
 -- by what the two definitions say of x
-pub taken_is : (x : Float) (l n : ℤ) → is_taken (nat_abs l) x ≡ true → sixteenths x ≡ n → some n ≡ scaled_of x l
+pub taken_is : (x : Float) (l n : ℤ) → is_taken (nat_abs l) x ≡ true → sixteenths x ≡ n → Some n ≡ scaled_of x l
 unfolding held
 taken_is x l n t e = rw (t, e)
 
-pub not_taken_is : (x : Float) (l : ℤ) → is_taken (nat_abs l) x ≡ false → none ≡ scaled_of x l
+pub not_taken_is : (x : Float) (l : ℤ) → is_taken (nat_abs l) x ≡ false → None ≡ scaled_of x l
 unfolding held
 not_taken_is x l t = rw t
 
 sound_fin : (b : Float) (n : ℤ) (s : Bool) (m : ℕ) (e : ℤ) (l : ℤ) → HasValue b (negative? n) (nat_abs n) 16 → nat_abs n ≤ nat_abs l
-    → T (eq b (fin s m e)) → some n ≡ scaled_of (fin s m e) l
+    → T (eq b (fin s m e)) → Some n ≡ scaled_of (fin s m e) l
 unfolding eq sixteenths is_taken
 sound_fin nan n s m e l v k t = absurd v
 sound_fin (inf u) n s m e l v k t = absurd v
@@ -166,7 +158,7 @@ sound_fin (fin u p j) n s m e l v k t =
     taken_is (fin s m e) l n (test_of (m * up e) (down e) (nat_abs n) (nat_abs l) (down_pos e) g k)
     (ap (with_sign s) (quotient_is (m * up e) (down e) (nat_abs n) (down_pos e) g) ∙ sym w)
 
-sound_any : (b x : Float) (n l : ℤ) → HasValue b (negative? n) (nat_abs n) 16 → nat_abs n ≤ nat_abs l → T (eq b x) → some n ≡ scaled_of x l
+sound_any : (b x : Float) (n l : ℤ) → HasValue b (negative? n) (nat_abs n) 16 → nat_abs n ≤ nat_abs l → T (eq b x) → Some n ≡ scaled_of x l
 unfolding eq
 sound_any nan x n l v k t = absurd v
 sound_any (inf u) x n l v k t = absurd v
@@ -181,7 +173,7 @@ limit_of (negsuc n) t = absurd t
 under : (n l : ℕ) → n ≤ l → l ≤ 65536 → n < 2 ^ 53
 under n l h k = omega arith
 
-pub sound : (x : Float) (l n : ℤ) → T (is_limit l) → lt_z l n ≡ false → lt_z n (neg_ℤ l) ≡ false → eq (over16 n) x ≡ true → some n ≡ scaled_of x l
+pub sound : (x : Float) (l n : ℤ) → T (is_limit l) → lt_z l n ≡ false → lt_z n (neg_ℤ l) ≡ false → eq (over16 n) x ≡ true → Some n ≡ scaled_of x l
 sound x l n t a b e =
     let L = limit_of l t in
     let w : nat_abs n ≤ nat_abs l = within n (nat_abs l) (ap (λ (q : ℤ). lt_z q n) L.1 ∙ a) (ap (λ (q : ℤ). lt_z n (neg_ℤ q)) L.1 ∙ b) in
@@ -297,8 +289,8 @@ complete (fin s m e) (pos l) t = go (test (m * up e) (down e) l) refl
         inr (passes_fin s m e (m * up e * 16 / down e) l (test_exact (m * up e) (down e) l g) (test_le (m * up e) (down e) l g) (leb→le l 65536 t))
 
 -- a test that came out otherwise than for what is taken
-pub refused : (x : Float) (l : ℤ) (b : Bool) → T (is_limit l) → b ≡ false → (Passes x l → b ≡ true) → none ≡ scaled_of x l
+pub refused : (x : Float) (l : ℤ) (b : Bool) → T (is_limit l) → b ≡ false → (Passes x l → b ≡ true) → None ≡ scaled_of x l
 refused x l b t f p = elim (complete x l t) [ inl e ↦ not_taken_is x l e | inr w ↦ absurd (true≢false (sym (p w) ∙ f)) ]
 
-pub refused' : (x : Float) (l : ℤ) (b : Bool) → T (is_limit l) → b ≡ true → (Passes x l → b ≡ false) → none ≡ scaled_of x l
+pub refused' : (x : Float) (l : ℤ) (b : Bool) → T (is_limit l) → b ≡ true → (Passes x l → b ≡ false) → None ≡ scaled_of x l
 refused' x l b t f p = elim (complete x l t) [ inl e ↦ not_taken_is x l e | inr w ↦ absurd (true≢false (sym f ∙ p w)) ]

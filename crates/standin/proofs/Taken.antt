@@ -1,6 +1,6 @@
 -- Which numbers are taken and which proxies are refused, said of the floats' values: 16·value of a number that is taken is the whole number
 -- `sixteenths`, so the order of two such values is that of those whole numbers.
-use Rattle.std.proofs.Common.{◌≡◌, ℕ, ◌*◌, ◌/◌, Bool, true, false, ◌&&◌, T, ◌↔◌, ℤ, pos, ◌*ℤ◌, nat_abs, ◌≤ℤ◌, sym, refl, ap, ◌∙◌, subst, true≢false, arith, lit<}
+use Rattle.std.proofs.Common.{cond, Some, None, IsSome, ◌≡◌, ℕ, ◌*◌, ◌/◌, Bool, true, false, ◌&&◌, T, ◌↔◌, ℤ, pos, ◌*ℤ◌, nat_abs, ◌≤ℤ◌, sym, refl, ap, ◌∙◌, subst, true≢false, arith, lit<}
 use mathlib.Core.Logic.Iff
 use lib.Signed.{le_z}
 use lib.Ieee.{Float, nan, inf, fin, up, down}
@@ -11,6 +11,7 @@ use Rattle.universe.specs.Refusals.{unless, bad_proxy}
 use Rattle.standin.specs.declared.Triple.{Triple}
 use Rattle.standin.specs.declared.Corners.{Corners}
 use Rattle.standin.specs.declared.Plane.{Plane}
+use Rattle.standin.specs.declared.Numbers.{Numbers}
 use Rattle.standin.specs.Sixteenths.{with_sign, sixteenths, is_taken, corner_limit, normal_limit}
 use Rattle.standin.specs.Rows.{numbers_of, scaled_triple, corner_sixteenths, takes_triple, in_order, takes_box, takes_cut}
 use Rattle.standin.specs.Points.{value, values_of, is_finite, ◌≼◌, Multiple, Multiples, InOrder, GoodBox, GoodCut}
@@ -72,13 +73,21 @@ triple_taken limit p = (
 )
 
 -- a corner in sixteenths
-pub corner_good : (p : Triple) → ((corner_sixteenths p).taken ≡ true) ↔ Multiples corner_limit p
+pub corner_good : (p : Triple) → IsSome (corner_sixteenths p) ↔ Multiples corner_limit p
 unfolding scaled_triple
-corner_good p = triple_taken corner_limit p
+corner_good p = Iff.trans (taken_some (takes_triple corner_limit p)) (triple_taken corner_limit p)
+  where
+    taken_some : (b : Bool) → IsSome (cond b (Some (numbers_of p)) None) ↔ (b ≡ true)
+    taken_some true = (λ e. refl, λ e. refl)
+    taken_some false = (λ e. e, λ e. e)
 
-pub corner_worth : (p : Triple) → (corner_sixteenths p).taken ≡ true → Worths (values_of p) (corner_sixteenths p).numbers
+pub corner_worth : (p : Triple) (n : Numbers) → corner_sixteenths p ≡ Some n → Worths (values_of p) n
 unfolding scaled_triple
-corner_worth p t = rw t (triple_worth corner_limit p t)
+corner_worth p n e = go (takes_triple corner_limit p) refl e
+  where
+    go : (b : Bool) → takes_triple corner_limit p ≡ b → cond b (Some (numbers_of p)) None ≡ Some n → Worths (values_of p) n
+    go true t e = let same : numbers_of p ≡ n = cc in rw same at (triple_worth corner_limit p t)
+    go false t e = absurd (cc)
 
 -- order
 test_order : (a b : ℤ) → (le_z a b ≡ true) ↔ (a ≤ℤ b)

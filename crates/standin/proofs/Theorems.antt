@@ -1,6 +1,6 @@
 -- Stand-in proxies in the user's words: which numbers are taken, which proxies are refused, what the rows of an accepted one say of every point in
 -- space and time, and that no row is ever outside the limits. Stated here; shown in Taken, Moved, Centres and Limits.
-use Rattle.std.proofs.Common.{◌≡◌, ℕ, ◌<◌, true, ◌↔◌, List}
+use Rattle.std.proofs.Common.{◌≡◌, ℕ, ◌<◌, true, ◌↔◌, List, Some, IsSome}
 use mathlib.Core.Logic.Iff
 use lib.Ieee.{Float}
 use Rattle.universe.specs.declared.Universe.{Universe}
@@ -54,10 +54,10 @@ pub six_rows_hold : (c : Corners) (v : Triple) (q : Point) → proxy_refusal (bo
 six_rows_hold c v q e = let h : takes_box c v ≡ true = (accepts (takes_box c v)).0 e in rw h (float_box_at c v q h)
 
 -- a corner is taken exactly if its numbers are such, and 16 times its values are then the whole numbers that are given
-pub corner_taken_exactly : (p : Triple) → ((corner_sixteenths p).taken ≡ true) ↔ Multiples corner_limit p
+pub corner_taken_exactly : (p : Triple) → IsSome (corner_sixteenths p) ↔ Multiples corner_limit p
 corner_taken_exactly = corner_good
 
-pub corner_is_exact : (p : Triple) → (corner_sixteenths p).taken ≡ true → Worths (values_of p) (corner_sixteenths p).numbers
+pub corner_is_exact : (p : Triple) (n : Numbers) → corner_sixteenths p ≡ Some n → Worths (values_of p) n
 corner_is_exact = corner_worth
 
 -- in sixteenths, of any size: a point lies in all six rows exactly if near/16 + t·v/16 ≤ x ≤ far/16 + t·v/16 on each axis

@@ -1,5 +1,5 @@
 -- Rules 6.2 to 6.6: which proxies are refused, and the rows of a Box and of a Cut.
-use Rattle.std.specs.Prelude.{ℕ, zero, suc, Bool, cond, ◌&&◌, List, [], ◌∷◌, ℤ, pos, negsuc, ◌+ℤ◌, ◌*ℤ◌, neg_ℤ, int_le}
+use Rattle.std.specs.Prelude.{ℕ, zero, suc, Bool, cond, ◌&&◌, Option, Some, None, List, [], ◌∷◌, ℤ, pos, negsuc, ◌+ℤ◌, ◌*ℤ◌, neg_ℤ, int_le}
 use Rattle.universe.specs.Refusals.{unless, bad_proxy}
 use Rattle.universe.specs.Universe.{offset_limit, coefficient_limit}
 use Rattle.standin.specs.declared.Triple.{Triple}
@@ -9,7 +9,6 @@ use Rattle.standin.specs.declared.Solid.{Solid}
 use Rattle.standin.specs.declared.Solid.TheVariants.{Box, Cut}
 use Rattle.standin.specs.declared.Proxy.{Proxy}
 use Rattle.standin.specs.declared.Numbers.{Numbers}
-use Rattle.standin.specs.declared.ScaledTriple.{ScaledTriple}
 use Rattle.standin.specs.Sixteenths.{sixteenths, is_taken, corner_limit, normal_limit}
 
 -- rule 6.1: three axes of space, and time
@@ -28,13 +27,11 @@ numbers_of p = record { x = sixteenths p.x; y = sixteenths p.y; z = sixteenths p
 abbrev pub alike : ℤ → Numbers
 alike n = record { x = n; y = n; z = n }
 
--- a triple in sixteenths where each number is taken, else zeros
-unfoldable pub scaled_triple : ℕ → Triple → ScaledTriple
-scaled_triple limit p =
-    let good = takes_triple limit p in
-    record { taken = good; numbers = cond good (numbers_of p) (alike (pos 0)) }
+-- a triple in sixteenths, where each number is taken
+unfoldable pub scaled_triple : ℕ → Triple → Option Numbers
+scaled_triple limit p = cond (takes_triple limit p) (Some (numbers_of p)) None
 
-abbrev pub corner_sixteenths : Triple → ScaledTriple
+abbrev pub corner_sixteenths : Triple → Option Numbers
 corner_sixteenths corner = scaled_triple corner_limit corner
 
 -- rule 6.2: near is at most far, number by number

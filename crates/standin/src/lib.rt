@@ -3,6 +3,7 @@
 
 ghost use Rattle.std.specs.Prelude.{◌≡◌, ◌≤◌, T, pos, int_le, unsigned_abs};
 ghost use Rattle.universe.specs.Universe.{offset_limit, coefficient_limit};
+ghost use Rattle.universe.specs.Told.{number_told};
 ghost use Rattle.standin.specs.Sixteenths.{corner_limit, normal_limit};
 ghost use Rattle.standin.specs.Rows.{alike, at_most, dot, row_across, rows_between, is_limited, rows_within};
 ghost use Rattle.standin.specs.Rows.{scaled_triple, corner_sixteenths};
@@ -10,10 +11,10 @@ ghost use Rattle.standin.specs.Rows.{proxy_refusal, box_row_count, box_rows, cut
 ghost use Rattle.standin.specs.Held.{is_limit, scaled_of, scaled_box, scaled_cut, held_box, held_cut};
 ghost use Rattle.standin.specs.Held.{Limited, negated_numbers};
 
-use universe::Universe;
+use universe::{Refusal, Universe};
 
 // A corner, a normal or a displacement.
-#[derive(Clone, Copy)]
+#[derive(Clone, Copy, Debug, PartialEq)]
 pub struct Triple {
     pub x: f64,
     pub y: f64,
@@ -21,28 +22,28 @@ pub struct Triple {
 }
 
 // The two corners of a Box.
-#[derive(Clone, Copy)]
+#[derive(Clone, Copy, Debug, PartialEq)]
 pub struct Corners {
     pub near: Triple,
     pub far: Triple,
 }
 
 // The normal and the offset of a Cut.
-#[derive(Clone, Copy)]
+#[derive(Clone, Copy, Debug, PartialEq)]
 pub struct Plane {
     pub normal: Triple,
     pub offset: f64,
 }
 
 // A Box between its corners, or a Cut, which holds where n·x + c ≥ 0.
-#[derive(Clone, Copy)]
+#[derive(Clone, Copy, Debug, PartialEq)]
 pub enum Solid {
     Box(Corners),
     Cut(Plane),
 }
 
 // A solid, and its displacement per frame.
-#[derive(Clone, Copy)]
+#[derive(Clone, Copy, Debug, PartialEq)]
 pub struct Proxy {
     pub solid: Solid,
     pub displacement: Triple,
@@ -57,31 +58,16 @@ impl Proxy {
 }
 
 // Three numbers in sixteenths.
-#[derive(Clone, Copy)]
+#[derive(Clone, Copy, Debug, PartialEq, Eq)]
 pub struct Numbers {
     pub x: i64,
     pub y: i64,
     pub z: i64,
 }
 
-// A triple in sixteenths; zeros where not all three are taken.
-#[derive(Clone, Copy)]
-pub struct ScaledTriple {
-    pub taken: bool,
-    pub numbers: Numbers,
-}
-
-// One number in sixteenths; 0 where it is not taken.
-#[derive(Clone, Copy)]
-struct Scaled {
-    taken: bool,
-    count: i64,
-}
-
 // A Box and a Cut in sixteenths, each with its displacement.
 #[derive(Clone, Copy)]
 struct ScaledBox {
-    taken: bool,
     near: Numbers,
     far: Numbers,
     displacement: Numbers,
@@ -89,157 +75,91 @@ struct ScaledBox {
 
 #[derive(Clone, Copy)]
 struct ScaledCut {
-    taken: bool,
     normal: Numbers,
     offset: i64,
     displacement: Numbers,
 }
 
 // The first step. 16·x is cut to a whole number, which is taken if it is within the limit and over 16 gives x back.
-fn scale(x: f64, limit: i64) -> Scaled
+fn scale(x: f64, limit: i64) -> Option<i64>
     requires { T (is_limit limit) }
     ensures { result ≡ scaled_of x limit }
 {
-    let none = Scaled {
-        taken: false,
-        count: 0,
-    };
     let y = x * 16.0;
-    if y >= -9223372036854775808.0 {
-        if y < 9223372036854775808.0 {
-            let z = std::num::truncating_f64_to_i64(y);
-            if z > limit {
-                return none;
-            }
-            if z < 0 - limit {
-                return none;
-            }
-            let back = std::num::nearest_i64_to_f64(z) * 0.0625;
-            if back == x {
-                return Scaled {
-                    taken: true,
-                    count: z,
-                };
-            }
-            return none;
+    if y >= -9223372036854775808.0 && y < 9223372036854775808.0 {
+        let z = std::num::truncating_f64_to_i64(y);
+        if -limit <= z && z <= limit && std::num::nearest_i64_to_f64(z) * 0.0625 == x {
+            return Some(z);
         }
     }
-    none
-}
-
-// One number three times.
-fn alike(n: i64) -> Numbers
-    ensures { result ≡ alike n }
-{
-    Numbers { x: n, y: n, z: n }
+    None
 }
 
 // The three numbers of a triple.
-fn scale_triple(triple: Triple, limit: i64) -> ScaledTriple
+#[tactic(auto, using(crate::proofs::Held::triple_laws))]
+fn scale_triple(triple: Triple, limit: i64) -> Option<Numbers>
     requires { T (is_limit limit) }
     ensures { result ≡ scaled_triple (unsigned_abs limit) triple }
 {
-    let x = scale(triple.x, limit);
-    let y = scale(triple.y, limit);
-    let z = scale(triple.z, limit);
-    if x.taken & y.taken & z.taken {
-        let numbers = Numbers {
-            x: x.count,
-            y: y.count,
-            z: z.count,
-        };
-        return ScaledTriple {
-            taken: true,
-            numbers: numbers,
-        };
-    }
-    let none = alike(0);
-    ScaledTriple {
-        taken: false,
-        numbers: none,
-    }
+    let x = scale(triple.x, limit)?;
+    let y = scale(triple.y, limit)?;
+    let z = scale(triple.z, limit)?;
+    Some(Numbers { x, y, z })
 }
 
 // Whether a ≤ b on each axis.
 fn in_order(a: Numbers, b: Numbers) -> bool
     ensures { result ≡ at_most a b }
 {
-    (a.x <= b.x) & (a.y <= b.y) & (a.z <= b.z)
+    a.x <= b.x && a.y <= b.y && a.z <= b.z
 }
 
 // A Box in sixteenths.
-fn scale_box(corners: Corners, displacement: Triple) -> ScaledBox
+#[tactic(auto, using(crate::proofs::Held::box_laws))]
+fn scale_box(corners: Corners, displacement: Triple) -> Option<ScaledBox>
     ensures { result ≡ scaled_box corners displacement }
 {
-    let scaled_near = scale_triple(corners.near, Proxy::CORNER_LIMIT);
-    let scaled_far = scale_triple(corners.far, Proxy::CORNER_LIMIT);
-    let scaled_step = scale_triple(displacement, Proxy::NORMAL_LIMIT);
-    let near = scaled_near.numbers;
-    let far = scaled_far.numbers;
-    let step = scaled_step.numbers;
-    let order = in_order(near, far);
-    ScaledBox {
-        taken: scaled_near.taken & scaled_far.taken & scaled_step.taken & order,
-        near: near,
-        far: far,
-        displacement: step,
-    }
+    let near = scale_triple(corners.near, Proxy::CORNER_LIMIT)?;
+    let far = scale_triple(corners.far, Proxy::CORNER_LIMIT)?;
+    let displacement = scale_triple(displacement, Proxy::NORMAL_LIMIT)?;
+    in_order(near, far).then_some(ScaledBox {
+        near,
+        far,
+        displacement,
+    })
 }
 
 // A Cut in sixteenths.
-fn scale_cut(plane: Plane, displacement: Triple) -> ScaledCut
+#[tactic(auto, using(crate::proofs::Held::cut_laws))]
+fn scale_cut(plane: Plane, displacement: Triple) -> Option<ScaledCut>
     ensures { result ≡ scaled_cut plane displacement }
 {
-    let scaled_normal = scale_triple(plane.normal, Proxy::NORMAL_LIMIT);
-    let offset = scale(plane.offset, Proxy::CORNER_LIMIT);
-    let scaled_step = scale_triple(displacement, Proxy::NORMAL_LIMIT);
-    let normal = scaled_normal.numbers;
-    let step = scaled_step.numbers;
-    ScaledCut {
-        taken: scaled_normal.taken & offset.taken & scaled_step.taken,
-        normal: normal,
-        offset: offset.count,
-        displacement: step,
-    }
+    Some(ScaledCut {
+        normal: scale_triple(plane.normal, Proxy::NORMAL_LIMIT)?,
+        offset: scale(plane.offset, Proxy::CORNER_LIMIT)?,
+        displacement: scale_triple(displacement, Proxy::NORMAL_LIMIT)?,
+    })
 }
 
-// What a proxy holds of a Box: nothing is taken of a Cut.
-fn held_box(proxy: Proxy) -> ScaledBox
+// What a proxy holds of a Box: nothing of a Cut.
+#[tactic(auto, unfolding(crate::specs::Held::held_box))]
+fn held_box(proxy: Proxy) -> Option<ScaledBox>
     ensures { result ≡ held_box proxy }
 {
-    let solid = proxy.solid;
-    let displacement = proxy.displacement;
-    match solid {
-        Solid::Box(corners) => scale_box(corners, displacement),
-        Solid::Cut(_) => {
-            let none = alike(0);
-            ScaledBox {
-                taken: false,
-                near: none,
-                far: none,
-                displacement: none,
-            }
-        }
+    match proxy.solid {
+        Solid::Box(corners) => scale_box(corners, proxy.displacement),
+        Solid::Cut(_) => None,
     }
 }
 
-// What a proxy holds of a Cut: nothing is taken of a Box.
-fn held_cut(proxy: Proxy) -> ScaledCut
+// What a proxy holds of a Cut: nothing of a Box.
+#[tactic(auto, unfolding(crate::specs::Held::held_cut))]
+fn held_cut(proxy: Proxy) -> Option<ScaledCut>
     ensures { result ≡ held_cut proxy }
 {
-    let solid = proxy.solid;
-    let displacement = proxy.displacement;
-    match solid {
-        Solid::Box(_) => {
-            let none = alike(0);
-            ScaledCut {
-                taken: false,
-                normal: none,
-                offset: 0,
-                displacement: none,
-            }
-        }
-        Solid::Cut(plane) => scale_cut(plane, displacement),
+    match proxy.solid {
+        Solid::Box(_) => None,
+        Solid::Cut(plane) => scale_cut(plane, proxy.displacement),
     }
 }
 
@@ -249,9 +169,9 @@ fn negate(a: Numbers) -> Numbers
     ensures { result ≡ negated_numbers a }
 {
     Numbers {
-        x: 0 - a.x,
-        y: 0 - a.y,
-        z: 0 - a.z,
+        x: -a.x,
+        y: -a.y,
+        z: -a.z,
     }
 }
 
@@ -290,14 +210,20 @@ fn one_row(normal: Numbers, offset: i64, step: Numbers) -> [i64; 5]
     requires limited_2 { Limited normal_limit step }
     ensures { result ≡ row_across normal offset step }
 {
-    let forward = dot(normal, step);
     [
         16 * offset,
         16 * normal.x,
         16 * normal.y,
         16 * normal.z,
-        0 - forward,
+        -dot(normal, step),
     ]
+}
+
+// One number three times.
+fn alike(n: i64) -> Numbers
+    ensures { result ≡ alike n }
+{
+    Numbers { x: n, y: n, z: n }
 }
 
 // Whether each number is from −limit to limit.
@@ -305,69 +231,60 @@ fn is_limited(numbers: Numbers, limit: i64) -> bool
     requires { T (int_le (pos 0) limit) }
     ensures { result ≡ is_limited (unsigned_abs limit) numbers }
 {
-    let least = alike(0 - limit);
-    let most = alike(limit);
-    in_order(least, numbers) & in_order(numbers, most)
+    in_order(alike(-limit), numbers) && in_order(numbers, alike(limit))
 }
 
-// BAD_PROXY where a number is not taken (rule 6.2), or near exceeds far; else 0.
-pub fn refusal(proxy: Proxy) -> u64
-    ensures { result ≡ proxy_refusal proxy }
+// Refused where a number is not taken (rule 6.2), or near exceeds far.
+#[tactic(auto, using(crate::proofs::Rows::check_laws))]
+pub fn check(proxy: Proxy) -> Result<(), Refusal>
+    ensures { number_told result ≡ proxy_refusal proxy }
 {
-    let of_box = held_box(proxy);
-    if of_box.taken {
-        return 0;
+    if held_box(proxy).is_none() && held_cut(proxy).is_none() {
+        return Err(Refusal::BadProxy);
     }
-    let of_cut = held_cut(proxy);
-    if of_cut.taken {
-        0
-    } else {
-        universe::refusals::BAD_PROXY
-    }
+    Ok(())
 }
 
 // How many rows `box_rows` gives: 6 for a Box that is not refused, else 0.
+#[tactic(auto, using(crate::proofs::Rows::box_laws))]
 pub fn box_row_count(proxy: Proxy) -> u64
     ensures { result ≡ box_row_count proxy }
 {
-    let held = held_box(proxy);
-    if held.taken { 6 } else { 0 }
+    if held_box(proxy).is_some() { 6 } else { 0 }
 }
 
 // The six rows of a Box, near and far of each axis in turn (rule 6.3). Zeros where `box_row_count` is 0.
+#[tactic(auto, using(crate::proofs::Rows::box_laws))]
 pub fn box_rows(proxy: Proxy) -> [[i64; 5]; 6]
     ensures { result ≡ box_rows proxy }
 {
-    let held = held_box(proxy);
-    if held.taken {
-        six_rows(held.near, held.far, held.displacement)
-    } else {
-        [[0i64; 5]; 6]
+    match held_box(proxy) {
+        Some(held) => six_rows(held.near, held.far, held.displacement),
+        None => [[0i64; 5]; 6],
     }
 }
 
 // How many rows `cut_row` gives: 1 for a Cut that is not refused, else 0.
+#[tactic(auto, using(crate::proofs::Rows::cut_laws))]
 pub fn cut_row_count(proxy: Proxy) -> u64
     ensures { result ≡ cut_row_count proxy }
 {
-    let held = held_cut(proxy);
-    if held.taken { 1 } else { 0 }
+    if held_cut(proxy).is_some() { 1 } else { 0 }
 }
 
 // The one row of a Cut (rule 6.4). Zeros where `cut_row_count` is 0.
+#[tactic(auto, using(crate::proofs::Rows::cut_laws))]
 pub fn cut_row(proxy: Proxy) -> [i64; 5]
     ensures { result ≡ cut_row proxy }
 {
-    let held = held_cut(proxy);
-    if held.taken {
-        one_row(held.normal, held.offset, held.displacement)
-    } else {
-        [0i64; 5]
+    match held_cut(proxy) {
+        Some(held) => one_row(held.normal, held.offset, held.displacement),
+        None => [0i64; 5],
     }
 }
 
 // A corner in sixteenths, where each of its numbers is taken (rule 6.2).
-pub fn corner_sixteenths(corner: Triple) -> ScaledTriple
+pub fn corner_sixteenths(corner: Triple) -> Option<Numbers>
     ensures { result ≡ corner_sixteenths corner }
 {
     scale_triple(corner, Proxy::CORNER_LIMIT)
@@ -375,13 +292,14 @@ pub fn corner_sixteenths(corner: Triple) -> ScaledTriple
 
 // The six rows between corners in sixteenths, which need keep no proxy limit; zeros where a row would exceed a
 // halfspace's limits.
+#[tactic(auto, unfolding(crate::specs::Rows::rows_within), using(crate::proofs::Held::limited_is))]
 pub fn rows_between(near: Numbers, far: Numbers, displacement: Numbers) -> [[i64; 5]; 6]
     ensures { result ≡ rows_within near far displacement }
 {
-    let near_kept = is_limited(near, Universe::OFFSET_LIMIT);
-    let far_kept = is_limited(far, Universe::OFFSET_LIMIT);
-    let step_kept = is_limited(displacement, Universe::COEFFICIENT_LIMIT);
-    if near_kept & far_kept & step_kept {
+    if is_limited(near, Universe::OFFSET_LIMIT)
+        && is_limited(far, Universe::OFFSET_LIMIT)
+        && is_limited(displacement, Universe::COEFFICIENT_LIMIT)
+    {
         six_rows(near, far, displacement)
     } else {
         [[0i64; 5]; 6]

@@ -1,7 +1,6 @@
 -- Laws of `sweep_block` (src/block.rt), each with the premises that it has at that point: what a call asks of the slots, and what a block comes to.
 use mathlib.Core.Path.{◌≡◌, refl, sym, ap, ap₂, subst, ◌∙◌}
 use mathlib.Core.List.{List, ◌∷◌, ◌++◌}
-use mathlib.Core.Logic.{inl}
 use Prim.Native.Nat.{ℕ, suc, ◌+◌, ◌-◌, ◌*◌, ◌^◌, ◌≤◌, ◌<◌}
 use native.Mathlib.Omega.{arith}
 use native.Mathlib.Decide.{ℕ_discrete}
@@ -15,7 +14,7 @@ use Rattle.bintree.proofs.Lays.{leaf_laid}
 use Rattle.sweep.specs.declared.block.Piece.{Piece}
 use Rattle.sweep.specs.Sweeping.{swept}
 use Rattle.sweep.specs.Places.{unions, lows, highs, swept_trees, trees_at, Stand, settled, past_all, low_places, pulled}
-use Rattle.sweep.specs.Places.{slots, Inside, Apart, Moved, order_left, slots_for, Sweeping, Halving}
+use Rattle.sweep.specs.Places.{slots, Inside, Moved, order_left, slots_for, Sweeping, Halving}
 use Rattle.sweep.specs.Places.{swept_across, swept_halves, swept_block, piece_of}
 use Rattle.sweep.proofs.Trees.{stand_trees, Closed, closed, Open, opened, never_open, low_stand, high_stand}
 use Rattle.sweep.proofs.Trees.{pulled_ends, few_lows, past_length, halves_total}
@@ -33,9 +32,6 @@ module _ {s axes : List ℕ} {j left : ℕ} {work : List ℕ} {from n at : ℕ} 
 
   pub block_inside : Inside s work from n
   block_inside = stand_slots work from n g.stand block_fits
-
-  pub block_apart : Apart from n from
-  block_apart = record { same_or_past = inl refl }
 
   pub block_at : length s < 2 ^ 64 → at + 1 < 2 ^ 64
   block_at l = omega (arith, g.short, g.some, halves_total g.trees, stand_count work from n g.stand block_fits)
@@ -197,9 +193,6 @@ module _ {s axes : List ℕ} {j left : ℕ} {work : List ℕ} {from n at : ℕ} 
               (q : length moved ≡ length lower) where
             pub across_back_inside : Inside s moved from n
             across_back_inside = back_inside (omega (arith, across_enough, few)) w q
-
-            pub across_back_past : from + n ≤ from + n + m
-            across_back_past = omega arith
 
             pub across_back_room : from + n + m + n ≤ length moved
             across_back_room = omega (arith, across_enough, few, q, lower_length)

@@ -3,7 +3,6 @@
 use mathlib.Core.Path.{◌≡◌, sym, ap, ap₂, subst, ◌∙◌}
 use mathlib.Core.Bool.{Bool, true, false}
 use mathlib.Core.List.{List, ◌++◌}
-use mathlib.Core.Logic.{inr}
 use Prim.Native.Nat.{ℕ, suc, ◌+◌, ◌*◌, ◌^◌, ◌≤◌, ◌<◌}
 use native.Mathlib.Omega.{arith}
 use lib.ListN.{length, take, drop, length-append, length-take}
@@ -15,7 +14,7 @@ use Rattle.bintree.proofs.Lays.{merged_same, merged_apart, leaf_laid, apart_laid
 use Rattle.sweep.specs.declared.block.Piece.{Piece}
 use Rattle.sweep.specs.Sweeping.{swept}
 use Rattle.sweep.specs.Places.{unions, total, swept_trees, trees_at, Stand, past_all}
-use Rattle.sweep.specs.Places.{slots, Inside, Apart, Moved, order_left, Sweeping, Halving, lows_at, highs_at}
+use Rattle.sweep.specs.Places.{slots, Inside, Moved, order_left, Sweeping, Halving, lows_at, highs_at}
 use Rattle.sweep.specs.Places.{swept_across, swept_halves, swept_block, piece_of}
 use Rattle.sweep.proofs.Trees.{stand_trees, stand_append}
 use Rattle.sweep.proofs.Trees.{past_length, past_append, total_append, swept_trees_size}
@@ -30,9 +29,6 @@ module _ {s axes : List ℕ} {j left : ℕ} {work : List ℕ} {from n at : ℕ} 
 
   pub pair_inside : Inside s work from n
   pair_inside = stand_slots work from n h.low_stand (omega (arith, both_fit))
-
-  pub pair_apart : Apart from n (from + n)
-  pair_apart = record { same_or_past = inr (omega arith) }
 
   pub pair_room : from + n + n ≤ length work
   pair_room = omega (arith, both_fit)
@@ -152,13 +148,6 @@ module _ {s axes : List ℕ} {j left : ℕ} {work : List ℕ} {from n at : ℕ} 
       stand = subst (λ l. Stand s left l h.high_trees) (sym moved_are) h.high_stand;
       fits = omega (arith, h.fits, q);
       short = omega (arith, h.short, ap (λ (x : Piece). x.end) p, low_size);
-    }
-
-    pub halves_ended : {last : List ℕ} → Moved moved from from (past_all s (slots moved from n)) last →
-        Moved work from from (past_all s (past_all s (slots work from n))) last
-    halves_ended {last} v = record {
-      kept = v.kept ∙ w.kept;
-      ended = ap (λ l. slots last from (length (past_all s l))) (sym moved_are) ∙ v.ended ∙ ap (past_all s) moved_are;
     }
 
     -- both are laid: joined, the two are the whole

@@ -1,15 +1,15 @@
 -- Laws of `pull_back`: what is still to be written of the slots still to come, with the ends that are left, is what was asked.
-use mathlib.Core.Path.{◌≡◌, refl, sym, ap, ap₂, ◌∙◌}
+use mathlib.Core.Path.{◌≡◌, sym, ap, ap₂, ◌∙◌}
 use mathlib.Core.Bool.{cond}
 use mathlib.Core.List.{List, ◌∷◌}
-use Prim.Native.Nat.{ℕ, suc, ◌+◌, ◌-◌, ◌^◌, ◌≤◌, ◌<◌}
+use Prim.Native.Nat.{ℕ, suc, ◌+◌, ◌-◌, ◌≤◌, ◌<◌}
 use native.Mathlib.Omega.{arith}
 use lib.ListN.{length, get_or, drop, set}
 use lib.Seq.{drop-cons, get_or-set_other, sets}
 use borrow.Author.Tests.{eq-eqb, ne_eqb}
 use Rattle.bintree.specs.Shape.{open_symbol}
-use Rattle.sweep.specs.Places.{is_symbol, pulled, slots, Inside}
-use Rattle.sweep.proofs.Slots.{all_slots, no_slots, Writing, writing_first, writing_begins, writing_next, writing_laws}
+use Rattle.sweep.specs.Places.{is_symbol, pulled, slots}
+use Rattle.sweep.proofs.Slots.{no_slots, Writing, writing_begins, writing_next}
 
 pub record Pulling (s before : List ℕ) (from n at : ℕ) (work : List ℕ) (next i : ℕ) : Type 0 where
   pub still : Writing s before from n work i
@@ -22,20 +22,6 @@ pub record Pulling (s before : List ℕ) (from n at : ℕ) (work : List ℕ) (ne
   pub tells : sets work (from + i) (pulled s (slots before (from + i) (n - i)) (drop next before)) ≡ sets before from (pulled s (slots before from n)
       (drop at before))
 
-pub pulling_first : (s before : List ℕ) (from n at : ℕ) → Inside s before from n → from + n ≤ at → at + n ≤ length before →
-    Pulling s before from n at before at 0
-pulling_first s before from n at w h k =
-    let q : from + 0 ≡ from = omega arith in
-    record {
-      still = writing_first s before from n w;
-      past = h;
-      room = k;
-      least = omega arith;
-      most = omega arith;
-      behind = λ i l. refl;
-      tells = ap₂ (λ m l. sets before m (pulled s l (drop at before))) q (all_slots before from n);
-    }
-
 module _ {s before : List ℕ} {from n at : ℕ} {work : List ℕ} {next i : ℕ} (g : Pulling s before from n at work next i) where
   pub pulling_written : n ≤ i → work ≡ sets before from (pulled s (slots before from n) (drop at before))
   unfolding pulled
@@ -44,9 +30,6 @@ module _ {s before : List ℕ} {from n at : ℕ} {work : List ℕ} {next i : ℕ
   module _ (h : i < n) where
     pub pulling_end : next < length work
     pulling_end = omega (arith, g.still.long, g.most, g.room)
-
-    pub pulling_next : length work < 2 ^ 64 → next + 1 < 2 ^ 64
-    pulling_next l = omega (arith, pulling_end)
 
     abbrev place : ℕ
     place = get_or work (from + i) 0
@@ -107,5 +90,3 @@ module _ {s before : List ℕ} {from n at : ℕ} {work : List ℕ} {next i : ℕ
     pub pulling_leaf : (get_or s (get_or work (from + i) 0) 0 ≡ open_symbol → ⊥) →
         Pulling s before from n at (set work (from + i) (get_or work (from + i) 0 + 1)) next (i + 1)
     pulling_leaf e = next_pulling (place + 1) next g.least (omega (arith, g.most)) (pulled_leaf e)
-
-pub ruleset pull_laws = (writing_laws, pulling_first, pulling_written, pulling_end, pulling_next, pulling_open, pulling_leaf)

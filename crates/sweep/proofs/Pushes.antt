@@ -1,16 +1,16 @@
 -- Laws of `push_lows` and `push_past`: what is still to be written of the slots still to come, from what has been written on, is what was asked.
-use mathlib.Core.Path.{◌≡◌, sym, ap, ap₂, ◌∙◌}
+use mathlib.Core.Path.{◌≡◌, sym, ap, ◌∙◌}
 use mathlib.Core.Bool.{cond}
 use mathlib.Core.List.{List, ◌∷◌}
 use mathlib.Core.Logic.{◌⊎◌, inl, inr}
-use Prim.Native.Nat.{ℕ, suc, ◌+◌, ◌-◌, ◌^◌, ◌≤◌, ◌<◌}
+use Prim.Native.Nat.{ℕ, suc, ◌+◌, ◌-◌, ◌≤◌, ◌<◌}
 use native.Mathlib.Omega.{arith}
 use lib.ListN.{length, get_or, set}
 use lib.Seq.{sets}
 use borrow.Author.Tests.{eq-eqb, ne_eqb}
 use Rattle.bintree.specs.Shape.{open_symbol}
-use Rattle.sweep.specs.Places.{past_at, past_all, low_places, slots, Inside, Apart}
-use Rattle.sweep.proofs.Slots.{all_slots, no_slots, Writing, writing_first, writing_begins, writing_next, writing_on, writing_laws}
+use Rattle.sweep.specs.Places.{past_at, past_all, low_places, slots, Apart}
+use Rattle.sweep.proofs.Slots.{no_slots, Writing, writing_begins, writing_next, writing_on}
 
 -- ---- `push_lows`: `next` is the slot that is written next
 
@@ -23,24 +23,7 @@ pub record Pushing (s before : List ℕ) (from n to : ℕ) (work : List ℕ) (ne
   pub tells : sets work next (low_places s (slots before (from + i) (n - i))) ≡ sets before to (low_places s (slots before from n))
   pub counts : next + length (low_places s (slots before (from + i) (n - i))) ≡ to + length (low_places s (slots before from n))
 
-pub pushing_first : (s before : List ℕ) (from n to : ℕ) → Inside s before from n → from + n ≤ to → to + n ≤ length before →
-    Pushing s before from n to before to 0
-pushing_first s before from n to w h k =
-    let e = all_slots before from n in
-    record {
-      still = writing_first s before from n w;
-      past = h;
-      room = k;
-      least = omega arith;
-      most = omega arith;
-      tells = ap (λ l. sets before to (low_places s l)) e;
-      counts = ap (λ l. to + length (low_places s l)) e;
-    }
-
 module _ {s before : List ℕ} {from n to : ℕ} {work : List ℕ} {next i : ℕ} (g : Pushing s before from n to work next i) where
-  pub pushing_least : to ≤ next
-  pushing_least = g.least
-
   pub pushing_end : n ≤ i → next - to ≡ length (low_places s (slots before from n))
   unfolding low_places
   pushing_end h =
@@ -52,12 +35,6 @@ module _ {s before : List ℕ} {from n to : ℕ} {work : List ℕ} {next i : ℕ
   pushing_written h = sym (ap (λ l. sets work next (low_places s l)) (no_slots before from n i h)) ∙ g.tells
 
   module _ (h : i < n) where
-    pub pushing_room : next < length work
-    pushing_room = omega (arith, g.still.long, g.most, g.room)
-
-    pub pushing_next : length work < 2 ^ 64 → next + 1 < 2 ^ 64
-    pushing_next l = omega (arith, pushing_room)
-
     abbrev place : ℕ
     place = get_or work (from + i) 0
 
@@ -105,18 +82,6 @@ module _ {s before : List ℕ} {from n to : ℕ} {work : List ℕ} {next i : ℕ
       counts = omega (arith, g.counts, ap length (lows_leaf e));
     }
 
-pub ruleset push_laws = (
-  writing_laws,
-  pushing_first,
-  pushing_least,
-  pushing_end,
-  pushing_written,
-  pushing_room,
-  pushing_next,
-  pushing_open,
-  pushing_leaf,
-)
-
 -- ---- `push_past`
 
 pub record Ending (s before : List ℕ) (from n to : ℕ) (work : List ℕ) (i : ℕ) : Type 0 where
@@ -125,27 +90,8 @@ pub record Ending (s before : List ℕ) (from n to : ℕ) (work : List ℕ) (i :
   pub room : to + n ≤ length before
   pub tells : sets work (to + i) (past_all s (slots before (from + i) (n - i))) ≡ sets before to (past_all s (slots before from n))
 
-pub ending_first : (s before : List ℕ) (from n to : ℕ) → Inside s before from n → Apart from n to → to + n ≤ length before → Ending s before from n to before 0
-ending_first s before from n to w a k =
-    let q : to + 0 ≡ to = omega arith in
-    record {
-      still = writing_first s before from n w;
-      apart = a;
-      room = k;
-      tells = ap₂ (λ m l. sets before m (past_all s l)) q (all_slots before from n);
-    }
-
 module _ {s before : List ℕ} {from n to : ℕ} {work : List ℕ} {i : ℕ} (g : Ending s before from n to work i) where
-  pub ending_written : n ≤ i → work ≡ sets before to (past_all s (slots before from n))
-  ending_written h = sym (ap (λ l. sets work (to + i) (past_all s l)) (no_slots before from n i h)) ∙ g.tells
-
   module _ (h : i < n) where
-    pub ending_room : to + i < length work
-    ending_room = omega (arith, g.still.long, g.room)
-
-    pub ending_room_few : length work < 2 ^ 64 → to + i < 2 ^ 64
-    ending_room_few l = omega (arith, ending_room)
-
     pub ending_next : (x : ℕ) → x ≡ past_at s (get_or work (from + i) 0) → Ending s before from n to (set work (to + i) x) (i + 1)
     ending_next x e =
         let q : to + (i + 1) ≡ suc (to + i) = omega arith in
@@ -161,5 +107,3 @@ module _ {s before : List ℕ} {from n to : ℕ} {work : List ℕ} {i : ℕ} (g 
         other : (k : ℕ) → i + 1 ≤ k → k < n → (to ≡ from) ⊎ (from + n ≤ to) → from + k ≡ to + i → ⊥
         other k l m (inl a) z = omega arith
         other k l m (inr a) z = omega arith
-
-pub ruleset end_laws = (writing_laws, ending_first, ending_written, ending_room, ending_room_few, ending_next)

@@ -5,12 +5,12 @@ use Rattle.universe.specs.declared.Universe.{Universe}
 use Rattle.universe.specs.Refusals.{first_refusal}
 use Rattle.universe.specs.Universe.{universe_refusal, order}
 use Rattle.universe.specs.Questions.{is_one_of, no_universe, without_answer}
-use Rattle.bintree.specs.declared.Written.{Written}
+use Rattle.bintree.specs.Told.{WrittenAnswer}
 use Rattle.bintree.specs.Shape.{Shape, symbols}
 use Rattle.bintree.specs.Reading.{read, expression, expression_refusal}
 use Rattle.bintree.specs.Merging.{merged}
 use Rattle.bintree.specs.Answers.{of_shape, written_answer, written_buffer}
-use Rattle.sweep.specs.declared.Swept.{Swept}
+use Rattle.sweep.specs.Told.{SweptAnswer}
 use Rattle.sweep.specs.Sweeping.{swept}
 
 -- rule 12.3: the checks before 6, in their order
@@ -36,11 +36,11 @@ pub record Ready (u : Universe) (s : List ℕ) (axis : ℕ) : Type 0 where
 
 -- what a call that writes answers, with the universe of what it has written; where it is refused three zeros stand for
 -- that
-abbrev pub of_universe : Universe → Written → Swept
+abbrev pub of_universe : Universe → WrittenAnswer → SweptAnswer
 of_universe result w =
     record { refusal = w.refusal; universe = cond (eqb w.refusal 0) result no_universe; length = w.length }
 
-unfoldable pub swept_answer : Universe → List ℕ → ℕ → List ℕ → Swept
+unfoldable pub swept_answer : Universe → List ℕ → ℕ → List ℕ → SweptAnswer
 swept_answer u s axis out =
     of_universe (without_answer u axis) (written_answer (swept_refusal u s axis) out (swept_symbols u s axis))
 

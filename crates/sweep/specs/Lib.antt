@@ -2,6 +2,7 @@
 -- voxels' colours, what the call answers and writes, and the walk by places that the code makes.
 pub mod Sweeping
 pub mod Voxels
+pub mod Told
 pub mod Answers
 pub mod Places
 pub mod Work

@@ -1,40 +1,26 @@
 // Lists of places in an expression, in slots of one array: what the trees there come to, the places of their low
 // halves, and the places past them.
-ghost use Rattle.std.specs.Prelude.{◌≡◌, cond, ◌+◌, ◌≤◌, eqb, length, drop};
+ghost use Rattle.std.specs.Prelude.{◌≡◌, ◌+◌, ◌≤◌, length, drop};
 ghost use Rattle.std.proofs.lemmas.List.Edits.{sets};
 ghost use Rattle.bintree.specs.declared.Colour.TheVariants.{White};
-ghost use Rattle.bintree.specs.Shape.{open_symbol, symbol_of};
+ghost use Rattle.bintree.specs.Shape.{symbol_of};
 ghost use Rattle.sweep.specs.Places.{settled, past_at, past_all, low_places, pulled, slots, Inside, Apart};
 
 // The place past the tree that begins at `at`.
 fn past(expression: &[u8], at: usize) -> usize
     ensures { result ≡ past_at expression.now at }
 {
-    let mut place = at;
     let mut more: usize = 0;
-    while place < expression.len() {
-        let symbol = expression[place];
-        place += 1;
-        if symbol == b'(' {
+    for place in at..expression.len() {
+        if expression[place] == b'(' {
             more += 1;
+        } else if more == 0 {
+            return place + 1;
         } else {
-            if more == 0 {
-                return place;
-            }
             more -= 1;
         }
     }
-    place
-}
-
-// `(` where that is the symbol, else what was found before.
-fn opened(symbol: u8, found: u8) -> u8
-    ensures { result ≡ cond (eqb symbol open_symbol) open_symbol found }
-{
-    if symbol == b'(' {
-        return symbol;
-    }
-    found
+    at.max(expression.len())
 }
 
 // What the trees come to whose places are in `count` slots from `from` on: `B` where one is that leaf, else `(` where
@@ -45,14 +31,14 @@ pub(crate) fn settle(expression: &[u8], work: &[usize], from: usize, count: usiz
         result ≡ settled expression.now (symbol_of White) places }
 {
     let mut found = b'W';
-    let mut i: usize = 0;
-    while i < count {
-        let symbol = expression[work[from + i]];
+    for place in &work[from..from + count] {
+        let symbol = expression[*place];
         if symbol == b'B' {
             return symbol;
         }
-        found = opened(symbol, found);
-        i += 1;
+        if symbol == b'(' {
+            found = symbol;
+        }
     }
     found
 }
@@ -73,10 +59,8 @@ pub(crate) fn push_lows(
         work.new ≡ sets work.old to (low_places expression.now places) }
 {
     let mut next = to;
-    let mut i: usize = 0;
-    while i < count {
+    for i in 0..count {
         let place = work[from + i];
-        i += 1;
         if expression[place] == b'(' {
             work[next] = place + 1;
             next += 1;
@@ -93,10 +77,8 @@ pub(crate) fn push_past(expression: &[u8], work: &mut [usize], from: usize, coun
     ensures { let places = slots work.old from count in
         work.new ≡ sets work.old to (past_all expression.now places) }
 {
-    let mut i: usize = 0;
-    while i < count {
+    for i in 0..count {
         work[to + i] = past(expression, work[from + i]);
-        i += 1;
     }
 }
 
@@ -111,16 +93,13 @@ pub(crate) fn pull_back(expression: &[u8], work: &mut [usize], from: usize, coun
         work.new ≡ sets work.old from (pulled expression.now places ends) }
 {
     let mut next = at;
-    let mut i: usize = 0;
-    while i < count {
+    for i in 0..count {
         let place = work[from + i];
         if expression[place] == b'(' {
             work[from + i] = work[next];
             next += 1;
-            i += 1;
         } else {
             work[from + i] = place + 1;
-            i += 1;
         }
     }
 }

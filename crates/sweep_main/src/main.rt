@@ -4,15 +4,16 @@
 
 use std::io;
 use std::io::Write;
-use universe::Universe;
+use sweep::Swept;
+use universe::{Universe, Unwritten};
 
 const LENT: usize = 20;
 
 fn universe_of(axes: u64, bits: u64, frame_bits: u64) -> Universe {
     Universe {
-        axes: axes,
-        bits: bits,
-        frame_bits: frame_bits,
+        axes,
+        bits,
+        frame_bits,
     }
 }
 
@@ -31,6 +32,22 @@ fn say_universe(to: &mut impl Write, universe: Universe) -> io::Result<()> {
     number(to, universe.frame_bits)
 }
 
+// What a sweep tells: 0, the universe of what is written and its length; or the refusal, three zeros and what is needed.
+fn say_answer(to: &mut impl Write, answer: Result<Swept, Unwritten>) -> io::Result<()> {
+    match answer {
+        Ok(swept) => {
+            number(to, 0)?;
+            say_universe(to, swept.universe)?;
+            number(to, swept.length)
+        }
+        Err(unwritten) => {
+            number(to, unwritten.number())?;
+            say_universe(to, universe_of(0, 0, 0))?;
+            number(to, unwritten.needed())
+        }
+    }
+}
+
 // An expression swept along an axis, into the room lent.
 fn into_room(
     to: &mut impl Write,
@@ -44,9 +61,7 @@ fn into_room(
     say(to, b" along ")?;
     number(to, axis)?;
     say(to, b": ")?;
-    number(to, answer.refusal)?;
-    say_universe(to, answer.universe)?;
-    number(to, answer.length)?;
+    say_answer(to, answer)?;
     say(to, room)?;
     say(to, b"\n")
 }
@@ -102,26 +117,19 @@ fn edges(to: &mut impl Write) -> io::Result<()> {
     into_room(to, square, b"(W(((WBW((BWW", 1, &mut exact)
 }
 
-// The front of the room, swept along the frame axis.
-fn front(
-    to: &mut impl Write,
-    universe: Universe,
-    room: [u8; LENT],
-    length: usize,
-) -> io::Result<()> {
-    if length <= LENT {
-        along(to, universe, &room[..length], universe.axes)?;
-    }
-    Ok(())
-}
-
 // Where a mover of the program's scene has ever been: its tree is converted, and what is written is swept.
 fn mover(to: &mut impl Write, label: &[u8], rows: &[i64], words: &[u16]) -> io::Result<()> {
+    let square = universe_of(2, 2, 2);
     let mut room = [b'.'; LENT];
-    let written = convert::merged_of_one(universe_of(2, 2, 2), rows, &[], words, &mut room);
+    let written = convert::merged_of_one(square, rows, &[], words, &mut room);
     say(to, label)?;
     say(to, b"\n")?;
-    front(to, universe_of(2, 2, 2), room, written.length as usize)
+    if let Ok(length) = written
+        && let Some(expression) = room.get(..length as usize)
+    {
+        along(to, square, expression, square.axes)?;
+    }
+    Ok(())
 }
 
 fn main(rt: HostRuntime) -> io::Result<()> {

@@ -1,5 +1,6 @@
 -- The contract of every public function asks nothing, and two answers that it allows are equal: a file for each crate, two lines for each function.
 pub mod Alike
+pub mod Told
 pub mod OfUniverse
 pub mod OfCsg
 pub mod OfBintree

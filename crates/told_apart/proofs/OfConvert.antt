@@ -4,21 +4,23 @@ use borrow.Fn.World.{World}
 use Rattle.convert.specs.contracts as convert
 use Rattle.told_apart.specs.Answers.{TellsApart}
 use Rattle.told_apart.proofs.Alike.{same, one, two, behind}
+use Rattle.universe.proofs.Telling.{told-injective}
+use Rattle.told_apart.proofs.Told.{clearance-read, writing-read}
 
-pub convert_scene_refusal : (w : World) → TellsApart w convert.scene_refusal.ended convert.scene_refusal.clauses
-convert_scene_refusal w _ _ = ((tt, refl), λ _ _ _ _ _. one w (λ p q. (same p q, refl)))
+pub convert_check_scene : (w : World) → TellsApart w convert.check_scene.ended convert.check_scene.clauses
+convert_check_scene w _ _ = ((tt, refl), λ _ _ _ _ _. one w (λ p q. (told-injective _ _ (same p q), refl)))
 
 pub convert_raw_of_one : (w : World) → TellsApart w convert.raw_of_one.ended convert.raw_of_one.clauses
-convert_raw_of_one w _ _ = ((tt, refl), λ _ _ _ _ _. two w (λ p q. (same p.0 q.0, λ i. behind 4 (same p.1 q.1 i, tt))))
+convert_raw_of_one w _ _ = ((tt, refl), λ _ _ _ _ _. two w (λ p q. (writing-read _ _ (same p.0 q.0), λ i. behind 4 (same p.1 q.1 i, tt))))
 
 pub convert_raw_of_two : (w : World) → TellsApart w convert.raw_of_two.ended convert.raw_of_two.clauses
-convert_raw_of_two w _ _ = ((tt, refl), λ _ _ _ _ _. two w (λ p q. (same p.0 q.0, λ i. behind 5 (same p.1 q.1 i, tt))))
+convert_raw_of_two w _ _ = ((tt, refl), λ _ _ _ _ _. two w (λ p q. (writing-read _ _ (same p.0 q.0), λ i. behind 5 (same p.1 q.1 i, tt))))
 
 pub convert_merged_of_one : (w : World) → TellsApart w convert.merged_of_one.ended convert.merged_of_one.clauses
-convert_merged_of_one w _ _ = ((tt, refl), λ _ _ _ _ _. two w (λ p q. (same p.0 q.0, λ i. behind 4 (same p.1 q.1 i, tt))))
+convert_merged_of_one w _ _ = ((tt, refl), λ _ _ _ _ _. two w (λ p q. (writing-read _ _ (same p.0 q.0), λ i. behind 4 (same p.1 q.1 i, tt))))
 
 pub convert_merged_of_two : (w : World) → TellsApart w convert.merged_of_two.ended convert.merged_of_two.clauses
-convert_merged_of_two w _ _ = ((tt, refl), λ _ _ _ _ _. two w (λ p q. (same p.0 q.0, λ i. behind 5 (same p.1 q.1 i, tt))))
+convert_merged_of_two w _ _ = ((tt, refl), λ _ _ _ _ _. two w (λ p q. (writing-read _ _ (same p.0 q.0), λ i. behind 5 (same p.1 q.1 i, tt))))
 
 pub convert_verdict_of_two : (w : World) → TellsApart w convert.verdict_of_two.ended convert.verdict_of_two.clauses
-convert_verdict_of_two w _ _ = ((tt, refl), λ _ _ _ _ _. two w (λ p q. (same p.0 q.0, λ i. behind 7 (same p.1 q.1 i, tt))))
+convert_verdict_of_two w _ _ = ((tt, refl), λ _ _ _ _ _. two w (λ p q. (clearance-read _ _ (same p.0 q.0), λ i. behind 7 (same p.1 q.1 i, tt))))

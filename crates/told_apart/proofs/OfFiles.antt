@@ -4,6 +4,7 @@ use borrow.Fn.World.{World}
 use Rattle.files.specs.contracts as files
 use Rattle.told_apart.specs.Answers.{TellsApart}
 use Rattle.told_apart.proofs.Alike.{same, two, five, behind}
+use Rattle.told_apart.proofs.Told.{scene-read, shape-read, writing-read}
 
 pub files_read_scene : (w : World) → TellsApart w files.read_scene.ended files.read_scene.clauses
 files_read_scene w _ _ = (
@@ -13,11 +14,11 @@ files_read_scene w _ _ = (
       let balls = same p.2 q.2 in
       let first = same p.3 q.3 in
       let second = same p.4 q.4 in
-      (same p.0 q.0, λ i. (tt, (rows i, (balls i, (first i, (second i, tt))))))),
+      (scene-read _ _ (same p.0 q.0), λ i. (tt, (rows i, (balls i, (first i, (second i, tt))))))),
 )
 
 pub files_read_shape : (w : World) → TellsApart w files.read_shape.ended files.read_shape.clauses
-files_read_shape w _ _ = ((tt, refl), λ _ _ _ _ _. two w (λ p q. (same p.0 q.0, λ i. behind 1 (same p.1 q.1 i, tt))))
+files_read_shape w _ _ = ((tt, refl), λ _ _ _ _ _. two w (λ p q. (shape-read _ _ (same p.0 q.0), λ i. behind 1 (same p.1 q.1 i, tt))))
 
 pub files_write_shape : (w : World) → TellsApart w files.write_shape.ended files.write_shape.clauses
-files_write_shape w _ _ = ((tt, refl), λ _ _ _ _ _. two w (λ p q. (same p.0 q.0, λ i. behind 2 (same p.1 q.1 i, tt))))
+files_write_shape w _ _ = ((tt, refl), λ _ _ _ _ _. two w (λ p q. (writing-read _ _ (same p.0 q.0), λ i. behind 2 (same p.1 q.1 i, tt))))

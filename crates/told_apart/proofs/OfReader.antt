@@ -4,9 +4,10 @@ use borrow.Fn.World.{World}
 use Rattle.reader.specs.contracts as reader
 use Rattle.told_apart.specs.Answers.{TellsApart, Fixes, SameSlice, SameReader}
 use Rattle.told_apart.proofs.Alike.{same, one}
+use Rattle.universe.proofs.Telling.{told-injective}
 
-pub reader_refusal : (w : World) → TellsApart w reader.refusal.ended reader.refusal.clauses
-reader_refusal w _ _ = ((tt, refl), λ _ _ _ _ _. one w (λ p q. (same p q, refl)))
+pub reader_check : (w : World) → TellsApart w reader.check.ended reader.check.clauses
+reader_check w _ _ = ((tt, refl), λ _ _ _ _ _. one w (λ p q. (told-injective _ _ (same p q), refl)))
 
 pub reader_symbol_at : (w : World) → TellsApart w reader.symbol_at.ended reader.symbol_at.clauses
 reader_symbol_at w _ _ = ((tt, refl), λ _ _ _ _ _. one w (λ p q. (same p q, refl)))

@@ -4,9 +4,10 @@ use borrow.Fn.World.{World}
 use Rattle.standin.specs.contracts as standin
 use Rattle.told_apart.specs.Answers.{TellsApart}
 use Rattle.told_apart.proofs.Alike.{same, one}
+use Rattle.universe.proofs.Telling.{told-injective}
 
-pub standin_refusal : (w : World) → TellsApart w standin.refusal.ended standin.refusal.clauses
-standin_refusal w _ _ = ((tt, refl), λ _ _ _ _ _. one w (λ p q. (same p q, refl)))
+pub standin_check : (w : World) → TellsApart w standin.check.ended standin.check.clauses
+standin_check w _ _ = ((tt, refl), λ _ _ _ _ _. one w (λ p q. (told-injective _ _ (same p q), refl)))
 
 pub standin_box_rows : (w : World) → TellsApart w standin.box_rows.ended standin.box_rows.clauses
 standin_box_rows w _ _ = ((tt, refl), λ _ _ _ _ _. one w (λ p q. (same p q, refl)))

@@ -4,18 +4,20 @@ use borrow.Fn.World.{World}
 use Rattle.universe.specs.contracts as universe
 use Rattle.told_apart.specs.Answers.{TellsApart}
 use Rattle.told_apart.proofs.Alike.{same, one}
+use Rattle.universe.proofs.Telling.{told-injective}
+use Rattle.told_apart.proofs.Told.{room-read}
 
-pub universe_refusal_lem : (w : World) → TellsApart w universe.Universe.refusal.ended universe.Universe.refusal.clauses
-universe_refusal_lem w _ _ = ((tt, refl), λ _ _ _ _ _. one w (λ p q. (same p q, refl)))
+pub universe_check : (w : World) → TellsApart w universe.Universe.check.ended universe.Universe.check.clauses
+universe_check w _ _ = ((tt, refl), λ _ _ _ _ _. one w (λ p q. (told-injective _ _ (same p q), refl)))
 
 pub universe_with_equal_bits : (w : World) → TellsApart w universe.Universe.with_equal_bits.ended universe.Universe.with_equal_bits.clauses
 universe_with_equal_bits w _ _ = ((tt, refl), λ _ _ _ _ _. one w (λ p q. (same p q, refl)))
 
-pub universe_window_refusal : (w : World) → TellsApart w universe.Universe.window_refusal.ended universe.Universe.window_refusal.clauses
-universe_window_refusal w _ _ = ((tt, refl), λ _ _ _ _ _. one w (λ p q. (same p q, refl)))
+pub universe_check_window : (w : World) → TellsApart w universe.Universe.check_window.ended universe.Universe.check_window.clauses
+universe_check_window w _ _ = ((tt, refl), λ _ _ _ _ _. one w (λ p q. (told-injective _ _ (same p q), refl)))
 
 pub universe_room : (w : World) → TellsApart w universe.Universe.room.ended universe.Universe.room.clauses
-universe_room w _ _ = ((tt, refl), λ _ _ _ _ _. one w (λ p q. (same p q, refl)))
+universe_room w _ _ = ((tt, refl), λ _ _ _ _ _. one w (λ p q. (room-read _ _ (same p q), refl)))
 
 pub universe_whole : (w : World) → TellsApart w universe.Universe.whole.ended universe.Universe.whole.clauses
 universe_whole w _ _ = ((tt, refl), λ _ _ _ _ _. one w (λ p q. (same p q, refl)))
@@ -46,3 +48,12 @@ block_high_half w _ _ = ((tt, refl), λ _ _ _ _ _. one w (λ p q. (same p q, ref
 
 pub block_halves : (w : World) → TellsApart w universe.Block.halves.ended universe.Block.halves.clauses
 block_halves w _ _ = ((tt, refl), λ _ _ _ _ _. one w (λ p q. (same p q, refl)))
+
+pub refusal_number : (w : World) → TellsApart w universe.refusal.Refusal.number.ended universe.refusal.Refusal.number.clauses
+refusal_number w _ _ = ((tt, refl), λ _ _ _ _ _. one w (λ p q. (same p q, refl)))
+
+pub unwritten_number : (w : World) → TellsApart w universe.refusal.Unwritten.number.ended universe.refusal.Unwritten.number.clauses
+unwritten_number w _ _ = ((tt, refl), λ _ _ _ _ _. one w (λ p q. (same p q, refl)))
+
+pub unwritten_needed : (w : World) → TellsApart w universe.refusal.Unwritten.needed.ended universe.refusal.Unwritten.needed.clauses
+unwritten_needed w _ _ = ((tt, refl), λ _ _ _ _ _. one w (λ p q. (same p q, refl)))

@@ -1,25 +1,32 @@
 -- Blocks: the test `is_given` holds exactly of the blocks that halving the first block gives. A given block's halves pass the test; a block that
 -- passes it above level 0 is a half of one that does, which begins along the axis at the place rounded down to a multiple of the doubled length.
-use mathlib.Core.Path.{◌≡◌, refl, sym, ap, subst, ◌∙◌}
+use mathlib.Core.Path.{◌≡◌, refl, sym, ap, ap₂, subst, ◌∙◌}
 use mathlib.Core.Bool.{Bool, true, false, ◌&&◌}
 use mathlib.Core.Logic.{◌⊎◌, inl, inr}
 use mathlib.Core.List.{List}
 use Prim.Native.Nat.{ℕ, zero, suc, ◌+◌, ◌-◌, ◌*◌, ◌%◌, ◌≤◌, ◌<◌}
 use native.Mathlib.Omega.{arith}
+use native.Mathlib.Numerals.{add-one}
 use native.Mathlib.Nat.{mod-eq_of_lt, zero-mod}
 use native.Mathlib.Decide.{ℕ_discrete, dec_lt}
 use lib.Dec.{ltb, leb, eqb}
 use lib.ListN.{length, get_or, set, replicate, length-set}
 use lib.Seq.{get_or-set_same, get_or-set_other, set-set, set-get_or, ext_get_or}
-use borrow.Author.Tests.{ltb-true, leb-true, eqb-true, lt-ltb, le-ltb, le-leb, eq-eqb}
+use borrow.Author.Rules.{rules}
+use mir.Syntax.{w64}
+use mir.Val.{Fits}
+use borrow.Author.Tests.{ltb-true, leb-true, eqb-true, lt-ltb, le-ltb, le-leb, lt-leb, eq-eqb, ne_eqb}
 use Rattle.lemmas.specs.Sums.{every}
 use Rattle.lemmas.proofs.Sums.{and_left, and_right, and_both, and_false, every_all, all_every}
 use Rattle.universe.specs.declared.Universe.{Universe}
 use Rattle.universe.specs.declared.Block.{Block}
-use Rattle.universe.specs.Universe.{universe_refusal, most_axes, levels, axis_at, side_along, blocks_along, block_side}
+use Rattle.universe.specs.Universe.{universe_refusal, most_axes, most_levels, levels, axis_at, side_along, blocks_along, block_side}
+use Rattle.universe.specs.Questions.{levels_answer}
 use Rattle.universe.specs.Block.{low_along, length_along, whole_block, axis_of, low, high, Given, first, lower, upper}
 use Rattle.universe.specs.Block.{placed_along, is_given, low_half, high_half}
-use Rattle.universe.proofs.Universes.{Accepted, accepted, is_accepted, axis_below, side_first, side_halved, side_kept, side_positive, blocks_sides}
+use Rattle.universe.proofs.Universes.{Accepted, accepted, is_accepted, levels_few, side_few, axis_below, side_first, side_halved, side_kept, side_positive, blocks_sides}
+use Rattle.universe.proofs.Checked.{err_accepts, err_refuses}
+use Rattle.universe.proofs.Questions.{levels_told}
 use Rattle.universe.proofs.Multiples.{low_multiple, high_multiple, middle_inside, low_or_middle}
 
 -- ---- what the test says
@@ -284,3 +291,66 @@ stays_itself_other b len n = go (is_given b) refl
     go : (x : Bool) → is_given b ≡ x → (low_half b ≡ b) × (high_half b ≡ b)
     go true e = absurd (n (given_is b len e))
     go false e = stays_is b (rw e)
+
+-- what the code of `is_given` asks
+pub given_refused : (b : Block) → (universe_refusal b.universe ≡ 0 → ⊥) → false ≡ is_given b
+unfolding is_given
+given_refused b n = rw (ne_eqb _ 0 n)
+
+pub given_past : (b : Block) {n : ℕ} → n ≡ levels_answer b.universe → n < b.level → universe_refusal b.universe ≡ 0 → false ≡ is_given b
+unfolding is_given
+given_past b e h z = rw (z, lt-leb b.level (levels b.universe) (omega (arith, levels_told b.universe refl z e)))
+
+pub ruleset given_laws = (err_accepts, err_refuses, given_refused, given_past)
+
+-- what the code of `is_halved` asks of a block that is given
+pub level_test : (b : Block) {given : Bool} {n : ℕ} → given ≡ is_given b → given ≡ true → n ≡ levels_answer b.universe
+    → ltb b.level n ≡ (is_given b && ltb b.level (levels b.universe))
+level_test b e t f = rw (← e, t, levels_told b.universe refl (is_accepted b.universe (test_placed b (sym e ∙ t)).taken) f)
+
+-- ---- what the code of the halves has seen: `told` is the test, x the axis, s the half's length
+
+module _ (b : Block) {told : Bool} (e : told ≡ (is_given b && ltb b.level (levels b.universe))) where
+  module _ (t : told ≡ false) where
+    pub stays_low : b ≡ low_half b
+    stays_low = sym (stays_is b (sym e ∙ t)).0
+
+    pub stays_high : b ≡ high_half b
+    stays_high = sym (stays_is b (sym e ∙ t)).1
+
+  module _ (t : told ≡ true) where
+    pub halved_taken : universe_refusal b.universe ≡ 0
+    halved_taken = is_accepted b.universe (halved_placed b (sym e ∙ t)).taken
+
+    pub level_above : b.level < levels b.universe
+    level_above = halved_above b (sym e ∙ t)
+
+    pub level_few : b.level < most_levels
+    level_few = omega (arith, levels_few b.universe (halved_placed b (sym e ∙ t)).taken, level_above)
+
+    pub half_low : ◌≡◌ {A = Block} (record { universe = b.universe; level = b.level + 1; low = b.low }) (low_half b)
+    half_low =
+        (λ i. record { universe = b.universe; level = add-one b.level i; low = b.low }) ∙ sym (halved_is b (sym e ∙ t)).0
+
+    module _ {x : ℕ} (f : x ≡ axis_of b) where
+      pub axis_inside : x < b.universe.axes
+      axis_inside = omega (arith, f, axis_few b (halved_placed b (sym e ∙ t)) level_above)
+
+      pub axis_in_array : x < most_axes
+      axis_in_array = omega (arith, axis_inside, (halved_placed b (sym e ∙ t)).taken.few_axes)
+
+      module _ {s : ℕ} (g : s ≡ block_side b.universe (b.level + 1) x) where
+        half_place : get_or b.low x 0 + s ≡ low_along b (axis_of b) + block_side b.universe (suc b.level) (axis_of b)
+        half_place = ap₂ ◌+◌ (ap (low_along b) f) (g ∙ ap₂ (block_side b.universe) (add-one b.level) f)
+
+        pub half_fits : Fits w64 (get_or b.low x 0 + s)
+        half_fits =
+            let p = halved_placed b (sym e ∙ t) in
+            record { fits = omega (arith, half_place, middle b p level_above, side_few b.universe p.taken (axis_of b)) }
+
+        pub half_high :
+            ◌≡◌ {A = Block} (record { universe = b.universe; level = b.level + 1; low = set b.low x (get_or b.low x 0 + s) }) (high_half b)
+        half_high =
+            (λ i. record { universe = b.universe; level = add-one b.level i; low = set b.low (f i) (half_place i) }) ∙ sym (halved_is b (sym e ∙ t)).1
+
+pub ruleset half_laws = (rules, stays_low, stays_high, halved_taken, level_above, level_few, half_low, axis_inside, axis_in_array, half_fits, half_high)

@@ -2,23 +2,21 @@
 -- is the order's next entry; while entries are left no axis has had all its rounds.
 use mathlib.Core.Path.{◌≡◌, refl, sym, ap, ◌∙◌}
 use mathlib.Core.List.{List, [], ◌∷◌, ◌++◌, append-nil, append_assoc}
-use Prim.Native.Nat.{ℕ, suc, ◌+◌, ◌-◌, ◌*◌, ◌≤◌, ◌<◌}
+use Prim.Native.Nat.{ℕ, suc, ◌+◌, ◌-◌, ◌≤◌, ◌<◌, max}
 use native.Mathlib.Omega.{arith}
 use native.Mathlib.Numerals.{add-one}
 use native.Mathlib.Decide.{ℕ_discrete, dec_lt}
-use borrow.Author.Rules.{rules}
 use borrow.Author.Tests.{lt-ltb, le-ltb}
 use lib.ListN.{length, get_or, set, replicate, length-set, length-append}
 use lib.Seq.{get_or-set_same, get_or-set_other, ext_get_or}
-use mir.Syntax.{w64}
-use mir.Val.{Fits}
 use Rattle.lemmas.proofs.Grid.{listed_length, listed_at, listed_same, listed_cong}
 use Rattle.universe.specs.declared.Universe.{Universe}
 use Rattle.universe.specs.Rounds.{round, rounds}
-use Rattle.universe.specs.Universe.{most_axes, most_frame_bits, most_levels, universe_refusal, bits_along, levels, order, axis_at}
+use Rattle.universe.specs.Universe.{most_levels, universe_refusal, bits_along, levels, order, axis_at}
 use Rattle.universe.specs.Questions.{levels_answer, axes_left}
 use Rattle.universe.proofs.Orders.{round_behind, round_passed, laid_before, Begins, rounds_begin, rounds_alike, order_long}
-use Rattle.universe.proofs.Universes.{accepted, bits_few, bits_within, levels_few}
+use Rattle.universe.proofs.Universes.{accepted, bits_most, bits_within, levels_few}
+use Rattle.universe.proofs.Checked.{err_refuses}
 use Rattle.universe.proofs.Questions.{levels_refused, levels_told}
 use Rattle.universe.proofs.Blocks.{zero_low}
 
@@ -34,10 +32,6 @@ pub record Laying (u : Universe) (axes : List ℕ) (left r i : ℕ) : Type 0 whe
   pub laid : laid_count u r i + left ≡ levels u
   pub stands : (n : ℕ) → left ≤ n → n < levels u → get_or axes n 0 ≡ axis_at u (levels u - suc n)
   pub beyond : (n : ℕ) → levels u ≤ n → get_or axes n 0 ≡ 0
-
--- the steps left until every axis has had the most rounds
-abbrev pub steps_left : ℕ → ℕ → ℕ
-steps_left r i = suc most_axes * most_frame_bits - (suc most_axes * r + i)
 
 -- ---- what is laid, and the order
 
@@ -66,43 +60,18 @@ entry_behind (y ∷ front) rest x = entry_behind front rest x
 
 -- ---- the table
 
-pub laying_first : (u : Universe) {number left : ℕ} → number ≡ universe_refusal u → number ≡ 0 → left ≡ levels_answer u
-    → Laying u (replicate most_levels 0) left 0 0
+pub laying_first : (u : Universe) {left : ℕ} → universe_refusal u ≡ 0 → left ≡ levels_answer u → Laying u (replicate most_levels 0) left 0 0
 unfolding rounds round
-laying_first u e z f = record {
-  good = sym e ∙ z;
+laying_first u z f = record {
+  good = z;
   axis_in = omega arith;
   long = refl;
-  laid = omega (arith, levels_told u e z f);
-  stands = λ n h k. absurd (omega (arith, levels_told u e z f));
+  laid = omega (arith, levels_told u refl z f);
+  stands = λ n h k. absurd (omega (arith, levels_told u refl z f));
   beyond = λ n h. zero_low most_levels n;
 }
 
 module _ {u : Universe} {axes : List ℕ} {left r i : ℕ} (s : Laying u axes left r i) where
-  -- all rounds lay all levels, so while one is left there is a round to come
-  pub rounds_left : 0 < left → r < most_frame_bits
-  unfolding levels
-  rounds_left h = go (dec_lt r most_frame_bits)
-    where
-      go : Dec (r < most_frame_bits) → r < most_frame_bits
-      go (yes k) = k
-      go (no k) =
-          let all = order_long (bits_along u) u.axes r (λ j l. omega (arith, bits_few u (accepted u s.good) j)) in
-          let more = length-append (rounds (bits_along u) u.axes r) (round (bits_along u) r i) in
-          absurd (omega (arith, s.laid, all, more))
-
-  pub round_fits : 0 < left → Fits w64 (r + 1)
-  round_fits h = omega (arith, rounds_left h)
-
-  pub round_falls : 0 < left → steps_left (r + 1) 0 < steps_left r i
-  round_falls h = omega (arith, rounds_left h, s.axis_in, (accepted u s.good).few_axes)
-
-  pub axis_falls : 0 < left → steps_left r (i + 1) < steps_left r i
-  axis_falls h = omega (arith, rounds_left h, s.axis_in, (accepted u s.good).few_axes)
-
-  pub axis_fits : Fits w64 (i + 1)
-  axis_fits = omega (arith, s.axis_in, (accepted u s.good).few_axes)
-
   pub laying_round : i ≡ u.axes → Laying u axes left (r + 1) 0
   laying_round e = record {
     good = s.good;
@@ -113,10 +82,7 @@ module _ {u : Universe} {axes : List ℕ} {left r i : ℕ} (s : Laying u axes le
     beyond = s.beyond;
   }
 
-  pub axis_there : (i ≡ u.axes → ⊥) → i < u.axes
-  axis_there n = omega (arith, s.axis_in)
-
-  module _ (n : i ≡ u.axes → ⊥) {bits : ℕ} (e : bits ≡ bits_along u i) where
+  module _ (n : i < u.axes) {bits : ℕ} (e : bits ≡ bits_along u i) where
     pub laying_passed : bits ≤ r → Laying u axes left r (i + 1)
     laying_passed h = record {
       good = s.good;
@@ -153,9 +119,6 @@ module _ {u : Universe} {axes : List ℕ} {left r i : ℕ} (s : Laying u axes le
       pub place_few : left - 1 < most_levels
       place_few = omega (arith, s.laid, some_left, levels_few u (accepted u s.good))
 
-      pub place_fits : Fits w64 ((left - 1) * 8)
-      place_fits = omega (arith, place_few)
-
       here : axis_at u (levels u - left) ≡ i
       unfolding axis_at front
       here =
@@ -184,9 +147,14 @@ module _ {u : Universe} {axes : List ℕ} {left r i : ℕ} (s : Laying u axes le
               ∙ ap (axis_at u) back
           there m k l (no q) = get_or-set_other axes (left - 1) m i 0 q ∙ s.stands m (omega (arith, some_left)) l
 
-  pub laying_all : left ≤ 0 → axes ≡ axes_left u
+  -- all rounds lay all levels
+  none_left : ((j : ℕ) → j < u.axes → bits_along u j ≤ r) → left ≡ 0
+  unfolding levels
+  none_left few = omega (arith, s.laid, order_long (bits_along u) u.axes r few, length-append (rounds (bits_along u) u.axes r) (round (bits_along u) r i))
+
+  laid_all : left ≡ 0 → axes ≡ axes_left u
   unfolding axes_left
-  laying_all h = ext_get_or 0 axes _ (s.long ∙ sym (listed_length most_levels _)) (λ n k. go n (omega (arith, s.long)) (dec_lt n (levels u)))
+  laid_all h = ext_get_or 0 axes _ (s.long ∙ sym (listed_length most_levels _)) (λ n k. go n (omega (arith, s.long)) (dec_lt n (levels u)))
     where
       go : (n : ℕ) → n < most_levels → Dec (n < levels u) → get_or axes n 0 ≡ get_or (axes_left u) n 0
       go n k (yes l) =
@@ -194,25 +162,14 @@ module _ {u : Universe} {axes : List ℕ} {left r i : ℕ} (s : Laying u axes le
           ∙ sym (listed_at most_levels _ n k ∙ rw (levels_told u refl s.good refl, lt-ltb n (levels u) l))
       go n k (no l) = s.beyond n (omega arith) ∙ sym (listed_at most_levels _ n k ∙ rw (levels_told u refl s.good refl, le-ltb n (levels u) (omega arith)))
 
--- a refused universe has none
-pub laying_refused : (u : Universe) {number : ℕ} → number ≡ universe_refusal u → (number ≡ 0 → ⊥) → replicate most_levels 0 ≡ axes_left u
-unfolding axes_left
-laying_refused u e n =
-    sym (listed_same most_levels 0)
-    ∙ listed_cong most_levels _ _ (λ k h. rw (← levels_refused u e n, le-ltb k 0 (omega arith)))
+  pub laying_all : max u.bits u.frame_bits ≤ r → axes ≡ axes_left u
+  laying_all h = laid_all (none_left (λ j k. omega (arith, bits_most u j)))
 
-pub ruleset laying = (
-  rules,
-  laying_first,
-  laying_round,
-  laying_all,
-  laying_refused,
-  round_fits,
-  round_falls,
-  axis_there,
-  axis_fits,
-  axis_falls,
-  some_left,
-  place_few,
-  place_fits,
-)
+-- a refused universe has none
+pub laying_refused : (u : Universe) → (universe_refusal u ≡ 0 → ⊥) → replicate most_levels 0 ≡ axes_left u
+unfolding axes_left
+laying_refused u n =
+    sym (listed_same most_levels 0)
+    ∙ listed_cong most_levels _ _ (λ k h. rw (← levels_refused u refl n, le-ltb k 0 (omega arith)))
+
+pub ruleset laying = (laying_refused, place_few, err_refuses)

@@ -6,12 +6,11 @@ use mathlib.Core.List.{List}
 use Prim.Native.Nat.{ℕ, zero, suc, ◌+◌, ◌*◌, ◌-◌, ◌/◌, ◌^◌, ◌≤◌, ◌<◌, min}
 use native.Mathlib.Omega.{arith}
 use native.Mathlib.Numerals.{add-one}
-use native.Mathlib.Nat.{min-eq_left, le-div_iff_mul-le, div-lt_iff_lt-mul, mul-le-mul, not-suc-le-zero, le_refl, pow-le-pow_right}
+use native.Mathlib.Nat.{min-eq_left, div-lt_iff_lt-mul, mul-le-mul, not-suc-le-zero, le_refl, pow-le-pow_right}
 use native.Mathlib.Decide.{ℕ_discrete}
 use lib.ListN.{length, get_or, set, replicate, get_or-replicate, length-set}
 use lib.Seq.{get_or-set_same, get_or-set_other}
 use lib.Pow.{pow_mono}
-use borrow.Author.Tests.{eq-eqb, ne_eqb}
 use borrow.Author.Rules.{rules}
 use mir.Syntax.{w64}
 use mir.Val.{Fits}
@@ -20,8 +19,8 @@ use Rattle.lemmas.proofs.Sums.{top, product_cong, product_mono, product_positive
 use Rattle.universe.specs.declared.Universe.{Universe}
 use Rattle.universe.specs.Universe.{most_axes, most_frame_bits, most_levels, longest_side, universe_refusal, levels, axis_at, halvings, blocks_along}
 use Rattle.universe.specs.Questions.{levels_answer, axes_left}
-use Rattle.universe.specs.Room.{blocks_at, inner_blocks_at, count_of, level_count, room, room_answer, FewBlocks}
-use Rattle.universe.proofs.Universes.{accepted, levels_few, bits_few, axis_below, halvings_most}
+use Rattle.universe.specs.Room.{blocks_at, inner_blocks_at, count_of, level_count, room, FewBlocks}
+use Rattle.universe.proofs.Universes.{accepted, levels_few, bits_few, axis_below, halvings_most, sum_longer}
 use Rattle.universe.proofs.Universes.{blocks_positive, blocks_first, blocks_doubled, blocks_kept}
 use Rattle.universe.proofs.Questions.{levels_told, axes_left_at}
 use Rattle.universe.proofs.Rooms.{room_small}
@@ -46,32 +45,15 @@ product_less (suc n) f g p h =
     let some : 0 < product n f = product_positive n f (λ i k. omega (arith, h i (omega arith))) in
     omega (arith, mul-le-mul fewer (le_refl (g n)), mul-le-mul (le_refl (product n f)) (top h))
 
--- a sum of fewer is no more
-pub sum_longer : (n m : ℕ) (f : ℕ → ℕ) → n ≤ m → sum n f ≤ sum m f
-unfolding sum
-sum_longer n zero f h = rw (let e : n ≡ 0 = omega arith in e) (le_refl _)
-sum_longer n (suc m) f h = go (ℕ_discrete n (suc m)) (sum_longer n m f)
-  where
-    go : Dec (n ≡ suc m) → (n ≤ m → sum n f ≤ sum m f) → sum n f ≤ sum m f + f m
-    go (yes e) ih = rw e (le_refl _)
-    go (no k) ih = omega (arith, ih (omega arith))
-
 -- ---- the count of a level
 
 -- more leaves than go into all blocks: the level counts all
 pub count_all : (leaves all outer : ℕ) → 0 < outer → all / outer < leaves → all ≡ min all (leaves * outer)
 count_all leaves all outer p h = sym (min-eq_left (omega (arith, (div-lt_iff_lt-mul p).0 h)))
 
--- no more: their product is at most all blocks
-pub count_some : (leaves all outer : ℕ) → 0 < outer → leaves ≤ all / outer → leaves * outer ≤ all
-count_some leaves all outer p h = (le-div_iff_mul-le p).0 h
-
 -- ---- the products of a level
 
--- each factor is there, and with it the product fits
-pub factor_less : (axes : ℕ) (blocks : List ℕ) (less axis : ℕ) → FewBlocks axes blocks → less ≤ 1 → axis < axes → less ≤ get_or blocks axis 0
-factor_less axes blocks less axis f l h = omega (arith, f.some axis h)
-
+-- with one factor more the product fits
 pub product_fits : (axes : ℕ) (blocks : List ℕ) (less axis found : ℕ) → FewBlocks axes blocks → axis < axes → found ≡ product axis (λ i. get_or blocks i 0 - less)
     → Fits w64 (found * (get_or blocks axis 0 - less))
 product_fits axes blocks less axis found f h e =
@@ -234,15 +216,3 @@ pub ruleset counting = (
   inner_less,
   more_fits,
 )
-
--- ---- the answer
-
-pub answer_refused : (u : Universe) (leaves balls : ℕ) {refusal : ℕ} → refusal ≡ universe_refusal u → (refusal ≡ 0 → ⊥)
-    → record { refusal = refusal; symbols = 0 } ≡ room_answer u leaves balls
-unfolding room_answer
-answer_refused u leaves balls e n = rw (e, ne_eqb (universe_refusal u) 0 (λ z. n (e ∙ z)))
-
-pub answer_room : (u : Universe) (leaves balls : ℕ) {symbols : ℕ} → universe_refusal u ≡ 0 → symbols ≡ room u leaves balls
-    → record { refusal = 0; symbols = symbols } ≡ room_answer u leaves balls
-unfolding room_answer
-answer_room u leaves balls e r = rw (r, eq-eqb (universe_refusal u) 0 e)

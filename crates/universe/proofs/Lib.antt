@@ -1,5 +1,7 @@
 -- Laws of the definitions.
 pub mod Refusing
+pub mod Telling
+pub mod Checked
 pub mod Lent
 pub mod Orders
 pub mod Turns

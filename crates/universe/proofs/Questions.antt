@@ -6,17 +6,18 @@ use mathlib.Core.Bool.{Bool, true, false, cond, ◌&&◌}
 use native.Mathlib.Omega.{arith}
 use native.Mathlib.Decide.{ℕ_discrete}
 use lib.Dec.{eqb, leb}
-use lib.ListN.{get_or}
-use borrow.Author.Rules.{rules}
-use borrow.Author.Tests.{eq-eqb, ne_eqb, lt-ltb, le-ltb, le-leb, lt-leb, eqb-true, leb-true}
-use Rattle.lemmas.proofs.Grid.{listed_at}
+use lib.ListN.{length, get_or}
+use borrow.Author.Tests.{eq-eqb, ne_eqb, lt-ltb, le-ltb, le-leb, eqb-true, leb-true}
+use Rattle.lemmas.specs.Sums.{sum}
+use Rattle.lemmas.proofs.Machine.{shifted_one}
+use Rattle.lemmas.proofs.Grid.{listed_at, listed_length}
 use Rattle.lemmas.proofs.Sums.{and_left, and_right, and_both}
 use Rattle.universe.specs.declared.Universe.{Universe}
-use Rattle.universe.specs.Rounds.{axis_before}
 use Rattle.universe.specs.Universe.{most_levels, universe_refusal, bits_along, side_along, levels, axis_at, without_axis}
 use Rattle.universe.specs.Questions.{levels_answer, bits_answer, side_answer, axes_left, voxels_left}
 use Rattle.universe.specs.Questions.{is_one_of, no_universe, without_answer}
-use Rattle.universe.proofs.Universes.{accepted, levels_few, axis_below, some_axes}
+use Rattle.universe.proofs.Checked.{err_accepts, err_refuses}
+use Rattle.universe.proofs.Universes.{accepted, levels_few, levels_fit, shifts_by, axis_below, some_axes}
 use Rattle.universe.proofs.Without.{without_accepted}
 
 -- `number` is what the universe's own check gave
@@ -29,14 +30,6 @@ module _ (u : Universe) {number : ℕ} (e : number ≡ universe_refusal u) where
     pub levels_refused : 0 ≡ levels_answer u
     unfolding levels_answer
     levels_refused = rw refused
-
-    pub bits_refused : (i : ℕ) → 0 ≡ bits_answer u i
-    unfolding bits_answer
-    bits_refused i = rw refused
-
-    pub side_refused : (i : ℕ) → 0 ≡ side_answer u i
-    unfolding side_answer
-    side_refused i = rw refused
 
   -- an accepted one
   module _ (z : number ≡ 0) where
@@ -51,13 +44,6 @@ module _ (u : Universe) {number : ℕ} (e : number ≡ universe_refusal u) where
       pub bits_are : i < u.axes → bits_answer u i ≡ bits_along u i
       unfolding bits_answer
       bits_are h = rw (← e, z, lt-ltb i u.axes h)
-
-      pub bits_told : {bits : ℕ} → i < u.axes → bits ≡ bits_along u i → bits ≡ bits_answer u i
-      bits_told h f = f ∙ sym (bits_are h)
-
-      pub bits_beyond : u.axes ≤ i → 0 ≡ bits_answer u i
-      unfolding bits_answer
-      bits_beyond h = rw (← e, z, le-ltb i u.axes h)
 
       pub side_is : i < u.axes → side_answer u i ≡ side_along u i
       unfolding side_answer
@@ -76,7 +62,21 @@ levels_answered u = go (ℕ_discrete (universe_refusal u) 0)
     go (yes z) = rw (eq-eqb (universe_refusal u) 0 z) (levels_few u (accepted u z))
     go (no n) = rw (ne_eqb (universe_refusal u) 0 n) (omega arith)
 
+-- what the code of the questions asks: what a check told, the bits of the axes added up, and a shift by few bits
+pub levels_summed : (u : Universe) {found : ℕ} → found ≡ sum u.axes (bits_along u) → universe_refusal u ≡ 0 → found ≡ levels_answer u
+unfolding levels
+levels_summed u e z = e ∙ sym (levels_are u refl z)
+
+pub levels_none : (u : Universe) → (universe_refusal u ≡ 0 → ⊥) → 0 ≡ levels_answer u
+levels_none u n = levels_refused u refl n
+
+pub ruleset asked = (err_accepts, err_refuses, levels_summed, levels_none, levels_fit, shifts_by, shifted_one)
+
 -- ---- the axes by levels left
+
+pub axes_left_long : (u : Universe) → length (axes_left u) ≡ most_levels
+unfolding axes_left
+axes_left_long u = listed_length most_levels _
 
 module _ (u : Universe) (z : universe_refusal u ≡ 0) (n : ℕ) (h : n < levels u) where
   -- at place n the axis of a block with n + 1 levels left
@@ -94,10 +94,6 @@ module _ (u : Universe) (z : universe_refusal u ≡ 0) (n : ℕ) (h : n < levels
 pub voxels_are : (left : ℕ) → left ≤ most_levels → voxels_left left ≡ 2 ^ left
 unfolding voxels_left
 voxels_are left h = rw (le-leb left most_levels h)
-
-pub voxels_beyond : (left : ℕ) → most_levels < left → 0 ≡ voxels_left left
-unfolding voxels_left
-voxels_beyond left h = rw (lt-leb left most_levels h)
 
 -- ---- the universe without an axis, counted from 1
 
@@ -127,60 +123,14 @@ module _ (u : Universe) (axis : ℕ) where
   pub is_one_of_lem : OneOf u axis → is_one_of u axis ≡ true
   is_one_of_lem w = and_both (and_both (and_both (eq-eqb _ _ w.fine) (le-leb _ _ w.two)) (le-leb _ _ w.some)) (le-leb _ _ w.few)
 
-  -- the tests of code, one after the other
-  pub one_refused : {number : ℕ} → number ≡ universe_refusal u → (number ≡ 0 → ⊥) → false ≡ is_one_of u axis
-  one_refused e n = rw (← e, ne_eqb _ 0 n)
-
-  module _ {number : ℕ} (e : number ≡ universe_refusal u) (z : number ≡ 0) where
-    pub one_alone : u.axes < 2 → false ≡ is_one_of u axis
-    one_alone h = rw (← e, eq-eqb _ 0 z, lt-leb 2 u.axes h)
-
-    module _ (two : 2 ≤ u.axes) where
-      pub one_none : axis < 1 → false ≡ is_one_of u axis
-      one_none h = rw (← e, eq-eqb _ 0 z, le-leb 2 u.axes two, lt-leb 1 axis h)
-
-      pub one_there : 1 ≤ axis → leb axis u.axes ≡ is_one_of u axis
-      one_there h = rw (← e, eq-eqb _ 0 z, le-leb 2 u.axes two, le-leb 1 axis h)
-
-  pub one_told : {told t : Bool} → told ≡ is_one_of u axis → told ≡ t → is_one_of u axis ≡ t
-  one_told e f = sym e ∙ f
-
-  -- the last axis that is left
   module _ (one : is_one_of u axis ≡ true) where
-    pub two_axes_lem : 2 ≤ u.axes
-    two_axes_lem = (one_of one).two
-
-    pub one_axis : 1 ≤ u.axes
-    one_axis = omega (arith, two_axes_lem)
-
-    pub last_dropped : axis ≡ u.axes → u.axes - 2 ≡ axis_before (axis - 1) (u.axes - 2)
-    last_dropped h = rw (lt-ltb (u.axes - 2) (axis - 1) (omega (arith, (one_of one).two)))
-
-    pub last_kept : (axis ≡ u.axes → ⊥) → u.axes - 1 ≡ axis_before (axis - 1) (u.axes - 2)
-    last_kept n = rw (le-ltb (u.axes - 2) (axis - 1) (omega (arith, (one_of one).few))) (omega (arith, (one_of one).two))
-
-    pub last_below : {last : ℕ} → last ≡ axis_before (axis - 1) (u.axes - 2) → last < u.axes
-    last_below {last} e = go (ℕ_discrete axis u.axes)
-      where
-        go : Dec (axis ≡ u.axes) → last < u.axes
-        go (yes h) = omega (arith, e, last_dropped h, (one_of one).two)
-        go (no n) = omega (arith, e, last_kept n, (one_of one).two)
-
     without_is : without_answer u axis ≡ without_axis u (axis - 1)
     unfolding without_answer
     without_is = rw one
 
-    pub without_told : {bits last frame : ℕ} → bits ≡ cond (leb u.axes 2) 0 u.bits → last ≡ axis_before (axis - 1) (u.axes - 2) →
-        frame ≡ bits_along u last → ◌≡◌ {A = Universe} (record { axes = u.axes - 1; bits = bits; frame_bits = frame }) (without_answer u axis)
-    unfolding without_axis
-    without_told e f g = rw (e, g, f) (sym without_is)
-
     -- it is a universe
     pub without_fine : universe_refusal (without_answer u axis) ≡ 0
     without_fine = rw without_is (without_accepted u (axis - 1) (one_of one).two (omega (arith, (one_of one).some, (one_of one).few)) (one_of one).fine)
-
-  pub some_axis : {told : Bool} → told ≡ is_one_of u axis → told ≡ true → 1 ≤ u.axes
-  some_axis e f = omega (arith, (one_of (sym e ∙ f)).two)
 
   pub without_none : is_one_of u axis ≡ false → no_universe ≡ without_answer u axis
   unfolding without_answer
@@ -197,28 +147,3 @@ module _ (u : Universe) (axis : ℕ) where
       go : (t : Bool) → is_one_of u axis ≡ t → is_one_of u axis ≡ true
       go true f = f
       go false f = absurd (omega (arith, e, without_refused f))
-
-pub bits_none : (u : Universe) → u.axes ≤ 2 → 0 ≡ cond (leb u.axes 2) 0 u.bits
-bits_none u h = rw (le-leb u.axes 2 h)
-
-pub bits_kept : (u : Universe) → 2 < u.axes → u.bits ≡ cond (leb u.axes 2) 0 u.bits
-bits_kept u h = rw (lt-leb u.axes 2 h)
-
-pub ruleset without_laws = (
-  rules,
-  one_refused,
-  one_alone,
-  one_none,
-  one_there,
-  one_told,
-  two_axes_lem,
-  one_axis,
-  some_axis,
-  last_dropped,
-  last_kept,
-  last_below,
-  without_told,
-  without_none,
-  bits_none,
-  bits_kept,
-)

@@ -4,7 +4,7 @@
 use mathlib.Core.Path.{◌≡◌, refl, sym, ap, ap₂, ◌∙◌}
 use mathlib.Core.Bool.{Bool, true, cond, ◌&&◌}
 use mathlib.Core.List.{reverse}
-use Prim.Native.Nat.{ℕ, zero, suc, ◌+◌, ◌-◌, ◌*◌, ◌^◌, ◌≤◌, ◌<◌}
+use Prim.Native.Nat.{ℕ, zero, suc, ◌+◌, ◌-◌, ◌*◌, ◌^◌, ◌≤◌, ◌<◌, max}
 use native.Mathlib.Omega.{arith}
 use native.Mathlib.Nat.{pow-succ', sub_self, sub-zero, le_refl, mul-le-mul}
 use native.Mathlib.Decide.{ℕ_discrete, dec_lt}
@@ -80,6 +80,17 @@ bits_few u a i = go (ℕ_discrete i (frame_axis u))
     go (yes e) = rw (eq-eqb i (frame_axis u) e) a.few_frame_bits
     go (no n) = rw (ne_eqb i (frame_axis u) n) (omega (arith, a.few_bits, most_bits_lem u.axes))
 
+pub bits_most : (u : Universe) (i : ℕ) → bits_along u i ≤ max u.bits u.frame_bits
+unfolding bits_along
+bits_most u i = go (ℕ_discrete i (frame_axis u))
+  where
+    go : Dec (i ≡ frame_axis u) → cond (eqb i (frame_axis u)) u.frame_bits u.bits ≤ max u.bits u.frame_bits
+    go (yes e) = rw (eq-eqb i (frame_axis u) e) (omega arith)
+    go (no n) = rw (ne_eqb i (frame_axis u) n) (omega arith)
+
+pub shifts_by : (u : Universe) (i : ℕ) {bits : ℕ} → bits ≡ bits_along u i → universe_refusal u ≡ 0 → bits < 64
+shifts_by u i e z = omega (arith, e, bits_few u (accepted u z) i)
+
 -- rule 1.2: the bits of the axes but the last, and those of the last
 pub levels_sum : (u : Universe) → 0 < u.axes → levels u ≡ frame_axis u * u.bits + u.frame_bits
 unfolding levels sum
@@ -92,6 +103,22 @@ levels_few u a =
     let few : frame_axis u ≤ most_axes - 1 = omega (arith, a.few_axes) in
     let bits : u.bits ≤ most_bits = omega (arith, a.few_bits, most_bits_lem u.axes) in
     omega (arith, levels_sum u a.some_axes, mul-le-mul few bits, a.few_frame_bits)
+
+-- a sum of fewer is no more
+pub sum_longer : (n m : ℕ) (f : ℕ → ℕ) → n ≤ m → sum n f ≤ sum m f
+unfolding sum
+sum_longer n zero f h = rw (let e : n ≡ 0 = omega arith in e) (le_refl _)
+sum_longer n (suc m) f h = go (ℕ_discrete n (suc m)) (sum_longer n m f)
+  where
+    go : Dec (n ≡ suc m) → (n ≤ m → sum n f ≤ sum m f) → sum n f ≤ sum m f + f m
+    go (yes e) ih = rw e (le_refl _)
+    go (no k) ih = omega (arith, ih (omega arith))
+
+-- the bits of some of the axes are no more than there may be levels
+pub levels_fit : (u : Universe) (i : ℕ) {found bits : ℕ} → found ≡ sum i (bits_along u) → bits ≡ bits_along u i → i < u.axes → universe_refusal u ≡ 0
+    → found + bits ≤ most_levels
+unfolding levels sum
+levels_fit u i e f h z = omega (arith, e, f, sum_longer (suc i) u.axes (bits_along u) (omega arith), levels_few u (accepted u z))
 
 pub side_few : (u : Universe) → Accepted u → (i : ℕ) → side_along u i ≤ longest_side
 side_few u a i = pow_mono (bits_few u a i)
@@ -229,6 +256,8 @@ side_halved u h l k =
 pub side_kept : (u : Universe) (l i : ℕ) → (axis_at u l ≡ i → ⊥) → block_side u (suc l) i ≡ block_side u l i
 unfolding block_side
 side_kept u l i n = rw (halvings_kept u l i n)
+
+pub ruleset side_laws = (side_positive, side_first)
 
 -- ---- how many blocks there are along an axis
 

@@ -2,7 +2,7 @@
 use Rattle.std.specs.Prelude.{ℕ, ◌+◌, ◌*◌, ◌-◌, ◌≤◌, ◌<◌, min, cond, List, eqb, get_or}
 use Rattle.lemmas.specs.Sums.{sum, product}
 use Rattle.universe.specs.declared.Universe.{Universe}
-use Rattle.universe.specs.declared.room.RoomAnswer.{RoomAnswer}
+use Rattle.universe.specs.Told.{RoomAnswer}
 use Rattle.universe.specs.Universe.{most_axes, longest_side, universe_refusal, levels, blocks_along}
 
 -- the blocks of level l, those along its axes multiplied; and those that touch no low face, being first along no axis

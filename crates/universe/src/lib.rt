@@ -2,19 +2,20 @@
 #![tactic(auto)]
 
 mod order;
-pub mod refusals;
+mod refusal;
 mod room;
 
 ghost use Rattle.std.specs.Prelude.{◌≡◌, ◌&&◌, ◌≤◌, ◌<◌, ltb};
 ghost use Rattle.universe.specs.Universe.{universe_refusal, most_axes, most_bits_of, levels, block_side, equal_bits};
+ghost use Rattle.universe.specs.Told.{number_told};
 ghost use Rattle.universe.specs.Voxel.{window_refusal};
 ghost use Rattle.universe.specs.Block.{whole_block, axis_of, placed_along, is_given, low_half, high_half, both_halves};
 
-pub use room::RoomAnswer;
+pub use refusal::{Refusal, Unwritten};
 
-// Axes, the bits of each but the last, and those of the last, which counts frames: any numbers; `refusal` says whether
+// Axes, the bits of each but the last, and those of the last, which counts frames: any numbers; `check` says whether
 // they are a universe's.
-#[derive(Clone, Copy)]
+#[derive(Clone, Copy, Debug, PartialEq, Eq)]
 pub struct Universe {
     pub axes: u64,
     pub bits: u64,
@@ -22,7 +23,7 @@ pub struct Universe {
 }
 
 // A block: its universe, how many halvings gave it, and its least place along each axis.
-#[derive(Clone, Copy)]
+#[derive(Clone, Copy, Debug, PartialEq, Eq)]
 pub struct Block {
     pub universe: Universe,
     pub level: u64,
@@ -30,7 +31,7 @@ pub struct Block {
 }
 
 // Both halves of one block.
-#[derive(Clone, Copy)]
+#[derive(Clone, Copy, Debug, PartialEq, Eq)]
 pub struct Halves {
     pub low: Block,
     pub high: Block,
@@ -67,61 +68,52 @@ impl Universe {
     fn most_bits_of(axes: u64) -> u64
         ensures { result ≡ most_bits_of axes }
     {
-        if axes == 1 {
-            return 0;
-        }
-        Universe::MOST_BITS
+        if axes == 1 { 0 } else { Universe::MOST_BITS }
     }
 
-    // 2 where axes, bits or frame bits are outside their range, else 0. One axis has frame bits alone.
-    pub fn refusal(self) -> u64
-        ensures { result ≡ universe_refusal self }
+    // Refused where axes, bits or frame bits are outside their range. One axis has frame bits alone.
+    #[tactic(auto, unfolding(crate::specs::Universe::universe_refusal))]
+    pub fn check(self) -> Result<(), Refusal>
+        ensures { number_told result ≡ universe_refusal self }
     {
-        if self.axes < Universe::LEAST_AXES {
-            return refusals::BAD_UNIVERSE;
+        if self.axes < Universe::LEAST_AXES
+            || Universe::MOST_AXES < self.axes
+            || Universe::most_bits_of(self.axes) < self.bits
+            || Universe::MOST_FRAME_BITS < self.frame_bits
+        {
+            return Err(Refusal::BadUniverse);
         }
-        if Universe::MOST_AXES < self.axes {
-            return refusals::BAD_UNIVERSE;
-        }
-        if Universe::most_bits_of(self.axes) < self.bits {
-            return refusals::BAD_UNIVERSE;
-        }
-        if Universe::MOST_FRAME_BITS < self.frame_bits {
-            return refusals::BAD_UNIVERSE;
-        }
-        0
+        Ok(())
     }
 
     // The universe of so many axes with so many bits each: one axis has them as frame bits.
+    #[tactic(auto, unfolding(crate::specs::Universe::equal_bits))]
     pub fn with_equal_bits(axes: u64, bits: u64) -> Universe
         ensures { result ≡ equal_bits axes bits }
     {
-        let mut space = bits;
-        if axes == 1 && bits <= Universe::MOST_BITS {
-            space = 0;
-        }
+        let alone = axes == 1 && bits <= Universe::MOST_BITS;
         Universe {
-            axes: axes,
-            bits: space,
+            axes,
+            bits: if alone { 0 } else { bits },
             frame_bits: bits,
         }
     }
 
-    // 9 where a window of frames is outside the universe or first > last, else 0; both ends are in.
-    pub fn window_refusal(self, first: u64, last: u64) -> u64
-        ensures { result ≡ window_refusal self first last }
+    // Refused where a window of frames is outside the universe or first > last; both ends are in.
+    pub fn check_window(self, first: u64, last: u64) -> Result<(), Refusal>
+        ensures { number_told result ≡ window_refusal self first last }
     {
         let bits = self.frame_bits;
         if last < first {
-            return refusals::OUTSIDE;
+            return Err(Refusal::Outside);
         }
         if 63 < bits {
-            return 0;
+            return Ok(());
         }
         if last < 1u64 << bits {
-            return 0;
+            return Ok(());
         }
-        refusals::OUTSIDE
+        Err(Refusal::Outside)
     }
 
     // The length of a block of a level along an axis: twice as long for each halving of the axis that is still to come.
@@ -132,16 +124,12 @@ impl Universe {
         ensures { result ≡ block_side self level axis }
     {
         let axes = self.axes_left();
-        let left = self.levels() - level;
-        let mut side: u64 = 1;
-        let mut n: u64 = 0;
-        while n < left {
-            if axes[n as usize] == axis as usize {
-                side *= 2;
-            }
-            n += 1;
-        }
-        side
+        let left = (self.levels() - level) as usize;
+        let halvings = axes[..left]
+            .iter()
+            .filter(|halved| **halved == axis as usize)
+            .count();
+        1u64 << halvings
     }
 
     // The block of a whole universe.
@@ -149,7 +137,7 @@ impl Universe {
         ensures { result ≡ whole_block universe }
     {
         Block {
-            universe: universe,
+            universe,
             level: 0,
             low: [0u64; Universe::MOST_AXES as usize],
         }
@@ -158,6 +146,7 @@ impl Universe {
 
 impl Block {
     // Whether along an axis a block begins at a multiple of its length inside the universe; at 0 above its axes.
+    #[tactic(auto, using(crate::proofs::Universes::side_laws))]
     fn is_placed(self, axis: u64) -> bool
         requires universe_value { universe_refusal self.universe ≡ 0 }
         requires level_bound { self.level ≤ levels self.universe }
@@ -168,51 +157,41 @@ impl Block {
         if self.universe.axes <= axis {
             return low == 0;
         }
-        if low % self.universe.block_side(self.level, axis) != 0 {
-            return false;
-        }
-        low < self.universe.block_side(0, axis)
+        low % self.universe.block_side(self.level, axis) == 0
+            && low < self.universe.block_side(0, axis)
     }
 
     // Whether halving the first block gives this block.
+    #[tactic(auto, using(crate::proofs::Blocks::given_laws))]
     fn is_given(self) -> bool
         ensures { result ≡ is_given self }
     {
-        if self.universe.refusal() != 0 {
+        if self.universe.check().is_err() || self.universe.levels() < self.level {
             return false;
         }
-        if self.universe.levels() < self.level {
-            return false;
-        }
-        let mut axis: u64 = 0;
-        while axis < Universe::MOST_AXES {
-            if !self.is_placed(axis) {
-                return false;
-            }
-            axis += 1;
-        }
-        true
+        (0..Universe::MOST_AXES).all(|axis| self.is_placed(axis))
     }
 
     // Whether it has halves of its own.
+    #[tactic(auto, using(crate::proofs::Blocks::level_test))]
     fn is_halved(self) -> bool
         ensures { result ≡ (is_given self && ltb self.level (levels self.universe)) }
     {
-        if self.is_given() {
-            return self.level < self.universe.levels();
-        }
-        false
+        self.is_given() && self.level < self.universe.levels()
     }
 
     // The low half: the same place, one level on. A block with no halves of its own yields itself.
+    #[tactic(auto, using(crate::proofs::Blocks::half_laws))]
     pub fn low_half(self) -> Block
         ensures { result ≡ low_half self }
     {
-        let mut half = self;
-        if self.is_halved() {
-            half.level = self.level + 1;
+        if !self.is_halved() {
+            return self;
         }
-        half
+        Block {
+            level: self.level + 1,
+            ..self
+        }
     }
 
     // The axis across which a block that has halves of its own is halved.
@@ -227,16 +206,21 @@ impl Block {
 
     // The high half: half the block's length further along the axis, one level on. A block with no halves of its own
     // yields itself.
+    #[tactic(auto, using(crate::proofs::Blocks::half_laws))]
     pub fn high_half(self) -> Block
         ensures { result ≡ high_half self }
     {
-        let mut half = self;
-        if self.is_halved() {
-            let axis = self.axis();
-            half.low[axis] = self.low[axis] + self.universe.block_side(self.level + 1, axis as u64);
-            half.level = self.level + 1;
+        if !self.is_halved() {
+            return self;
         }
-        half
+        let axis = self.axis();
+        let mut low = self.low;
+        low[axis] += self.universe.block_side(self.level + 1, axis as u64);
+        Block {
+            level: self.level + 1,
+            low,
+            ..self
+        }
     }
 
     // Both halves of the one block.

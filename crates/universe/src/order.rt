@@ -1,5 +1,6 @@
 // The universe's shape, asked: how many levels, how long a side is, the axis of each level, the voxels of a block, the
-// universe without an axis.
+// universe without an axis. Where there is nothing to tell the answer is 0, and no `None`: rule 1.8 says so, and C asks
+// the same.
 ghost use Rattle.std.specs.Prelude.{◌≡◌, true, cond, ◌-◌, ◌<◌, leb};
 ghost use Rattle.universe.specs.Rounds.{axis_before};
 ghost use Rattle.universe.specs.Universe.{bits_along};
@@ -10,53 +11,50 @@ use crate::Universe;
 
 impl Universe {
     // The bits of an axis, below the universe's axes: no other code says how many an axis has.
+    #[tactic(auto, unfolding(crate::specs::Universe::bits_along))]
     pub(crate) fn axis_bits(self, axis: u64) -> u64
         requires { axis < self.axes }
         ensures { result ≡ bits_along self axis }
     {
         if axis == self.axes - 1 {
-            return self.frame_bits;
+            self.frame_bits
+        } else {
+            self.bits
         }
-        self.bits
     }
 
     // How many levels of halving there are; 0 where the universe is refused.
+    #[tactic(auto, using(crate::proofs::Questions::asked), unfolding(lemmas::specs::Sums::sum))]
     pub fn levels(self) -> u64
         ensures { result ≡ levels_answer self }
     {
-        if self.refusal() != 0 {
+        if self.check().is_err() {
             return 0;
         }
-        let mut levels: u64 = 0;
-        let mut axis: u64 = 0;
-        while axis < self.axes {
+        let mut levels = 0;
+        for axis in 0..self.axes {
             levels += self.axis_bits(axis);
-            axis += 1;
         }
         levels
     }
 
     // How many bits an axis has; 0 where the universe is refused or has no such axis.
+    #[tactic(auto, using(crate::proofs::Questions::asked), unfolding(crate::specs::Questions::bits_answer))]
     pub fn bits_along(self, axis: u64) -> u64
         ensures { result ≡ bits_answer self axis }
     {
-        if self.refusal() != 0 {
-            return 0;
-        }
-        if self.axes <= axis {
+        if self.check().is_err() || self.axes <= axis {
             return 0;
         }
         self.axis_bits(axis)
     }
 
     // How long the universe is along an axis; 0 where it is refused or has no such axis.
+    #[tactic(auto, using(crate::proofs::Questions::asked), unfolding(crate::specs::Questions::side_answer))]
     pub fn side(self, axis: u64) -> u64
         ensures { result ≡ side_answer self axis }
     {
-        if self.refusal() != 0 {
-            return 0;
-        }
-        if self.axes <= axis {
+        if self.check().is_err() || self.axes <= axis {
             return 0;
         }
         1u64 << self.axis_bits(axis)
@@ -64,65 +62,50 @@ impl Universe {
 
     // The axes that the levels halve, the last level first: at place n that of a block with n + 1 levels left. Past the
     // levels stand zeros, and nothing else where the universe is refused. Each round goes over the axes with bits left.
+    #[tactic(auto, using(crate::proofs::Laying::laying))]
     pub fn axes_left(self) -> [usize; Universe::MOST_LEVELS as usize]
         ensures { result ≡ axes_left self }
     {
         let mut axes = [0usize; Universe::MOST_LEVELS as usize];
-        if self.refusal() != 0 {
+        if self.check().is_err() {
             return axes;
         }
-        let mut left = self.levels();
-        let mut round: u64 = 0;
-        let mut axis: u64 = 0;
-        while 0 < left {
-            if axis == self.axes {
-                round += 1;
-                axis = 0;
-            } else {
+        let mut left = self.levels() as usize;
+        for round in 0..self.bits.max(self.frame_bits) {
+            for axis in 0..self.axes {
                 if round < self.axis_bits(axis) {
                     left -= 1;
-                    axes[left as usize] = axis as usize;
+                    axes[left] = axis as usize;
                 }
-                axis += 1;
             }
         }
         axes
     }
 
     // How many voxels a block with so many levels left has; 0 past the most levels.
+    #[tactic(auto, using(crate::proofs::Questions::asked), unfolding(crate::specs::Questions::voxels_left))]
     pub fn voxels_left(left: u64) -> u64
         ensures { result ≡ voxels_left left }
     {
-        if Universe::MOST_LEVELS < left {
-            return 0;
+        if left <= Universe::MOST_LEVELS {
+            1u64 << left
+        } else {
+            0
         }
-        1u64 << left
     }
 
     // Whether an axis, counted from 1, is one of two or more.
     fn is_one_of(self, axis: u64) -> bool
         ensures { result ≡ is_one_of self axis }
     {
-        if self.refusal() != 0 {
-            return false;
-        }
-        if self.axes < 2 {
-            return false;
-        }
-        if axis < 1 {
-            return false;
-        }
-        axis <= self.axes
+        self.check().is_ok() && 2 <= self.axes && 1 <= axis && axis <= self.axes
     }
 
     // The bits of the axes but the last, once one of two or more is left out.
     fn other_bits(self) -> u64
         ensures { result ≡ cond (leb self.axes 2) 0 self.bits }
     {
-        if self.axes <= 2 {
-            return 0;
-        }
-        self.bits
+        if self.axes <= 2 { 0 } else { self.bits }
     }
 
     // The last axis that is left once an axis, counted from 1, is left out of two or more.
@@ -131,14 +114,16 @@ impl Universe {
         ensures { result ≡ axis_before (axis - 1) (self.axes - 2) }
     {
         if axis == self.axes {
-            return self.axes - 2;
+            self.axes - 2
+        } else {
+            self.axes - 1
         }
-        self.axes - 1
     }
 
     // The universe without one of its axes, counted from 1 to as many as there are: those that are left keep their
     // bits, and the last of them counts frames. Where this universe is refused, has one axis alone or has no such axis:
     // three zeros, which are refused.
+    #[tactic(auto, unfolding(crate::specs::Questions::without_answer, crate::specs::Universe::without_axis))]
     pub fn without_axis(self, axis: u64) -> Universe
         ensures { result ≡ without_answer self axis }
     {

@@ -2,46 +2,38 @@
 ghost use Rattle.std.specs.Prelude.{◌≡◌, ◌-◌, ◌≤◌, ◌<◌, get_or};
 ghost use Rattle.lemmas.specs.Sums.{product};
 ghost use Rattle.universe.specs.Universe.{universe_refusal};
+ghost use Rattle.universe.specs.Told.{room_told};
 ghost use Rattle.universe.specs.Room.{count_of, room, room_answer, FewBlocks};
 
-use crate::Universe;
-
-// What the room question answers: 0 and room in symbols, or 2 and 0.
-#[derive(Clone, Copy)]
-pub struct RoomAnswer {
-    pub refusal: u64,
-    pub symbols: u64,
-}
+use crate::{Refusal, Universe};
 
 // The product over the axes of the blocks along each, less 0 or 1.
+#[tactic(auto, unfolding(lemmas::specs::Sums::product))]
 fn product_less(axes: usize, blocks: [u64; Universe::MOST_AXES as usize], less: u64) -> u64
     requires few_blocks { FewBlocks axes blocks }
     requires less_bound { less ≤ 1 }
     ensures { result ≡ product axes (λ i. get_or blocks i 0 - less) }
 {
     let mut found: u64 = 1;
-    let mut axis: usize = 0;
-    while axis < axes {
-        found *= blocks[axis] - less;
-        axis += 1;
+    for along in &blocks[..axes] {
+        found *= along - less;
     }
     found
 }
 
 // All blocks of a level, or without balls the leaves times the blocks that are not inner ones, if that is less. Their
 // product is not formed where it exceeds all.
+#[tactic(auto, using(crate::proofs::Levels::count_all))]
 fn level_count(leaves: u64, balls: u64, all: u64, inner: u64) -> u64
     requires { inner < all }
     ensures { result ≡ count_of leaves balls all inner }
 {
-    if balls != 0 {
-        return all;
-    }
     let outer = all - inner;
-    if all / outer < leaves {
-        return all;
+    if balls != 0 || all / outer < leaves {
+        all
+    } else {
+        leaves * outer
     }
-    leaves * outer
 }
 
 // Room in a universe that is not refused, level by level: the blocks along each axis are doubled in turn.
@@ -52,12 +44,10 @@ fn room_accepted(universe: Universe, leaves: u64, balls: u64) -> u64
     let axes = universe.axes_left();
     let mut blocks = [1u64; Universe::MOST_AXES as usize];
     let mut sum: u64 = 0;
-    let mut left = universe.levels() as usize;
-    while 0 < left {
+    for left in (0..universe.levels() as usize).rev() {
         let all = product_less(universe.axes as usize, blocks, 0);
         let inner = product_less(universe.axes as usize, blocks, 1);
         sum += level_count(leaves, balls, all, inner);
-        left -= 1;
         blocks[axes[left]] *= 2;
     }
     1 + 2 * sum
@@ -66,19 +56,11 @@ fn room_accepted(universe: Universe, leaves: u64, balls: u64) -> u64
 impl Universe {
     // How many symbols an expression takes at the most, for so many words that name a halfspace and so many that name a
     // ball (rules 4.7 and 4.14).
-    pub fn room(self, leaves: u64, balls: u64) -> RoomAnswer
-        ensures { result ≡ room_answer self leaves balls }
+    #[tactic(auto, unfolding(crate::specs::Room::room_answer))]
+    pub fn room(self, leaves: u64, balls: u64) -> Result<u64, Refusal>
+        ensures { room_told result ≡ room_answer self leaves balls }
     {
-        let refusal = self.refusal();
-        if refusal != 0 {
-            return RoomAnswer {
-                refusal: refusal,
-                symbols: 0,
-            };
-        }
-        RoomAnswer {
-            refusal: 0,
-            symbols: room_accepted(self, leaves, balls),
-        }
+        self.check()?;
+        Ok(room_accepted(self, leaves, balls))
     }
 }

@@ -1,0 +1,33 @@
+-- `write_thirty_two` by its three cases, with half as many digits in each half.
+use mathlib.Core.Path.{refl, ◌∙◌}
+use Prim.Native.Nat.{ℕ}
+use lib.ListN.{length-set}
+use Rattle.at_once.proofs.Texts.{white_stored, black_stored, low_roomy, high_roomy, both_stored}
+use Rattle.bintree.specs.Shape.{open_symbol}
+use Rattle.at_once.proofs.text.write_thirty_two.Goals as goal
+
+pub returns-then-word-eq0 : goal.returns-then-word-eq0
+returns-then-word-eq0 c = white_stored c.requires c.if-word-eq0.true
+
+pub returns-then-word-eq-THIRTY_TWO_ONES : goal.returns-then-word-eq-THIRTY_TWO_ONES
+returns-then-word-eq-THIRTY_TWO_ONES c = black_stored c.requires c.if-word-eq0.false refl c.if-word-eq-THIRTY_TWO_ONES.true
+
+pub write_sixteen-middle-requires : goal.write_sixteen-middle-requires
+write_sixteen-middle-requires c = low_roomy c.requires c.if-word-eq0.false refl c.if-word-eq-THIRTY_TWO_ONES.false refl refl
+
+pub write_sixteen-requires : goal.write_sixteen-requires
+write_sixteen-requires c =
+    high_roomy c.requires c.if-word-eq0.false refl
+    c.if-word-eq-THIRTY_TWO_ONES.false refl refl c.write_sixteen-middle.ensures
+
+pub shape_of-out : goal.shape_of-out
+shape_of-out c =
+    c.write_sixteen.auto.out ∙ c.write_sixteen-middle.auto.out
+    ∙ length-set {A = ℕ} c.args.out.now c.args.at open_symbol
+
+pub returns : goal.returns
+returns c =
+    both_stored c.requires
+    c.if-word-eq0.false refl
+    c.if-word-eq-THIRTY_TWO_ONES.false refl refl
+    c.write_sixteen-middle.ensures c.write_sixteen.ensures

@@ -1,0 +1,6 @@
+-- `amount` shifts the coefficient left: that is its product with a power of two.
+use Rattle.pruned.proofs.Doublings.{shifted_is}
+use Rattle.pruned.proofs.leaf.amount.Goals as goal
+
+pub returns : goal.returns
+returns c = shifted_is c.args.times c.requires.small_coefficient c.requires.small_place
