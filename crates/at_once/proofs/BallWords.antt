@@ -1,7 +1,7 @@
 -- The word of a ball over a block is made of those of its halves. Across a place axis the high half's first voxel is twice the half's length further off along
 -- it, and the sum of the squares more by 4·s·(o + s); across the frame axis both halves have the same word.
 use mathlib.Core.Path.{◌≡◌, refl, sym, ap, ap₂, ◌∙◌, subst}
-use mathlib.Core.Bool.{Bool, true, false, cond, ◌&&◌}
+use mathlib.Core.Bool.{Bool, true, cond, ◌&&◌}
 use mathlib.Core.List.{List}
 use Prim.Native.Nat.{ℕ, zero, suc, ◌+◌, ◌-◌, ◌*◌, ◌%◌, ◌^◌, ◌≤◌, ◌<◌}
 use native.Mathlib.Omega.{arith}
@@ -9,7 +9,7 @@ use native.Mathlib.Decide.{ℕ_discrete}
 use lib.Dec.{eqb, leb, ltb}
 use lib.ListN.{length, get_or, set, length-set}
 use lib.Seq.{get_or-set_same, get_or-set_other}
-use lib.IntN.{ℤ, pos, nat_abs, ◌+ℤ◌, ◌-ℤ◌, ◌*ℤ◌}
+use lib.IntN.{ℤ, pos, ◌+ℤ◌, ◌*ℤ◌}
 use lib.Signed.{le_z}
 use mir.Syntax.{w64}
 use mir.Val.{SFits, to_z}
@@ -22,7 +22,7 @@ use Rattle.lemmas.proofs.Whole.{ι, ν, ◌⊕◌, ◌⊖◌, ◌⊗◌, eq_by}
 use Rattle.universe.specs.declared.Universe.{Universe}
 use Rattle.universe.specs.declared.Block.{Block}
 use Rattle.universe.specs.Refusals.{bad_rows}
-use Rattle.universe.specs.Universe.{longest_side, levels}
+use Rattle.universe.specs.Universe.{longest_side}
 use Rattle.universe.specs.Block.{low_along, axis_of, low, high}
 use Rattle.universe.specs.Voxel.{voxel_refusal}
 use Rattle.universe.proofs.Refusing.{unless_holds}
@@ -44,8 +44,8 @@ use Rattle.masks.proofs.Block.{Left, left_low, left_high, mask_halves, mask_fits
 use Rattle.masks.proofs.Steps.{axis_is, side_is, axis_tabled, axis_long}
 use Rattle.masks.proofs.Leaves.{ball_mask_lem, ball_voxel, distance_high}
 use Rattle.masks.proofs.Limits.{off_few, distance_few}
-use Rattle.at_once.specs.Words.{word_levels, WordBlock, word_block, step_at, BallNamed, OffsOf, square_along, squares_of, BallOver}
-use Rattle.at_once.proofs.WordBlocks.{taken, levels_left, first_voxel, low_small}
+use Rattle.at_once.specs.Words.{word_levels, WordBlock, word_block, step_at, BallNamed, OffsOf, squares_of, BallOver}
+use Rattle.at_once.proofs.WordBlocks.{taken, levels_left, first_voxel}
 use Rattle.at_once.proofs.BallValues.{most_held_lem}
 
 -- masks of a ball that differ in the frame axis alone

@@ -24,7 +24,7 @@ use Rattle.universe.specs.Questions.{levels_answer}
 use Rattle.universe.specs.Block.{Given, first, whole_block}
 use Rattle.universe.proofs.Universes.{accepted, levels_few}
 use Rattle.universe.proofs.Questions.{levels_told}
-use Rattle.bintree.specs.Shape.{Shape, symbols}
+use Rattle.bintree.specs.Shape.{symbols}
 use Rattle.bintree.specs.Walks.{noted}
 use Rattle.bintree.proofs.Shape.{length_symbols}
 use Rattle.bintree.proofs.Lays.{laid_noted}
@@ -97,10 +97,8 @@ module _ {u : Universe} {surfaces : Surfaces} {words₁ words₂ : List ℕ} whe
     codes_most : (levels u + 1) * count ≤ most_codes
     codes_most = let few : levels u + 1 ≤ suc most_levels = omega (arith, levels_most) in mul-le-mul few words_few
 
-    pub most_ready : CodesReady u surfaces words₁ words₂ (replicate {A = ℕ} most_codes 0)
-    most_ready =
-        let long = length-replicate {A = ℕ} most_codes 0 in
-        record { ready = r; enough = omega (arith, codes_most, long); bounded = omega (arith, long) }
+    pub most_ready : FewReady most_codes u surfaces words₁ words₂
+    most_ready = record { ready = r; few = codes_most }
 
     module _ {left : ℕ} (l : left ≡ levels_answer u) where
       left_is : left ≡ levels u

@@ -1,13 +1,13 @@
 -- The halving of a block with some levels left, as the tables of axes and lengths have it.
 use mathlib.Core.Path.{◌≡◌, ap, ◌∙◌}
-use Prim.Native.Nat.{ℕ, suc, ◌-◌, ◌≤◌, ◌<◌}
+use Prim.Native.Nat.{ℕ, ◌-◌, ◌≤◌, ◌<◌}
 use mathlib.Core.List.{List}
 use native.Mathlib.Omega.{arith}
 use native.Mathlib.Nat.{le_trans}
 use lib.Pow.{pow_mono}
 use lib.ListN.{get_or}
 use Rattle.universe.specs.declared.Universe.{Universe}
-use Rattle.universe.specs.Universe.{longest_side, levels, bits_along, block_side}
+use Rattle.universe.specs.Universe.{longest_side, bits_along, block_side}
 use Rattle.universe.proofs.Universes.{Accepted, accepted, side_few}
 use Rattle.universe.proofs.Questions.{axes_left_at}
 use Rattle.masks.specs.Steps.{axis_left, side_left}

@@ -15,7 +15,6 @@ use Rattle.universe.specs.Block as blocks
 use Rattle.bintree.specs.declared.Colour.{Colour}
 use Rattle.bintree.specs.declared.Colour.TheVariants.{White, Black}
 use Rattle.bintree.specs.Shape.{Shape, leaf, halved, symbol_of, size}
-use Rattle.bintree.specs.Merging.{merged}
 use Rattle.bintree.specs.Walks.{leaf_symbol, laid}
 use Rattle.csg.specs.Halfspace.{Mark, decided, undecided}
 use Rattle.csg.specs.Surfaces.{Surfaces}
@@ -27,7 +26,7 @@ use Rattle.convert.specs.Shapes.{shaped, symbol_of_bits, end_limit}
 use Rattle.convert.proofs.Shapes.{shaped_size}
 use Rattle.masks.specs.Block.{voxel_at, block_mask}
 use Rattle.masks.specs.Shapes.{voxel_shape, mask_shape}
-use Rattle.masks.proofs.Block.{Left, mask_agree, mask_fits}
+use Rattle.masks.proofs.Block.{mask_agree, mask_fits}
 use Rattle.masks.proofs.Shapes.{merged_mask, merged_one_lem}
 use Rattle.pruned.specs.Left.{all_mark}
 use Rattle.pruned.specs.Laying.{joined_packed, joined_out}

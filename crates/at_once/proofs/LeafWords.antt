@@ -6,14 +6,13 @@ use Prim.Native.Nat.{ℕ, ◌+◌, ◌-◌, ◌*◌, ◌/◌, ◌%◌, ◌^◌, 
 use native.Mathlib.Omega.{arith}
 use lib.Dec.{leb, ltb}
 use lib.IntN.{ℤ}
-use lib.ListN.{length}
 use borrow.Author.Tests.{leb-true, ltb-true, le-leb, lt-ltb}
 use Rattle.lemmas.proofs.Sums.{and_left, and_right}
 use Rattle.universe.specs.declared.Block.{Block}
 use Rattle.bintree.specs.declared.Colour.TheVariants.{White, Black}
 use Rattle.csg.specs.Halfspace.{row_count}
 use Rattle.csg.specs.Ball.{ball_count}
-use Rattle.csg.specs.Surfaces.{Surfaces, Surface, halfspace, ball, Named, named, IsNamed, halfspace_named, ball_named}
+use Rattle.csg.specs.Surfaces.{Surfaces, Surface, halfspace, ball, named, IsNamed, halfspace_named, ball_named}
 use Rattle.csg.specs.Tree.{Plain, colour, side}
 use Rattle.csg.specs.Marks.{surface_colour, side_colour, plain_colour}
 use Rattle.demands.specs.Voxels.{Colouring}

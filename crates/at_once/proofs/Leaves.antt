@@ -21,7 +21,7 @@ use Rattle.universe.specs.Universe.{least_axes, most_axes, offset_limit, coeffic
 use Rattle.universe.proofs.Refusing.{unless_holds}
 use Rattle.csg.specs.Halfspace.{most_rows, row_length, row_at, row_count, rows_refusal, within_limits, least, greatest}
 use Rattle.csg.specs.Ball.{ball_at}
-use Rattle.csg.specs.Surfaces.{Surfaces, halfspace, named}
+use Rattle.csg.specs.Surfaces.{Surfaces, halfspace}
 use Rattle.csg.specs.Tree.{Plain}
 use Rattle.convert.specs.Codes.{tested_code, ball_code_over}
 use Rattle.convert.specs.Small.{SmallPlaces, BallReady}

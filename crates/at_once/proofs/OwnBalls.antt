@@ -5,7 +5,7 @@ use mathlib.Core.Bool.{Bool, cond}
 use mathlib.Core.List.{List}
 use Prim.Native.Nat.{ℕ, zero, suc, ◌+◌, ◌-◌, ◌*◌, ◌^◌, ◌≤◌, ◌<◌}
 use native.Mathlib.Omega.{arith}
-use lib.Dec.{leb, ltb}
+use lib.Dec.{ltb}
 use lib.ListN.{get_or, set}
 use lib.IntN.{ℤ, pos, ◌+ℤ◌, ◌*ℤ◌}
 use lib.Signed.{le_z}
@@ -18,18 +18,17 @@ use Rattle.lemmas.proofs.Sums.{sum_cong}
 use Rattle.lemmas.proofs.Machine.{near_nat, near_fits}
 use Rattle.universe.specs.declared.Universe.{Universe}
 use Rattle.universe.specs.declared.Block.{Block}
-use Rattle.universe.specs.Universe.{levels}
 use Rattle.universe.specs.Block.{axis_of, low, high}
 use Rattle.universe.specs.Voxel.{place_along, voxel_refusal}
 use Rattle.universe.proofs.Blocks.{given_placed}
 use Rattle.universe.proofs.Voxel.{taken_voxel}
-use Rattle.csg.specs.Ball.{Ball, place_axes, most_places, square, ball_at, ball_count, radius_squared, off}
+use Rattle.csg.specs.Ball.{Ball, most_places, square, ball_at, ball_count, radius_squared, off}
 use Rattle.csg.specs.Surfaces.{Surfaces, ball}
 use Rattle.demands.specs.Voxels.{Colouring}
 use Rattle.pruned.proofs.Moving.{held}
 use Rattle.masks.specs.Block.{block_mask}
 use Rattle.masks.specs.Own.{own_surface, own_ball, spread, spread_sum}
-use Rattle.masks.proofs.Block.{Left, left_low, left_high, mask_halves, mask_fits}
+use Rattle.masks.proofs.Block.{Left, mask_halves, mask_fits}
 use Rattle.masks.proofs.Steps.{axis_is, axis_tabled}
 use Rattle.masks.proofs.Limits.{off_few}
 use Rattle.masks.proofs.Own.{own_ball_lem, own_ball_voxel, own_ball_alike}

@@ -1,6 +1,6 @@
 -- The word of sure and possible contact of a row over a block: its value at the first voxel's centre moved by its reach, and the same steps. The moved value is
 -- twice the least or about twice the greatest over that voxel, so it keeps the limit of values.
-use mathlib.Core.Path.{◌≡◌, refl, sym, ap, ap₂, ◌∙◌}
+use mathlib.Core.Path.{◌≡◌, refl, sym, ap, ◌∙◌}
 use mathlib.Core.Bool.{Bool, true, false}
 use mathlib.Core.List.{List}
 use Prim.Native.Nat.{ℕ, zero, suc, ◌+◌, ◌-◌, ◌*◌, ◌≤◌, ◌<◌}
@@ -9,7 +9,6 @@ use lib.IntN.{ℤ, pos, nat_abs, ◌+ℤ◌}
 use mir.Syntax.{w64}
 use mir.Val.{SFits}
 use Rattle.lemmas.specs.Sums.{sum}
-use Rattle.lemmas.proofs.Sums.{below}
 use Rattle.lemmas.proofs.Whole.{ι, ν, ◌⊕◌, ⊝, le_by}
 use Rattle.lemmas.proofs.Machine.{Near, near_add, near_back, near_call, near_fits, size_neg}
 use Rattle.universe.specs.declared.Universe.{Universe}
@@ -18,7 +17,7 @@ use Rattle.csg.specs.Halfspace.{Halfspace, row_at, row_count, centre_value}
 use Rattle.csg.specs.Surfaces.{Surfaces, halfspace}
 use Rattle.pruned.proofs.Moving.{held}
 use Rattle.masks.specs.Block.{block_mask}
-use Rattle.masks.specs.Leaves.{value_limit, row_step, row_mask}
+use Rattle.masks.specs.Leaves.{value_limit, row_mask}
 use Rattle.masks.specs.Own.{own_surface, reach, reached}
 use Rattle.masks.proofs.Limits.{reached_few}
 use Rattle.masks.proofs.Own.{own_halfspace}

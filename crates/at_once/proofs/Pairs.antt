@@ -2,7 +2,7 @@
 -- is its test; a step in both places moves both values; and two numbers of digits side by side in both halves are the masks of twice as many values.
 use mathlib.Core.Path.{◌≡◌, refl, sym, ap, ap₂, ◌∙◌, subst}
 use mathlib.Core.Bool.{Bool, true, false}
-use mathlib.Core.List.{List, [], ◌∷◌}
+use mathlib.Core.List.{List, ◌∷◌}
 use Prim.Native.Nat.{ℕ, zero, suc, ◌+◌, ◌-◌, ◌*◌, ◌/◌, ◌%◌, ◌^◌, ◌≤◌, ◌<◌}
 use native.Mathlib.Omega.{arith}
 use native.Mathlib.Nat.{mul-le-mul, mod-eq_of_lt}
@@ -10,9 +10,9 @@ use lib.Dec.{T, lit<}
 use lib.Pow.{pow_mono}
 use lib.Bits.{bit_and, bit_or, and_mask, and_block, or_block, or_shifted_r}
 use lib.IntN.{ℤ, pos, nat_abs, ◌+ℤ◌, ◌*ℤ◌}
-use lib.Signed.{le_z, non_neg, ◌≤ℤ◌}
+use lib.Signed.{le_z, non_neg}
 use mir.Syntax.{w64}
-use mir.Val.{Fits, SFits, to_z, of_z}
+use mir.Val.{Fits, SFits}
 use Rattle.lemmas.specs.Sums.{sum}
 use Rattle.lemmas.specs.Grid.{count}
 use Rattle.lemmas.proofs.Sums.{sum_part}

@@ -1,7 +1,7 @@
 -- What counting sure and possible contact meets at a block, count by count: nothing where none of its frames are the window's, or the trees are WHITE over it;
 -- all voxels of its frames in the window where they are BLACK; the ones of its words; and else what both halves come to, by what is left of the trees, which
 -- has their marks in every part of the block.
-use Prim.Native.Nat.{ℕ, suc, ◌+◌, ◌*◌, ◌-◌, ◌/◌, ◌^◌, ◌≤◌, ◌<◌, min, max}
+use Prim.Native.Nat.{ℕ, suc, ◌+◌, ◌-◌, ◌/◌, ◌^◌, ◌≤◌, ◌<◌, min, max}
 use mathlib.Core.Path.{◌≡◌, refl, sym, ap, ap₂, ◌∙◌, subst}
 use mathlib.Core.Bool.{Bool, true, false, cond, false≢true}
 use mathlib.Core.List.{List, [], ◌∷◌}
@@ -14,24 +14,20 @@ use lib.Pow.{pow_mono}
 use Rattle.lemmas.proofs.Stores.{restored}
 use Rattle.universe.specs.declared.Universe.{Universe}
 use Rattle.universe.specs.declared.Block.{Block}
-use Rattle.universe.specs.Universe.{most_levels, frame_axis}
-use Rattle.universe.specs.Block.{low_along}
-use Rattle.universe.specs.Block as blocks
+use Rattle.universe.specs.Universe.{most_levels}
 use Rattle.universe.specs.Voxel.{Within}
 use Rattle.bintree.specs.declared.Colour.{Colour}
 use Rattle.bintree.specs.declared.Colour.TheVariants.{White, Black}
-use Rattle.bintree.specs.Verdicts.{window_length}
 use Rattle.csg.specs.Halfspace.{Mark, decided, undecided}
 use Rattle.csg.specs.Surfaces.{Surfaces}
 use Rattle.csg.specs.Tree.{Plain}
 use Rattle.csg.specs.Marks.{plain_mark}
-use Rattle.csg.proofs.Nested.{Nested}
 use Rattle.csg.proofs.Marks.{Follows, tree_nested, intersection_follows}
 use Rattle.demands.specs.Voxels.{Colouring, is_black}
 use Rattle.demands.specs.Verdicts.{frame_of}
 use Rattle.contacts.specs.Contacts.{block_of, settled}
 use Rattle.contacts.proofs.Own.{own_within, own_nested}
-use Rattle.convert.specs.Blocks.{block_left, halved_sides, high_lows}
+use Rattle.convert.specs.Blocks.{block_left, high_lows}
 use Rattle.pruned.specs.Left.{all_mark, all_colour, all_left}
 use Rattle.pruned.proofs.Looked.{part_all_mark, open_not_white}
 use Rattle.masks.specs.Mask.{has_digit}
@@ -45,7 +41,6 @@ use Rattle.masks.proofs.Trees.{white_mask_lem}
 use Rattle.masks.proofs.Windows.{window_mask_lem}
 use Rattle.masks.proofs.Seen.{seen_halves, seen_ones, seen_few, seen_white, seen_black, seen_missed, seen_agree}
 use Rattle.at_once.specs.declared.answer.Contacts.{Contacts}
-use Rattle.at_once.specs.Codes.{SameCodes}
 use Rattle.at_once.specs.Words.{word_levels, WordBlock, word_block, TreesWord}
 use Rattle.at_once.specs.declared.three.Three.{Three}
 use Rattle.at_once.specs.Own.{all_own, AllThree}

@@ -1,11 +1,10 @@
 -- The three words of a row, from three values in their order and the same steps: where the least of the lowest value is 0 or more all three are all ones, and
 -- where the greatest of the highest is less than 0 they are 0; where neither is so and both are near each other, all three values are small.
-use mathlib.Core.Path.{◌≡◌, refl, sym, ap, ◌∙◌}
-use mathlib.Core.Bool.{Bool, true, false}
+use mathlib.Core.Path.{◌≡◌, sym, ap, ◌∙◌}
+use mathlib.Core.Bool.{true, false}
 use mathlib.Core.List.{List}
 use Prim.Native.Nat.{ℕ, zero, suc, ◌+◌, ◌-◌, ◌*◌, ◌^◌, ◌≤◌, ◌<◌}
 use native.Mathlib.Omega.{arith}
-use lib.Bits.{bit_and}
 use lib.IntN.{ℤ, pos, nat_abs, ◌+ℤ◌, ◌-ℤ◌}
 use lib.Signed.{le_z, lt_z, ◌≤ℤ◌, ◌<ℤ◌}
 use mir.Syntax.{w64}
@@ -19,9 +18,8 @@ use Rattle.pruned.proofs.Moving.{held}
 use Rattle.masks.specs.Mask.{all_ones}
 use Rattle.masks.specs.Leaves.{value_limit, step_limit, row_mask}
 use Rattle.at_once.specs.declared.three.Three.{Three}
-use Rattle.at_once.specs.Words.{word_levels, step_at, fall_of, rise_of, fall_at, rise_at, sizes_of, RowReady, FewValues}
+use Rattle.at_once.specs.Words.{word_levels, step_at, fall_of, rise_of, fall_at, rise_at, sizes_of, FewValues}
 use Rattle.at_once.specs.Own.{alike_words, ThreeReady, ThreeMasks}
-use Rattle.at_once.proofs.Rows.{fewer_digits}
 use Rattle.at_once.proofs.Falling.{falls_are, rises_are, sizes_are, all_black, all_white, least_near, greatest_near}
 
 -- ---- fewer steps fall and rise by no more

@@ -6,21 +6,17 @@ use mathlib.Core.Bool.{true, false}
 use mathlib.Core.List.{List}
 use lib.IntN.{ℤ}
 use lib.ListN.{length, replicate}
-use borrow.Author.Tests.{eq-eqb, ne_eqb}
 use Rattle.universe.specs.declared.Universe.{Universe}
 use Rattle.universe.specs.Universe.{most_axes, levels}
 use Rattle.universe.specs.Questions.{levels_answer}
 use Rattle.universe.specs.Block.{whole_block}
-use Rattle.csg.specs.Halfspace.{Mark}
 use Rattle.csg.specs.Surfaces.{Surfaces, named}
 use Rattle.csg.specs.Tree.{Tree, Plain}
 use Rattle.csg.specs.Words.{tree_of}
 use Rattle.csg.specs.Marks.{tree_mark, tree_colour}
-use Rattle.csg.specs.Raw.{both}
 use Rattle.demands.specs.Voxels.{Colouring}
 use Rattle.contacts.specs.Contacts.{block_of, settled, sure_colour, possible_colour, window_voxels}
 use Rattle.convert.specs.Blocks.{block_left, whole_sides, trees_of}
-use Rattle.convert.specs.Answers.{clearance_refusal}
 use Rattle.pruned.specs.Left.{all_mark, all_colour}
 use Rattle.pruned.specs.Nodes.{most_shapes}
 use Rattle.pruned.proofs.Looked.{two_stand}
@@ -34,7 +30,7 @@ use Rattle.at_once.specs.Words.{Tabled}
 use Rattle.at_once.specs.Own.{all_own}
 use Rattle.at_once.specs.Tallies.{tally_from, tally_over}
 use Rattle.at_once.specs.Whole.{most_codes, both_trees, BothLoaded, WholeReady}
-use Rattle.at_once.specs.Contacts.{refused_contacts, done_contacts, contacts_answer, WholeTally}
+use Rattle.at_once.specs.Contacts.{WholeTally}
 use Rattle.at_once.proofs.Wholes.{both_job, block_is, whole_job, whole_is_of}
 
 module _ {u : Universe} {surfaces : Surfaces} {words₁ words₂ : List ℕ} {from to : ℕ} (r : WholeReady u surfaces words₁ words₂ from to) where

@@ -14,7 +14,7 @@ use Rattle.universe.specs.declared.Universe.{Universe}
 use Rattle.universe.specs.Universe.{longest_side, levels, frame_axis}
 use Rattle.universe.proofs.Universes.{Accepted, accepted, side_positive}
 use Rattle.masks.specs.Mask.{all_ones}
-use Rattle.masks.specs.Steps.{axis_left, side_left, step_along, steps_along}
+use Rattle.masks.specs.Steps.{axis_left, step_along, steps_along}
 use Rattle.masks.specs.Windows.{is_between, window_mask}
 use Rattle.masks.proofs.Mask.{mask_below, mask_cong, everywhere_mask}
 use Rattle.masks.proofs.Steps.{steps_few}

@@ -3,7 +3,7 @@
 use mathlib.Core.Path.{◌≡◌, refl, sym, ap, ap₂, ◌∙◌}
 use mathlib.Core.Bool.{Bool, true, ◌&&◌}
 use mathlib.Core.List.{List}
-use Prim.Native.Nat.{ℕ, suc, ◌-◌, ◌*◌, ◌%◌, ◌≤◌, ◌<◌}
+use Prim.Native.Nat.{ℕ, ◌%◌, ◌≤◌, ◌<◌}
 use native.Mathlib.Omega.{arith}
 use native.Mathlib.Decide.{dec_lt}
 use lib.Dec.{eqb, leb}
@@ -39,7 +39,7 @@ use Rattle.masks.proofs.Block.{Left}
 use Rattle.masks.proofs.Leaves.{row_mask_cong}
 use Rattle.masks.proofs.Limits.{value_few}
 use Rattle.masks.proofs.Trees.{surface_halfspace}
-use Rattle.at_once.specs.Words.{word_levels, Tabled, WordBlock, step_at, RowReady, first_value, RowNamed, SmallTables, StepsOf}
+use Rattle.at_once.specs.Words.{word_levels, WordBlock, step_at, RowReady, first_value, RowNamed, SmallTables, StepsOf}
 use Rattle.at_once.specs.Moves.{RowValue, RowPlaced}
 use Rattle.at_once.proofs.RowValues.{step_small, first_centre}
 

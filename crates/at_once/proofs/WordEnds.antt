@@ -1,5 +1,5 @@
 -- The end of a word by the cases of its definition; it is no further from the block's first frame than the halvings together are long.
-use mathlib.Core.Path.{◌≡◌, refl, sym, ap, ap₂, ◌∙◌}
+use mathlib.Core.Path.{◌≡◌, sym, ap, ap₂, ◌∙◌}
 use mathlib.Core.Bool.{Bool, true, false, cond, not}
 use Prim.Native.Nat.{ℕ, zero, suc, ◌+◌, ◌-◌, ◌*◌, ◌/◌, ◌%◌, ◌^◌, ◌≤◌, ◌<◌}
 use mathlib.Core.List.{List}
@@ -15,7 +15,7 @@ use Rattle.universe.proofs.Universes.{Accepted, accepted}
 use Rattle.masks.specs.Steps.{axis_left, side_left}
 use Rattle.masks.specs.MaskEnds.{mask_end}
 use Rattle.at_once.specs.Words.{Halvings}
-use Rattle.at_once.proofs.Halvings.{side_short, axis_tabled, length_tabled, fewer}
+use Rattle.at_once.proofs.Halvings.{side_short, axis_tabled, length_tabled}
 
 -- ---- the cases
 module _ (last : Bool) (u : Universe) (n m : ℕ) where

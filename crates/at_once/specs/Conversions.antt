@@ -22,13 +22,6 @@ pub record CodesReady (u : Universe) (surfaces : Surfaces) (first second codes :
   pub enough : (levels u + 1) * (length first + length second) ≤ length codes
   pub bounded : length codes < 2 ^ 60
 
--- as much room as is soon cleared, and sooner
-abbrev pub few_codes : ℕ
-few_codes = 1000
-
-abbrev pub least_codes : ℕ
-least_codes = 128
-
 -- two trees that no check refuses, where so many codes suffice
 pub record FewReady (most : ℕ) (u : Universe) (surfaces : Surfaces) (first second : List ℕ) : Type 0 where
   pub ready : Ready u surfaces first second

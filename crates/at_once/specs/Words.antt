@@ -15,7 +15,7 @@ use Rattle.csg.specs.Ball.{Ball, place_axes, most_places, radius_squared, off, b
 use Rattle.csg.specs.Surfaces.{Surfaces, Surface, named, IsNamed}
 use Rattle.csg.specs.Tree.{Plain}
 use Rattle.convert.specs.Blocks.{block_left}
-use Rattle.convert.specs.Small.{SmallPlace, SmallPlaces, SmallHalfspace, SmallBall}
+use Rattle.convert.specs.Small.{SmallPlace, SmallHalfspace, SmallBall}
 use Rattle.pruned.specs.Nodes.{Node, node_code, word_of, LeafOf}
 use Rattle.pruned.specs.Laying.{SoundScene}
 use Rattle.masks.specs.Steps.{side_left}

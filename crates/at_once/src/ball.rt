@@ -5,10 +5,11 @@ ghost use Rattle.convert.specs.Codes.{ball_code_over};
 ghost use Rattle.convert.specs.Small.{SmallPlaces, SmallBall, BallReady};
 ghost use Rattle.pruned.specs.Balls.{BallPlace, DoubledCentre};
 
-use crate::marks::tested_code;
+use convert::tested_code;
 use universe::Universe;
 
-// How far a place and a number of a centre are apart.
+// How far a place and a number of a centre are apart. This, `nearest`, `farthest` and `radius_squared` ask that the
+// numbers are small, and no public function asks anything: crate `pruned` has its own.
 fn apart(place: u64, centre: i64) -> u64
     requires ball_place { BallPlace place }
     requires doubled_centre { DoubledCentre centre }

@@ -1,6 +1,6 @@
 // The conversions over codes: the checks in their order, local room for codes and for short expressions, and the whole
 // universe, merged by colours or raw by marks.
-ghost use Rattle.std.specs.Prelude.{◌≡◌, ◌+◌, length};
+ghost use Rattle.std.specs.Prelude.{◌≡◌, ◌+◌, ◌≤◌, length};
 ghost use Rattle.std.proofs.lemmas.List.Edits.{sets};
 ghost use Rattle.universe.specs.Room.{room};
 ghost use Rattle.bintree.specs.Answers.{written_answer, written_buffer};
@@ -25,7 +25,8 @@ ghost use Rattle.at_once.specs.Counting.{BlockJob};
 ghost use Rattle.at_once.specs.Merged.{AtPlace};
 ghost use Rattle.at_once.specs.Raw.{WrittenShape};
 ghost use Rattle.at_once.specs.Moves.{ValuesAt};
-ghost use Rattle.at_once.specs.Conversions.{written_over, CodesReady, FewReady, least_codes, few_codes};
+ghost use Rattle.at_once.specs.Conversions.{written_over, CodesReady, FewReady};
+ghost use Rattle.at_once.specs.Whole.{most_codes};
 
 use crate::digits::WORD_LEVELS;
 use crate::lay::lay_block;
@@ -61,7 +62,7 @@ fn room_of(universe: Universe, first: &[u16], second: &[u16]) -> u64
 
 // Writes the shape of a block, merged or raw, from the front of the room on, as far as there is room, and gives its
 // length.
-fn write_block(
+fn write_block<const MERGING: bool>(
     axes: usize,
     rows: &[i64],
     balls: &[i64],
@@ -70,7 +71,6 @@ fn write_block(
     low: &mut [u64; Universe::MOST_AXES as usize],
     side: &mut [u64; Universe::MOST_AXES as usize],
     left: u64,
-    merging: bool,
     codes: &mut [u16],
     count: usize,
     starts: &mut [usize; MOST_SHAPES],
@@ -87,9 +87,9 @@ fn write_block(
     ensures { let surfaces = surfaces_of rows.now balls.now in
         ((job : BlockJob surfaces axes table.now lengths.now low.old
         side.old left codes.old 0 count (left + 1))
-        → WrittenShape (written_over merging job) out.old 0 result out.new) }
+        → WrittenShape (written_over MERGING job) out.old 0 result out.new) }
 {
-    if merging {
+    if MERGING {
         let mut belows = [0u64; MOST_SHAPES];
         let mut aboves = [0u64; MOST_SHAPES];
         let packed = lay_block(
@@ -124,23 +124,22 @@ fn write_block(
 }
 
 // Writes the expression of the whole universe, as far as there is room, and gives its length.
-fn write_whole(
+fn write_whole<const MERGING: bool>(
     universe: Universe,
     rows: &[i64],
     balls: &[i64],
     first: &[u16],
     second: &[u16],
-    merging: bool,
     codes: &mut [u16],
     out: &mut [u8],
 ) -> usize
     requires { let surfaces = surfaces_of rows.now balls.now in
         CodesReady universe surfaces first.now second.now codes.old }
     ensures result_value { let surfaces = surfaces_of rows.now balls.now in
-        let written = written_of_two merging universe surfaces first.now second.now in
+        let written = written_of_two MERGING universe surfaces first.now second.now in
         result ≡ length written }
     ensures out_after { let surfaces = surfaces_of rows.now balls.now in
-        let written = written_of_two merging universe surfaces first.now second.now in
+        let written = written_of_two MERGING universe surfaces first.now second.now in
         out.new ≡ sets out.old 0 written }
 {
     let table = universe.axes_left();
@@ -152,7 +151,7 @@ fn write_whole(
     let mut values = [0i64; csg::MOST_ROWS];
     let mut rounds = [0u8; csg::MOST_ROWS];
     load_both(rows, first, second, codes, &mut starts, &mut values);
-    write_block(
+    write_block::<MERGING>(
         universe.axes as usize,
         rows,
         balls,
@@ -161,7 +160,6 @@ fn write_whole(
         &mut low,
         &mut side,
         universe.levels(),
-        merging,
         codes,
         first.len() + second.len(),
         &mut starts,
@@ -173,13 +171,12 @@ fn write_whole(
 }
 
 // The expression is written into scratch room first, which may be none, and again only where it is longer.
-fn through(
+fn through<const MERGING: bool>(
     universe: Universe,
     rows: &[i64],
     balls: &[i64],
     first: &[u16],
     second: &[u16],
-    merging: bool,
     codes: &mut [u16],
     scratch: &mut [u8],
     out: &mut [u8],
@@ -187,15 +184,13 @@ fn through(
     requires { let surfaces = surfaces_of rows.now balls.now in
         CodesReady universe surfaces first.now second.now codes.old }
     ensures result_value { let surfaces = surfaces_of rows.now balls.now in
-        let written = written_of_two merging universe surfaces first.now second.now in
+        let written = written_of_two MERGING universe surfaces first.now second.now in
         writing_told result ≡ written_answer 0 out.old written }
     ensures out_after { let surfaces = surfaces_of rows.now balls.now in
-        let written = written_of_two merging universe surfaces first.now second.now in
+        let written = written_of_two MERGING universe surfaces first.now second.now in
         out.new ≡ written_buffer 0 out.old written }
 {
-    let length = write_whole(
-        universe, rows, balls, first, second, merging, codes, scratch,
-    );
+    let length = write_whole::<MERGING>(universe, rows, balls, first, second, codes, scratch);
     if out.len() < length {
         return Err(Unwritten::NoRoom(length as u64));
     }
@@ -203,40 +198,38 @@ fn through(
         bintree::copy(&scratch[..length], out, 0);
         return Ok(length as u64);
     }
-    write_whole(universe, rows, balls, first, second, merging, codes, out);
+    write_whole::<MERGING>(universe, rows, balls, first, second, codes, out);
     Ok(length as u64)
 }
 
 // The expression of two trees that no check refuses by way of scratch room, no shorter than the room lent, or of none
 // where much is lent: then it is measured first.
-fn in_scratch(
+fn in_scratch<const MERGING: bool>(
     universe: Universe,
     rows: &[i64],
     balls: &[i64],
     first: &[u16],
     second: &[u16],
-    merging: bool,
     codes: &mut [u16],
     out: &mut [u8],
 ) -> Result<u64, Unwritten>
     requires { let surfaces = surfaces_of rows.now balls.now in
         CodesReady universe surfaces first.now second.now codes.old }
     ensures result_value { let surfaces = surfaces_of rows.now balls.now in
-        let written = written_of_two merging universe surfaces first.now second.now in
+        let written = written_of_two MERGING universe surfaces first.now second.now in
         writing_told result ≡ written_answer 0 out.old written }
     ensures out_after { let surfaces = surfaces_of rows.now balls.now in
-        let written = written_of_two merging universe surfaces first.now second.now in
+        let written = written_of_two MERGING universe surfaces first.now second.now in
         out.new ≡ written_buffer 0 out.old written }
 {
     if out.len() <= SHORT_SCRATCH {
         let mut scratch = [0u8; SHORT_SCRATCH];
-        return through(
+        return through::<MERGING>(
             universe,
             rows,
             balls,
             first,
             second,
-            merging,
             codes,
             &mut scratch,
             out,
@@ -244,148 +237,92 @@ fn in_scratch(
     }
     if out.len() <= MOST_SCRATCH {
         let mut scratch = [0u8; MOST_SCRATCH];
-        return through(
+        return through::<MERGING>(
             universe,
             rows,
             balls,
             first,
             second,
-            merging,
             codes,
             &mut scratch,
             out,
         );
     }
     let mut none = [0u8; 0];
-    through(
-        universe, rows, balls, first, second, merging, codes, &mut none, out,
-    )
+    through::<MERGING>(universe, rows, balls, first, second, codes, &mut none, out)
 }
 
 // The same: written at once where as much room is lent as the room formula says, which is not asked where so little is
 // lent that scratch room serves as well.
-fn in_codes(
+fn in_codes<const MERGING: bool>(
     universe: Universe,
     rows: &[i64],
     balls: &[i64],
     first: &[u16],
     second: &[u16],
-    merging: bool,
     codes: &mut [u16],
     out: &mut [u8],
 ) -> Result<u64, Unwritten>
     requires { let surfaces = surfaces_of rows.now balls.now in
         CodesReady universe surfaces first.now second.now codes.old }
     ensures result_value { let surfaces = surfaces_of rows.now balls.now in
-        let written = written_of_two merging universe surfaces first.now second.now in
+        let written = written_of_two MERGING universe surfaces first.now second.now in
         writing_told result ≡ written_answer 0 out.old written }
     ensures out_after { let surfaces = surfaces_of rows.now balls.now in
-        let written = written_of_two merging universe surfaces first.now second.now in
+        let written = written_of_two MERGING universe surfaces first.now second.now in
         out.new ≡ written_buffer 0 out.old written }
 {
     if out.len() <= SHORT_SCRATCH {
-        return in_scratch(universe, rows, balls, first, second, merging, codes, out);
+        return in_scratch::<MERGING>(universe, rows, balls, first, second, codes, out);
     }
     if room_of(universe, first, second) <= out.len() as u64 {
-        let length = write_whole(universe, rows, balls, first, second, merging, codes, out);
+        let length = write_whole::<MERGING>(universe, rows, balls, first, second, codes, out);
         return Ok(length as u64);
     }
-    in_scratch(universe, rows, balls, first, second, merging, codes, out)
+    in_scratch::<MERGING>(universe, rows, balls, first, second, codes, out)
 }
 
-// The same with local room for the fewest codes.
-fn in_least(
+// The same with local room for so many codes.
+fn in_room<const CODES: usize, const MERGING: bool>(
     universe: Universe,
     rows: &[i64],
     balls: &[i64],
     first: &[u16],
     second: &[u16],
-    merging: bool,
     out: &mut [u8],
 ) -> Result<u64, Unwritten>
-    requires { let surfaces = surfaces_of rows.now balls.now in
-        FewReady least_codes universe surfaces first.now second.now }
+    requires codes_small { CODES ≤ most_codes }
+    requires few_ready { let surfaces = surfaces_of rows.now balls.now in
+        FewReady CODES universe surfaces first.now second.now }
     ensures result_value { let surfaces = surfaces_of rows.now balls.now in
-        let written = written_of_two merging universe surfaces first.now second.now in
+        let written = written_of_two MERGING universe surfaces first.now second.now in
         writing_told result ≡ written_answer 0 out.old written }
     ensures out_after { let surfaces = surfaces_of rows.now balls.now in
-        let written = written_of_two merging universe surfaces first.now second.now in
+        let written = written_of_two MERGING universe surfaces first.now second.now in
         out.new ≡ written_buffer 0 out.old written }
 {
-    let mut codes = [0u16; LEAST_CODES];
-    in_codes(
-        universe, rows, balls, first, second, merging, &mut codes, out,
-    )
-}
-
-// The same with local room for few codes.
-fn in_few(
-    universe: Universe,
-    rows: &[i64],
-    balls: &[i64],
-    first: &[u16],
-    second: &[u16],
-    merging: bool,
-    out: &mut [u8],
-) -> Result<u64, Unwritten>
-    requires { let surfaces = surfaces_of rows.now balls.now in
-        FewReady few_codes universe surfaces first.now second.now }
-    ensures result_value { let surfaces = surfaces_of rows.now balls.now in
-        let written = written_of_two merging universe surfaces first.now second.now in
-        writing_told result ≡ written_answer 0 out.old written }
-    ensures out_after { let surfaces = surfaces_of rows.now balls.now in
-        let written = written_of_two merging universe surfaces first.now second.now in
-        out.new ≡ written_buffer 0 out.old written }
-{
-    let mut codes = [0u16; FEW_CODES];
-    in_codes(
-        universe, rows, balls, first, second, merging, &mut codes, out,
-    )
-}
-
-// The same with local room for the most codes.
-fn in_most(
-    universe: Universe,
-    rows: &[i64],
-    balls: &[i64],
-    first: &[u16],
-    second: &[u16],
-    merging: bool,
-    out: &mut [u8],
-) -> Result<u64, Unwritten>
-    requires { Ready universe (surfaces_of rows.now balls.now) first.now second.now }
-    ensures result_value { let surfaces = surfaces_of rows.now balls.now in
-        let written = written_of_two merging universe surfaces first.now second.now in
-        writing_told result ≡ written_answer 0 out.old written }
-    ensures out_after { let surfaces = surfaces_of rows.now balls.now in
-        let written = written_of_two merging universe surfaces first.now second.now in
-        out.new ≡ written_buffer 0 out.old written }
-{
-    let mut codes = [0u16; MOST_CODES];
-    in_codes(
-        universe, rows, balls, first, second, merging, &mut codes, out,
-    )
+    let mut codes = [0u16; CODES];
+    in_codes::<MERGING>(universe, rows, balls, first, second, &mut codes, out)
 }
 
 // The expression of two trees, or the number that refuses it.
-fn of_two(
+fn of_two<const MERGING: bool>(
     universe: Universe,
     rows: &[i64],
     balls: &[i64],
     first: &[u16],
     second: &[u16],
-    merging: bool,
     out: &mut [u8],
 ) -> Result<u64, Unwritten>
     ensures result_value { let surfaces = surfaces_of rows.now balls.now in
         let first = first.entry.now in
         let second = second.entry.now in
-        let written = written_of_two merging universe surfaces first second in
+        let written = written_of_two MERGING universe surfaces first second in
         writing_told result ≡ written_answer (two_trees_refusal universe surfaces first second) out.old written }
     ensures out_after { let surfaces = surfaces_of rows.now balls.now in
         let first = first.entry.now in
         let second = second.entry.now in
-        let written = written_of_two merging universe surfaces first second in
+        let written = written_of_two MERGING universe surfaces first second in
         out.new
         ≡ written_buffer (two_trees_refusal universe surfaces first second) out.old written }
 {
@@ -393,12 +330,12 @@ fn of_two(
     let words = (first.len() + second.len()) as u64;
     let needed = (universe.levels() + 1) * words;
     if needed <= LEAST_CODES as u64 {
-        return in_least(universe, rows, balls, first, second, merging, out);
+        return in_room::<LEAST_CODES, MERGING>(universe, rows, balls, first, second, out);
     }
     if needed <= FEW_CODES as u64 {
-        return in_few(universe, rows, balls, first, second, merging, out);
+        return in_room::<FEW_CODES, MERGING>(universe, rows, balls, first, second, out);
     }
-    in_most(universe, rows, balls, first, second, merging, out)
+    in_room::<MOST_CODES, MERGING>(universe, rows, balls, first, second, out)
 }
 
 // The merged expression of two trees intersected. Room that is as large as the room formula says suffices.
@@ -416,7 +353,7 @@ pub fn merged_of_two(
         out.new
         ≡ merged_of_two_buffer universe surfaces first.now second.now out.old }
 {
-    of_two(universe, rows, balls, first, second, true, out)
+    of_two::<true>(universe, rows, balls, first, second, out)
 }
 
 // The merged expression of one tree: that tree intersected with BLACK.
@@ -433,7 +370,7 @@ pub fn merged_of_one(
         out.new ≡ merged_of_one_buffer universe surfaces words.now out.old }
 {
     let black = [csg::BLACK];
-    of_two(universe, rows, balls, words, &black, true, out)
+    of_two::<true>(universe, rows, balls, words, &black, out)
 }
 
 // The raw expression of two trees intersected. Room that is as large as the room formula says suffices.
@@ -451,7 +388,7 @@ pub fn raw_of_two(
         out.new
         ≡ raw_of_two_buffer universe surfaces first.now second.now out.old }
 {
-    of_two(universe, rows, balls, first, second, false, out)
+    of_two::<false>(universe, rows, balls, first, second, out)
 }
 
 // The raw expression of one tree: that tree intersected with BLACK.
@@ -468,5 +405,5 @@ pub fn raw_of_one(
         out.new ≡ raw_of_one_buffer universe surfaces words.now out.old }
 {
     let black = [csg::BLACK];
-    of_two(universe, rows, balls, words, &black, false, out)
+    of_two::<false>(universe, rows, balls, words, &black, out)
 }

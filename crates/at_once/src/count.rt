@@ -11,12 +11,12 @@ use crate::both::both_words;
 use crate::digits::{WORD_LEVELS, ones_of};
 use crate::ends::word_end;
 use crate::frames::{joined, voxels_of};
-use crate::marks::{BLACK_BIT, WHITE_BIT};
 use crate::moves::move_values;
 use crate::prune::{MOST_SHAPES, prune};
 use crate::window::frames_word;
 use crate::word::trees_word;
 use bintree::Contact;
+use convert::{BLACK_BIT, WHITE_BIT};
 use universe::Universe;
 
 // Joins a word of a block: its ones within the window are counted, and the ends are read off it where the block's

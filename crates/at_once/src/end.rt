@@ -12,11 +12,11 @@ ghost use Rattle.at_once.specs.Words.{word_levels};
 use crate::both::both_words;
 use crate::digits::WORD_LEVELS;
 use crate::ends::word_end;
-use crate::marks::{BLACK_BIT, WHITE_BIT};
 use crate::moves::{move_values, move_where, turned};
 use crate::prune::{MOST_SHAPES, prune};
 use crate::window::frames_word;
 use crate::word::trees_word;
+use convert::{BLACK_BIT, WHITE_BIT};
 use universe::Universe;
 
 // One of two numbers, by a test.

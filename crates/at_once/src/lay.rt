@@ -1,7 +1,7 @@
 // The recursion over blocks that lays the merged expression of what is carried, by the colours of blocks.
 ghost use Rattle.std.specs.Prelude.{◌≡◌, true, ◌+◌, ◌≤◌, ◌<◌};
 ghost use Rattle.csg.specs.Surfaces.{surfaces_of};
-ghost use Rattle.convert.specs.Shapes.{symbol_of_bits, end_limit};
+ghost use Rattle.convert.specs.Shapes.{end_limit};
 ghost use Rattle.pruned.specs.Nodes.{Shelves};
 ghost use Rattle.pruned.specs.Laying.{joined_packed, joined_out};
 ghost use Rattle.at_once.specs.Words.{word_levels};
@@ -12,19 +12,12 @@ ghost use Rattle.at_once.specs.Merged.{shape_over, LaidShape, AtPlace};
 
 use crate::both::both_words;
 use crate::digits::WORD_LEVELS;
-use crate::marks::BLACK_BIT;
 use crate::moves::move_values;
 use crate::prune::{MOST_SHAPES, prune};
 use crate::text::{HELD_UNIT, lay_word};
 use crate::word::trees_word;
+use convert::symbol_of;
 use universe::Universe;
-
-// The symbol of a block over which the trees are decided.
-pub(crate) fn symbol_of(mark: u8) -> u8
-    ensures { result ≡ symbol_of_bits mark }
-{
-    if mark == BLACK_BIT { b'B' } else { b'W' }
-}
 
 // Joins two halves that are laid behind the place of their `(`, and packs what they come to: leaves of one colour are
 // held back as one.

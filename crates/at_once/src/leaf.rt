@@ -11,8 +11,9 @@ ghost use Rattle.at_once.specs.Moves.{lengths_by, times_of, row_of, SmallTimes, 
 ghost use Rattle.at_once.specs.Pruning.{LeafJob, LeafJudged};
 
 use crate::ball::code_of_ball;
-use crate::marks::{BLACK_BIT, WHITE_BIT, side_code, turned_code};
 use crate::moves::amount;
+use convert::{BLACK_BIT, WHITE_BIT};
+use pruned::{side_code, turned_code};
 use universe::Universe;
 
 // The least and the greatest value of a halfspace over a block.
@@ -84,7 +85,7 @@ const FIRST_SIDE: u16 = 2 * csg::FIRST_HALFSPACE;
 
 const FIRST_BALL_SIDE: u16 = 2 * csg::FIRST_BALL;
 
-// The code of a side that is reversed is odd.
+// The code of a side that is reversed is odd. A node's code in crate `pruned` is longer, and one line there as well.
 fn is_turned(code: u16) -> bool
     ensures { result ≡ eqb (code % 2) 1 }
 {
@@ -126,7 +127,7 @@ pub(crate) fn judge_leaf(
 {
     if is_row_side(code) {
         let ends = extremes_of_row(rows, row_of(code), values, times);
-        return side_code(code, 0 <= ends.least, ends.greatest <= 0);
+        return side_code(is_turned(code), 0 <= ends.least, ends.greatest <= 0);
     }
     if code < FIRST_SIDE {
         if code == 0 {

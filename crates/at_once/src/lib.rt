@@ -14,7 +14,6 @@ mod frames;
 mod lay;
 mod leaf;
 mod load;
-mod marks;
 mod moves;
 mod own;
 mod pair;

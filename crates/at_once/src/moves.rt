@@ -21,7 +21,7 @@ ghost use Rattle.at_once.specs.Moves.{
 use crate::leaf::{is_row_side, row_of};
 use universe::Universe;
 
-// How often 1 is doubled to a length that is a power of two.
+// How often 1 is doubled to a length that is a power of two: one call of the library, which needs no public function.
 pub(crate) fn doublings(length: u64) -> u64
     ensures { result ≡ doublings_of length }
 {
@@ -41,7 +41,8 @@ pub(crate) fn times_of(
     [first, second, third, fourth]
 }
 
-// The amount of a coefficient and a length to which 1 is doubled so often: the coefficient, doubled so often.
+// The amount of a coefficient and a length to which 1 is doubled so often: the coefficient, doubled so often. It asks
+// that this fits, and no public function asks anything: crate `pruned` has its own.
 pub(crate) fn amount(coefficient: i64, times: u64) -> i64
     requires small_coefficient { SmallCoefficient coefficient }
     requires times_bound { times < 64 }

@@ -1,17 +1,17 @@
 // Pruning: one pass in postfix order over the codes that are carried into a block writes what is left of their trees.
-ghost use Rattle.std.specs.Prelude.{◌≡◌};
+ghost use Rattle.std.specs.Prelude.{◌≡◌, ◌+◌, ◌^◌, ◌<◌};
 ghost use Rattle.csg.specs.Surfaces.{surfaces_of};
-ghost use Rattle.pruned.specs.Nodes.{is_join, whole_mark, Shelves};
+ghost use Rattle.pruned.specs.Nodes.{is_join, end_after, Shelves};
 ghost use Rattle.at_once.specs.Moves.{RightValues};
 ghost use Rattle.at_once.specs.Pruning.{PruneJob, PrunedCodes};
 
 use crate::leaf::judge_leaf;
-use crate::marks::{end_after, joined_code};
 use crate::moves::times_of;
+use pruned::{joined_code, whole_mark};
 use universe::Universe;
 
 // The most shapes that are pending while two trees are read one after the other.
-pub(crate) const MOST_SHAPES: usize = csg::MOST_PENDING + 1;
+pub(crate) const MOST_SHAPES: usize = pruned::MOST_SHAPES;
 
 // The code of UNION's node, that of INTERSECTION's, and one past it.
 const UNION_NODE: u16 = 4;
@@ -20,24 +20,31 @@ pub(crate) const INTERSECTION_NODE: u16 = 6;
 
 const PAST_JOINS: u16 = 8;
 
-// Whether a code is an operator's.
+// Whether a code is an operator's. A code is two bytes long here and a node's is eight in crate `pruned`: one function
+// over both would be longer than the two lines of each.
 pub(crate) fn is_join(code: u16) -> bool
     ensures { result ≡ is_join code }
 {
     UNION_NODE <= code && code < PAST_JOINS
 }
 
-// The mark of one tree, or of two intersected, by their codes.
-fn whole_mark(marks: &[u8; MOST_SHAPES], pending: usize) -> u8
-    ensures { result ≡ whole_mark marks.now pending }
+// Where the codes end after one that is stored at `end`. It asks that this fits, and no public function asks anything:
+// `pruned` has its own.
+fn end_after(code: u8, a: u8, b: u8, start: usize, end: usize) -> usize
+    requires { end + 1 < 2 ^ 64 }
+    ensures { result ≡ end_after code a b start end }
 {
-    if pending == 2 {
-        return joined_code(true, marks[0], marks[1]);
+    if code != 0 {
+        return start;
     }
-    marks[0]
+    if a != 0 || b != 0 {
+        return end;
+    }
+    end + 1
 }
 
-// What pruning comes to: the mark's bits, and how many codes are kept.
+// What pruning comes to: the mark's bits, and how many codes are kept. No enum of a mark and of codes: where the mark
+// is decided there can be codes too, those of a tree that the other one settles.
 #[derive(Clone, Copy)]
 pub(crate) struct Kept {
     pub mark: u8,

@@ -9,10 +9,10 @@ ghost use Rattle.at_once.specs.Merged.{AtPlace};
 ghost use Rattle.at_once.specs.Raw.{raw_over, raw_halves, WrittenShape};
 
 use crate::digits::WORD_LEVELS;
-use crate::lay::symbol_of;
 use crate::moves::move_values;
 use crate::prune::{MOST_SHAPES, prune};
 use crate::voxel::trees_digit;
+use convert::symbol_of;
 use universe::Universe;
 
 // No level is left of a block that is a voxel.

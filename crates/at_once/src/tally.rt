@@ -10,11 +10,11 @@ ghost use Rattle.at_once.specs.Tallies.{tally_over, tally_of, tallied, SmallTall
 use crate::answer::Contacts;
 use crate::digits::{WORD_LEVELS, ones_of};
 use crate::frames::voxels_of;
-use crate::marks::{BLACK_BIT, WHITE_BIT};
 use crate::moves::move_values;
 use crate::prune::{MOST_SHAPES, prune};
 use crate::three::three_words;
 use crate::window::frames_word;
+use convert::{BLACK_BIT, WHITE_BIT};
 use universe::Universe;
 
 // So many voxels of one colour, with no doubt: BLACK ones, or none.

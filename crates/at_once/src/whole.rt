@@ -23,7 +23,8 @@ use universe::Universe;
 // The most codes that stand at once: those of two trees for each level, and once more.
 pub(crate) const MOST_CODES: usize = (Universe::MOST_LEVELS as usize + 1) * 2 * csg::MOST_WORDS;
 
-// The sides of the whole universe; 0 along an axis that it lacks.
+// The sides of the whole universe; 0 along an axis that it lacks: four calls, which a public function would make no
+// plainer.
 pub(crate) fn whole_sides(universe: Universe) -> [u64; Universe::MOST_AXES as usize]
     ensures { result ≡ whole_sides universe }
 {

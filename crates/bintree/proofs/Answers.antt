@@ -13,6 +13,7 @@ use Rattle.universe.specs.Questions.{levels_answer}
 use Rattle.universe.specs.Refusals.{bad_expression, first_refusal}
 use Rattle.universe.specs.Universe.{universe_refusal, levels, most_levels}
 use Rattle.universe.proofs.Refusing.{last_check}
+use Rattle.universe.proofs.Universes.{accepted, levels_few}
 use Rattle.universe.proofs.Lent.{untouched, written, room_enough, room_short}
 use Rattle.universe.proofs.Questions.{levels_told, levels_answered}
 use Rattle.bintree.specs.Told.{WrittenAnswer}
@@ -40,12 +41,17 @@ module _ {A : Type 0} (refused : ℕ → A) (done : A) (n : ℕ) where
 pub levels_most : (u : Universe) (count : ℕ) → count ≡ levels_answer u → count ≤ most_levels
 levels_most u count f = rw f (levels_answered u)
 
--- a place below them in an array of numbers
-pub place_fits : (u : Universe) (n count : ℕ) → count ≡ levels_answer u → n < count → n < most_levels
-place_fits u n count f h = omega (arith, levels_most u count f)
+-- the levels of an accepted universe, and a place below them in an array of numbers
+module _ (u : Universe) (ok : universe_refusal u ≡ 0) (count : ℕ) (c : count ≡ levels u) where
+  pub accepted_most : count ≤ most_levels
+  accepted_most = omega (arith, levels_few u (accepted u ok))
 
-pub place_room : (u : Universe) (n count : ℕ) → count ≡ levels_answer u → n < count → n * 8 < 2 ^ 64
-place_room u n count f h = omega (arith, levels_most u count f)
+  module _ (n : ℕ) (h : n < count) where
+    pub place_fits : n < most_levels
+    place_fits = omega (arith, accepted_most)
+
+    pub place_room : n * 8 < 2 ^ 64
+    place_room = omega (arith, accepted_most)
 
 -- `number` is what the universe's own check gave
 module _ (u : Universe) (number : ℕ) (e : number ≡ universe_refusal u) where

@@ -1,6 +1,6 @@
 -- The frames of a block by the levels left to it: how many bits they have, and how much later those of a high half begin than its block's; and the laws of the
 -- functions of src/window.rt that make tables of both. Each law takes its premises in the form that code leaves them.
-use mathlib.Core.Path.{◌≡◌, refl, sym, ap, ◌∙◌}
+use mathlib.Core.Path.{◌≡◌, sym, ap, ◌∙◌}
 use mathlib.Core.Bool.{cond}
 use mathlib.Core.List.{List}
 use Prim.Native.Nat.{ℕ, zero, suc, ◌+◌, ◌-◌, ◌*◌, ◌%◌, ◌^◌, ◌≤◌, ◌<◌}
@@ -15,11 +15,11 @@ use lib.Pow.{pow_mono}
 use lib.Seq.{get_or-set_same, get_or-set_other}
 use Rattle.lemmas.proofs.Machine.{shifted_one}
 use Rattle.universe.specs.declared.Universe.{Universe}
-use Rattle.universe.specs.Questions.{levels_answer, axes_left}
+use Rattle.universe.specs.Questions.{axes_left}
 use Rattle.universe.specs.Universe.{universe_refusal, bits_along, levels, most_levels, axis_at, frame_axis, halvings}
 use Rattle.universe.proofs.Universes.{accepted, levels_few}
 use Rattle.universe.proofs.Universes.{halvings_first, halvings_here, halvings_kept, halvings_mono, halvings_most, halvings_all}
-use Rattle.universe.proofs.Questions.{levels_told, axes_left_at}
+use Rattle.universe.proofs.Questions.{axes_left_at}
 use Rattle.bintree.specs.Windows.{frame_bits, later_frames, FrameTable, LaterTable}
 use Rattle.bintree.proofs.Answers.{place_fits, place_room}
 
@@ -70,17 +70,14 @@ module _ (u : Universe) (ok : universe_refusal u ≡ 0) where
   bits_first = rw (sub_self (levels u), halvings_first u (frame_axis u), sub-zero (bits_along u (frame_axis u)))
 
 -- the laws of `frame_halvings`
-module _ (u : Universe) (i : ℕ) where
-  pub frame_axes : universe_refusal u ≡ 0 → 1 ≤ u.axes
-  frame_axes ok = (accepted u ok).some_axes
+module _ (u : Universe) (i axis : ℕ) (f : axis ≡ frame_axis u) where
+  pub once_across : i ≡ axis → ◌≡◌ {A = ℕ} 1 (cond (eqb i (frame_axis u)) 1 0)
+  once_across e = rw (eq-eqb i (frame_axis u) (e ∙ f))
 
-  pub once_across : i ≡ u.axes - 1 → ◌≡◌ {A = ℕ} 1 (cond (eqb i (frame_axis u)) 1 0)
-  once_across e = rw (eq-eqb i (frame_axis u) e)
+  pub never_along : (i ≡ axis → ⊥) → ◌≡◌ {A = ℕ} 0 (cond (eqb i (frame_axis u)) 1 0)
+  never_along n = rw (ne_eqb i (frame_axis u) (λ e. n (e ∙ sym f)))
 
-  pub never_along : (i ≡ u.axes - 1 → ⊥) → ◌≡◌ {A = ℕ} 0 (cond (eqb i (frame_axis u)) 1 0)
-  never_along n = rw (ne_eqb i (frame_axis u) n)
-
-pub ruleset halving_laws = (rules, frame_axes, once_across, never_along)
+pub ruleset halving_laws = (rules, once_across, never_along)
 
 -- ---- the laws of `frame_bits`: the table is right up to n levels left
 pub record Tabled (u : Universe) (table : List ℕ) (n : ℕ) : Type 0 where
@@ -93,13 +90,10 @@ module _ (u : Universe) (ok : universe_refusal u ≡ 0) where
   tabled_first table e f =
       record { few = omega arith; long = e; holds = λ m h. let z : m ≡ 0 = omega arith in rw z (f ∙ sym (bits_last u ok)) }
 
-  module _ (table axes : List ℕ) (n count : ℕ) (a : axes ≡ axes_left u) (c : count ≡ levels_answer u) (w : Tabled u table n) where
-    its_levels : count ≡ levels u
-    its_levels = levels_told u refl ok c
-
+  module _ (table axes : List ℕ) (n count : ℕ) (a : axes ≡ axes_left u) (c : count ≡ levels u) (w : Tabled u table n) where
     module _ (h : n < count) where
       level_there : n < levels u
-      level_there = omega (arith, its_levels)
+      level_there = omega arith
 
       most : n < most_levels
       most = omega (arith, level_there, levels_few u (accepted u ok))
@@ -141,7 +135,7 @@ module _ (u : Universe) (ok : universe_refusal u ≡ 0) where
             at m k (no e) = get_or-set_other table (n + 1) m (get_or table n 0 + one) 0 e ∙ w.holds m (omega arith)
 
     pub table_whole : count ≤ n → FrameTable u table
-    table_whole h = record { long = w.long; holds = λ m k. w.holds m (omega (arith, its_levels)) }
+    table_whole h = record { long = w.long; holds = λ m k. w.holds m (omega arith) }
 
 pub ruleset table_laws = (rules, place_fits, place_room, tabled_first, table_place, table_next, table_next_room, table_fits, tabled_next, table_whole)
 
@@ -154,10 +148,10 @@ pub record Later (bits table : List ℕ) (count n : ℕ) : Type 0 where
 pub later_first : (bits table : List ℕ) (count : ℕ) → length table ≡ most_levels → Later bits table count 0
 later_first bits table count e = record { few = omega arith; long = e; holds = λ m h. absurd (omega arith) }
 
-module _ (u : Universe) (ok : universe_refusal u ≡ 0) (bits table : List ℕ) (t : FrameTable u bits) (n count : ℕ) (c : count ≡ levels_answer u) where
+module _ (u : Universe) (ok : universe_refusal u ≡ 0) (bits table : List ℕ) (t : FrameTable u bits) (n count : ℕ) (c : count ≡ levels u) where
   module _ (h : n < count) where
     below_all : n < levels u
-    below_all = omega (arith, levels_told u refl ok c)
+    below_all = omega arith
 
     wide_is : get_or bits (n + 1) 0 ≡ frame_bits u (suc n)
     wide_is = let s : n + 1 ≡ suc n = omega arith in rw s (t.holds (suc n) below_all)
@@ -166,19 +160,19 @@ module _ (u : Universe) (ok : universe_refusal u ≡ 0) (bits table : List ℕ) 
     narrow_is = t.holds n (omega (arith, below_all))
 
     pub later_place : n < suc most_levels
-    later_place = omega (arith, place_fits u n count c h)
+    later_place = omega (arith, place_fits u ok count c n h)
 
     pub later_next_place : n + 1 < suc most_levels
-    later_next_place = omega (arith, place_fits u n count c h)
+    later_next_place = omega (arith, place_fits u ok count c n h)
 
     pub later_next_room : (n + 1) * 8 < 2 ^ 64
-    later_next_room = omega (arith, place_fits u n count c h)
+    later_next_room = omega (arith, place_fits u ok count c n h)
 
     pub wide_shift : get_or bits (n + 1) 0 < 64
-    wide_shift = omega (arith, wide_is, bits_left u ok (suc n) below_all, place_fits u n count c h)
+    wide_shift = omega (arith, wide_is, bits_left u ok (suc n) below_all, place_fits u ok count c n h)
 
     pub narrow_shift : get_or bits n 0 < 64
-    narrow_shift = omega (arith, narrow_is, bits_left u ok n (omega (arith, below_all)), place_fits u n count c h)
+    narrow_shift = omega (arith, narrow_is, bits_left u ok n (omega (arith, below_all)), place_fits u ok count c n h)
 
     pub later_less : (1 * 2 ^ get_or bits n 0) % 2 ^ 64 ≤ (1 * 2 ^ get_or bits (n + 1) 0) % 2 ^ 64
     later_less =
@@ -194,7 +188,7 @@ module _ (u : Universe) (ok : universe_refusal u ≡ 0) (bits table : List ℕ) 
         more = 2 ^ get_or bits (n + 1) 0 - 2 ^ get_or bits n 0
 
         at : (m : ℕ) → m < n + 1 → Dec (m ≡ n) → get_or (set table n more) m 0 ≡ 2 ^ get_or bits (m + 1) 0 - 2 ^ get_or bits m 0
-        at m k (yes e) = rw e (get_or-set_same table n more 0 (omega (arith, place_fits u n count c h, w.long)))
+        at m k (yes e) = rw e (get_or-set_same table n more 0 (omega (arith, place_fits u ok count c n h, w.long)))
         at m k (no e) = get_or-set_other table n m more 0 e ∙ w.holds m (omega arith)
 
   pub later_whole : Later bits table count n → count ≤ n → LaterTable u table
@@ -203,7 +197,7 @@ module _ (u : Universe) (ok : universe_refusal u ≡ 0) (bits table : List ℕ) 
       at : (m : ℕ) → m < levels u → get_or table m 0 ≡ later_frames u m
       at m k =
           let s : m + 1 ≡ suc m = omega arith in
-          w.holds m (omega (arith, levels_told u refl ok c)) ∙ rw (s, t.holds (suc m) k, t.holds m (omega arith))
+          w.holds m (omega arith) ∙ rw (s, t.holds (suc m) k, t.holds m (omega arith))
 
 pub ruleset later_laws =
     (rules, place_fits, place_room, later_first, later_place, later_next_place, later_next_room, wide_shift, narrow_shift, later_less, later_next, later_whole)

@@ -11,10 +11,11 @@ use denote.Ref.{Bor}
 use lib.ListN.{length, get_or, take, drop}
 use Rattle.std.specs.Prelude.{Option, Some, None}
 use Rattle.universe.specs.declared.Universe.{Universe}
-use Rattle.universe.specs.Questions.{levels_answer}
+use Rattle.universe.specs.declared.accepted.Accepted.{Accepted}
+use Rattle.universe.specs.Accepting.{accepted_answer}
 use Rattle.universe.specs.Refusals.{bad_expression, outside}
-use Rattle.universe.specs.Universe.{universe_refusal, levels}
-use Rattle.universe.proofs.Questions.{levels_told}
+use Rattle.universe.specs.Universe.{levels}
+use Rattle.universe.proofs.Acceptance.{accepted_number, accepted_same}
 use Rattle.bintree.specs.declared.Colour.{Colour}
 use Rattle.bintree.specs.declared.Colour.TheVariants.{White, Black}
 use Rattle.bintree.specs.Told.{PlacedAnswer}
@@ -28,22 +29,19 @@ use Rattle.bintree.specs.Walks.{walked, traced}
 use Rattle.bintree.proofs.Reading.{leaf_at, other_at, end_at, deep_at, low_missing, high_missing, both_read}
 use Rattle.bintree.proofs.Reading.{expression_none, expression_rest, expression_read}
 use Rattle.bintree.proofs.Parts.{path_accepted, path_refused, part_empty, start_empty, placed_within}
-use Rattle.bintree.proofs.Answers.{is_refused, is_done, asked_levels, answer_universe, answer_none, answer_last}
+use Rattle.bintree.proofs.Answers.{is_refused, is_done, answer_universe, answer_none, answer_last}
 use Rattle.bintree.proofs.Walks.{Passed, passed, nowhere_none}
 
 -- the laws of `check_path`
-module _ (path : List ℕ) (u : Universe) (ok : universe_refusal u ≡ 0) where
-  pub too_long : (count : ℕ) → count ≡ levels_answer u → count < length path → outside ≡ path_refusal u path
-  too_long count c h = sym (path_refused u path (λ w. omega (arith, w.short, levels_told u refl ok c)))
+module _ (path : List ℕ) (u : Universe) where
+  pub too_long : (count : ℕ) → count ≡ levels u → count < length path → outside ≡ path_refusal u path
+  too_long count c h = sym (path_refused u path (λ w. omega (arith, w.short)))
 
   pub no_half : (i : ℕ) → i < length path → 1 < get_or path i 0 → outside ≡ path_refusal u path
   no_half i h k = sym (path_refused u path (λ w. omega (arith, w.halves i h)))
 
-  pub halves_all :
-      (count : ℕ) → count ≡ levels_answer u → length path ≤ count → ((i : ℕ) → i < length path → get_or path i 0 ≤ 1) →
-      0 ≡ path_refusal u path
-  halves_all count c k h =
-      sym (path_accepted u path (record { short = omega (arith, levels_told u refl ok c); halves = λ i l. omega (arith, h i l) }))
+  pub halves_all : (count : ℕ) → count ≡ levels u → length path ≤ count → ((i : ℕ) → i < length path → get_or path i 0 ≤ 1) → 0 ≡ path_refusal u path
+  halves_all count c k h = sym (path_accepted u path (record { short = omega arith; halves = λ i l. omega (arith, h i l) }))
 
 -- an answer from what is read, and what is read from an answer
 traced_none : (p : ℕ) (path : List ℕ) {x : Reading} → x ≡ none → None ≡ traced p x path
@@ -201,45 +199,54 @@ module _ (s path : List ℕ) (n p : ℕ) where
                   long = y.long ∙ ap size (sym (part_upper w.shape y.shape h rest z));
                 }))
 
--- the laws of `part_place`: `number` is the universe's own check, and the path is followed from the first symbol on
-module _ (u : Universe) (s path : List ℕ) (number : ℕ) (e : number ≡ universe_refusal u) where
-  pub place_refused : (number ≡ 0 → ⊥) → refused_place number ≡ place_answer u s path
-  unfolding place_answer
-  place_refused n = answer_universe u number e s (path_refusal u path ∷ []) refused_place _ _ n refl
+-- the laws of `part_place`: a universe that is refused, and an accepted one, of which the path is followed from the first symbol on
+pub place_refused :
+    (u : Universe) (s path : List ℕ) {n : ℕ} {v : Universe} → record { refusal = n; universe = v } ≡ accepted_answer u → (n ≡ 0 → ⊥) →
+    refused_place n ≡ place_answer u s path
+unfolding place_answer
+place_refused u s path {n} told h = answer_universe u n (accepted_number u told) s (path_refusal u path ∷ []) refused_place _ _ h refl
 
-  seven : number ≡ 0 → expression u s ≡ none → refused_place bad_expression ≡ place_answer u s path
-  unfolding place_answer
-  seven z x = answer_none u number e s (path_refusal u path ∷ []) refused_place _ _ z x refl
+module _ (asked : Universe) (a : Accepted) (s path : List ℕ) (told : record { refusal = 0; universe = a.universe } ≡ accepted_answer asked) where
+  abbrev u : Universe
+  u = a.universe
 
-  module _ (z : number ≡ 0) (count : ℕ) (c : count ≡ levels_answer u) where
+  same_place : place_answer u s path ≡ place_answer asked s path
+  same_place = ap (λ v. place_answer v s path) (accepted_same asked told refl)
+
+  seven : expression u s ≡ none → refused_place bad_expression ≡ place_answer asked s path
+  unfolding place_answer
+  seven x = answer_none u 0 (sym a.not_refused) s (path_refusal u path ∷ []) refused_place _ _ refl x refl ∙ same_place
+
+  module _ (count : ℕ) (c : count ≡ levels a.universe) where
     all_traced : {r : Option Traced} → r ≡ traced 0 (read_at s count 0) path → r ≡ traced 0 (read_at s (levels u) 0) path
-    all_traced f = f ∙ ap (λ n. traced 0 (read_at s n 0) path) (asked_levels u number e count z c)
+    all_traced f = f ∙ ap (λ n. traced 0 (read_at s n 0) path) c
 
-    pub place_lost : None ≡ traced 0 (read_at s count 0) path → refused_place bad_expression ≡ place_answer u s path
-    place_lost f = seven z (expression_none u s (lost_none 0 path (read_at s (levels u) 0) (all_traced f)))
+    pub place_lost : None ≡ traced 0 (read_at s count 0) path → refused_place bad_expression ≡ place_answer asked s path
+    place_lost f = seven (expression_none u s (lost_none 0 path (read_at s (levels u) 0) (all_traced f)))
 
     module _ (t : Traced) (f : Some t ≡ traced 0 (read_at s count 0) path) where
       pub first_followed : Followed 0 t path (read_at s (levels u) 0)
       first_followed = followed 0 t path (read_at s (levels u) 0) (all_traced f)
 
-      pub place_rest : (t.end ≡ length s → ⊥) → refused_place bad_expression ≡ place_answer u s path
-      place_rest n = let w = first_followed in seven z (expression_rest u s w.shape w.is (λ k. n (omega (arith, w.after))))
+      pub place_rest : (t.end ≡ length s → ⊥) → refused_place bad_expression ≡ place_answer asked s path
+      place_rest n = let w = first_followed in seven (expression_rest u s w.shape w.is (λ k. n (omega (arith, w.after))))
 
-      module _ (l : t.end ≡ length s) (nine : ℕ) (i : nine ≡ path_refusal u path) where
+      module _ (l : t.end ≡ length s) (nine : ℕ) (i : nine ≡ path_refusal a.universe path) where
         by_path :
-            {answer : PlacedAnswer} → answer ≡ unless_refused nine refused_place (done_place t.start t.length) → answer ≡ place_answer u s path
+            {answer : PlacedAnswer} → answer ≡ unless_refused nine refused_place (done_place t.start t.length) → answer ≡ place_answer asked s path
         unfolding place_answer
         by_path {answer} h =
             let w = first_followed in
             let x = expression_read u s w.shape w.is (omega (arith, w.after)) in
             let starts : t.start ≡ part_start w.shape path = omega (arith, w.starts) in
-            answer_last u number e refused_place _ answer s (path_refusal u path) w.shape z x
+            answer_last u 0 (sym a.not_refused) refused_place _ answer s (path_refusal u path) w.shape refl x
             (h ∙ rw (x, i) (ap₂ (λ b n. unless_refused (path_refusal u path) refused_place (done_place b n)) starts w.long))
+            ∙ same_place
 
-        pub place_outside : (nine ≡ 0 → ⊥) → refused_place nine ≡ place_answer u s path
+        pub place_outside : (nine ≡ 0 → ⊥) → refused_place nine ≡ place_answer asked s path
         place_outside n = by_path (is_refused refused_place (done_place t.start t.length) nine n)
 
-        pub place_found : nine ≡ 0 → done_place t.start t.length ≡ place_answer u s path
+        pub place_found : nine ≡ 0 → done_place t.start t.length ≡ place_answer asked s path
         place_found y = by_path (is_done refused_place (done_place t.start t.length) nine y)
 
 -- the laws of `part`: the place is inside the expression, and the cut there is handed back

@@ -218,7 +218,7 @@ both_after p q t a b e f = omega arith
 unfoldable pub seen : Window → ℕ → ℕ → ℕ → ℕ → Contact → Reading → Option Watched
 seen v p left frame n k none = None
 seen v p left frame n k (read a) =
-    let u = v.universe in
+    let u = v.accepted.universe in
     Some (record {
       end = p + size a;
       volume = n + volume_from u (levels u - left) a;
@@ -231,20 +231,21 @@ module _ (v : Window) (p left frame n : ℕ) (k : Contact) where
   seen_none e = rw e
 
   pub seen_read :
-      (q m : ℕ) (j : Contact) (a : Shape) {x : Reading} → x ≡ read a → q ≡ p + size a → m ≡ n + volume_from v.universe (levels v.universe - left) a →
-      j ≡ contact_from v.universe v.first v.last (levels v.universe - left) frame a k →
+      (q m : ℕ) (j : Contact) (a : Shape) {x : Reading} → x ≡ read a → q ≡ p + size a →
+      m ≡ n + volume_from v.accepted.universe (levels v.accepted.universe - left) a →
+      j ≡ contact_from v.accepted.universe v.first v.last (levels v.accepted.universe - left) frame a k →
       Some (record { end = q; volume = m; contact = j }) ≡ seen v p left frame n k x
   unfolding seen
   seen_read q m j a e f g h = rw (e, f, g, h)
 
 -- of the whole universe it is what the walk tells
-pub seen_whole : (v : Window) (x : Reading) → seen v 0 (levels v.universe) 0 0 (no_contact v.first v.last) x ≡ watched v x
+pub seen_whole : (v : Window) (x : Reading) → seen v 0 (levels v.accepted.universe) 0 0 (no_contact v.first v.last) x ≡ watched v x
 unfolding seen watched
 seen_whole v none = refl
 seen_whole v (read a) =
     let p : 0 + size a ≡ size a = omega arith in
-    let n : 0 + volume v.universe a ≡ volume v.universe a = omega arith in
-    rw (sub_self (levels v.universe), p, n)
+    let n : 0 + volume v.accepted.universe a ≡ volume v.accepted.universe a = omega arith in
+    rw (sub_self (levels v.accepted.universe), p, n)
 
 -- what is read from an answer
 module _ (v : Window) where
@@ -257,8 +258,8 @@ module _ (v : Window) where
     pub shape : Shape
     pub is : x ≡ read shape
     pub after : t.end ≡ size shape
-    pub voxels : t.volume ≡ volume v.universe shape
-    pub contact : t.contact ≡ contact_from v.universe v.first v.last 0 0 shape (no_contact v.first v.last)
+    pub voxels : t.volume ≡ volume v.accepted.universe shape
+    pub contact : t.contact ≡ contact_from v.accepted.universe v.first v.last 0 0 shape (no_contact v.first v.last)
 
   pub reached : (t : Watched) (x : Reading) → Some t ≡ watched v x → Reached t x
   unfolding watched
@@ -266,8 +267,8 @@ module _ (v : Window) where
   reached t (read a) e =
       let f : t ≡ record {
         end = size a;
-        volume = volume v.universe a;
-        contact = contact_from v.universe v.first v.last 0 0 a (no_contact v.first v.last);
+        volume = volume v.accepted.universe a;
+        contact = contact_from v.accepted.universe v.first v.last 0 0 a (no_contact v.first v.last);
       } = cc in
       record {
         shape = a;

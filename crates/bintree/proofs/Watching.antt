@@ -11,9 +11,9 @@ use lib.Seq.{get_or-set_same, get_or-set_other}
 use lib.Pow.{pow_mono}
 use Rattle.std.specs.Prelude.{Option, Some, None}
 use Rattle.universe.specs.declared.Universe.{Universe}
-use Rattle.universe.specs.Questions.{levels_answer, voxels_left}
-use Rattle.universe.specs.Universe.{universe_refusal, levels, most_levels, longest_side, frame_count}
-use Rattle.universe.proofs.Questions.{levels_told, voxels_are}
+use Rattle.universe.specs.Questions.{voxels_left}
+use Rattle.universe.specs.Universe.{levels, most_levels, longest_side, frame_count}
+use Rattle.universe.proofs.Questions.{voxels_are}
 use Rattle.universe.proofs.Universes.{accepted, levels_few}
 use Rattle.bintree.specs.declared.Colour.TheVariants.{White, Black}
 use Rattle.bintree.specs.declared.Contact.{Contact}
@@ -74,38 +74,40 @@ module _ (v : Window) (s : List ℕ) where
       (λ q m j. over_still starts i x (omega arith) r q m j))
 
   -- a halved block: its low half, then its high half
-  module _ (p left frame voxels n : ℕ) (k : Contact) (w : Carried v.universe left frame voxels) (e : get_or s p 0 ≡ open_symbol) (deep : left ≡ 0 → ⊥) where
-    u : Universe
-    u = v.universe
+  module _
+      (p left frame voxels n : ℕ) (k : Contact) (w : Carried v.accepted.universe left frame voxels) (e : get_or s p 0 ≡ open_symbol) (deep : left ≡ 0 → ⊥)
+    where
+      u : Universe
+      u = v.accepted.universe
 
-    high_frame_lem : ℕ
-    high_frame_lem = high_frame frame (frame_bits v.universe left) (frame_bits v.universe (left - 1))
+      high_frame_lem : ℕ
+      high_frame_lem = high_frame frame (frame_bits v.accepted.universe left) (frame_bits v.accepted.universe (left - 1))
 
-    one_halves : one p left frame n k ≡ onward (one (p + 1) (left - 1) frame n k) (λ q m j. one q (left - 1) high_frame_lem m j)
-    unfolding onward seen u high_frame_lem
-    one_halves = low (read_at s (left - 1) (p + 1)) refl
-      where
-        voxels_of : Shape → ℕ
-        voxels_of = volume_from u (levels u - (left - 1))
+      one_halves : one p left frame n k ≡ onward (one (p + 1) (left - 1) frame n k) (λ q m j. one q (left - 1) high_frame_lem m j)
+      unfolding onward seen u high_frame_lem
+      one_halves = low (read_at s (left - 1) (p + 1)) refl
+        where
+          voxels_of : Shape → ℕ
+          voxels_of = volume_from u (levels u - (left - 1))
 
-        contact : ℕ → Shape → Contact → Contact
-        contact = contact_from u v.first v.last (levels u - (left - 1))
+          contact : ℕ → Shape → Contact → Contact
+          contact = contact_from u v.first v.last (levels u - (left - 1))
 
-        high :
-            (a : Shape) → read_at s (left - 1) (p + 1) ≡ read a → (y : Reading) → read_at s (left - 1) (p + 1 + size a) ≡ y →
-            one p left frame n k ≡ seen v (p + 1 + size a) (left - 1) high_frame_lem (n + voxels_of a) (contact frame a k) y
-        high a f none g = sym (seen_none v p left frame n k (high_missing s left p e deep a f g))
-        high a f (read b) g =
-            sym (seen_read v p left frame n k (p + 1 + size a + size b) (n + voxels_of a + voxels_of b) (contact high_frame_lem b (contact frame a k))
-            (halved a b) (both_read s left p e deep a b f g) (both_after p (p + 1 + size a) (p + 1 + size a + size b) a b refl refl)
-            (omega (arith, halves_volume u left frame voxels w deep a b))
-            (halves_contact u left frame voxels w deep v.first v.last a b k (contact frame a k) _ refl refl))
+          high :
+              (a : Shape) → read_at s (left - 1) (p + 1) ≡ read a → (y : Reading) → read_at s (left - 1) (p + 1 + size a) ≡ y →
+              one p left frame n k ≡ seen v (p + 1 + size a) (left - 1) high_frame_lem (n + voxels_of a) (contact frame a k) y
+          high a f none g = sym (seen_none v p left frame n k (high_missing s left p e deep a f g))
+          high a f (read b) g =
+              sym (seen_read v p left frame n k (p + 1 + size a + size b) (n + voxels_of a + voxels_of b) (contact high_frame_lem b (contact frame a k))
+              (halved a b) (both_read s left p e deep a b f g) (both_after p (p + 1 + size a) (p + 1 + size a + size b) a b refl refl)
+              (omega (arith, halves_volume u left frame voxels w deep a b))
+              (halves_contact u left frame voxels w deep v.first v.last a b k (contact frame a k) _ refl refl))
 
-        low :
-            (x : Reading) → read_at s (left - 1) (p + 1) ≡ x →
-            one p left frame n k ≡ onward (seen v (p + 1) (left - 1) frame n k x) (λ q m j. one q (left - 1) high_frame_lem m j)
-        low none f = sym (seen_none v p left frame n k (low_missing s left p e deep f))
-        low (read a) f = high a f (read_at s (left - 1) (p + 1 + size a)) refl
+          low :
+              (x : Reading) → read_at s (left - 1) (p + 1) ≡ x →
+              one p left frame n k ≡ onward (seen v (p + 1) (left - 1) frame n k x) (λ q m j. one q (left - 1) high_frame_lem m j)
+          low none f = sym (seen_none v p left frame n k (low_missing s left p e deep f))
+          low (read a) f = high a f (read_at s (left - 1) (p + 1 + size a)) refl
 
 -- what the array holds of a high half still to come with l levels left
 pub record Held (u : Universe) (starts : List ℕ) (l : ℕ) : Type 0 where
@@ -134,22 +136,21 @@ pub record Watching (v : Window) (s : List ℕ) (whole : Option Watched) (table 
   pub waiting : List ℕ
   pub owes : owed ≡ mask waiting
   pub rising : Rising left waiting
-  pub held : AllHeld v.universe starts waiting
-  pub tabled : FrameTable v.universe table
-  pub stepped : LaterTable v.universe later
+  pub held : AllHeld v.accepted.universe starts waiting
+  pub tabled : FrameTable v.accepted.universe table
+  pub stepped : LaterTable v.accepted.universe later
   pub room : length starts ≡ most_levels
-  pub carried : Carried v.universe left frame (n + owed)
+  pub carried : Carried v.accepted.universe left frame (n + owed)
   pub within : k.voxels ≤ n
   pub tells : onward (one v s p left frame n k) (λ q m j. over v s starts waiting q m j) ≡ whole
 
 -- it begins with the whole universe, at the first symbol
 pub watching_start :
-    (v : Window) (s table later starts : List ℕ) (count : ℕ) (k : Contact) → universe_refusal v.universe ≡ 0 → FrameTable v.universe table →
-    LaterTable v.universe later → length starts ≡ most_levels → count ≡ levels_answer v.universe → k ≡ no_contact v.first v.last →
-    Watching v s (watched v (read_at s (levels v.universe) 0)) table later starts 0 count 0 0 0 k
+    (v : Window) (s table later starts : List ℕ) (count : ℕ) (k : Contact) → FrameTable v.accepted.universe table →
+    LaterTable v.accepted.universe later → length starts ≡ most_levels → count ≡ levels v.accepted.universe → k ≡ no_contact v.first v.last →
+    Watching v s (watched v (read_at s (levels v.accepted.universe) 0)) table later starts 0 count 0 0 0 k
 unfolding over
-watching_start v s table later starts count k ok t l a c e =
-    let all = levels_told v.universe refl ok c in
+watching_start v s table later starts count k t l a all e =
     rw (all, e) (record {
       waiting = [];
       owes = sym mask_none;
@@ -158,16 +159,21 @@ watching_start v s table later starts count k ok t l a c e =
       tabled = t;
       stepped = l;
       room = a;
-      carried = record { accepts = ok; few = omega arith; inside = rw (bits_first v.universe ok) (omega arith); most = omega arith };
+      carried = record {
+        accepts = v.accepted.not_refused;
+        few = omega arith;
+        inside = rw (bits_first v.accepted.universe v.accepted.not_refused) (omega arith);
+        most = omega arith;
+      };
       within = omega arith;
-      tells = onward_end (one v s 0 (levels v.universe) 0 0 (no_contact v.first v.last)) ∙ seen_whole v (read_at s (levels v.universe) 0);
+      tells = onward_end (one v s 0 (levels v.accepted.universe) 0 0 (no_contact v.first v.last)) ∙ seen_whole v (read_at s (levels v.accepted.universe) 0);
     })
 
 module _
     {v : Window} {s : List ℕ} {whole : Option Watched} {table later starts : List ℕ} {p left frame owed n : ℕ} {k : Contact}
     (w : Watching v s whole table later starts p left frame owed n k) where
-  most_levels_lem : levels v.universe ≤ most_levels
-  most_levels_lem = levels_few v.universe (accepted v.universe w.carried.accepts)
+  most_levels_lem : levels v.accepted.universe ≤ most_levels
+  most_levels_lem = levels_few v.accepted.universe (accepted v.accepted.universe w.carried.accepts)
 
   most_voxels : n + owed + 2 ^ left ≤ 2 ^ most_levels
   most_voxels = omega (arith, w.carried.most, pow_mono most_levels_lem)
@@ -179,11 +185,11 @@ module _
   pub left_room : left * 8 < 2 ^ 64
   left_room = omega (arith, w.carried.few, most_levels_lem)
 
-  wide_is : get_or table left 0 ≡ frame_bits v.universe left
+  wide_is : get_or table left 0 ≡ frame_bits v.accepted.universe left
   wide_is = w.tabled.holds left w.carried.few
 
-  frames_fit : frame + 2 ^ frame_bits v.universe left ≤ longest_side
-  frames_fit = touch_frames v.universe left frame (n + owed) w.carried
+  frames_fit : frame + 2 ^ frame_bits v.accepted.universe left ≤ longest_side
+  frames_fit = touch_frames v.accepted.universe left frame (n + owed) w.carried
 
   pub watching_frames : frame + 2 ^ get_or table left 0 ≤ longest_side
   watching_frames = rw wide_is frames_fit
@@ -213,7 +219,7 @@ module _
     pub level_room : (left - 1) * 8 < 2 ^ 64
     level_room = omega (arith, level_fits)
 
-    later_is : get_or later (left - 1) 0 ≡ 2 ^ frame_bits v.universe left - 2 ^ frame_bits v.universe (left - 1)
+    later_is : get_or later (left - 1) 0 ≡ 2 ^ frame_bits v.accepted.universe left - 2 ^ frame_bits v.accepted.universe (left - 1)
     later_is = let d : suc (left - 1) ≡ left = omega arith in rw d at (w.stepped.holds (left - 1) (omega (arith, w.carried.few)))
 
     pub later_fits : frame + get_or later (left - 1) 0 < 2 ^ 64
@@ -233,7 +239,9 @@ module _
       owed_fits = omega (arith, bit_is, pow_mono {i = left - 1} {j = left} (omega arith), most_voxels)
 
       module _ (e : get_or s p 0 ≡ open_symbol) where
-        stored : get_or (set starts (left - 1) high) (left - 1) 0 ≡ high_frame frame (frame_bits v.universe left) (frame_bits v.universe (left - 1))
+        stored :
+            get_or (set starts (left - 1) high) (left - 1) 0
+            ≡ high_frame frame (frame_bits v.accepted.universe left) (frame_bits v.accepted.universe (left - 1))
         unfolding high
         stored = get_or-set_same starts (left - 1) high 0 (omega (arith, level_fits, w.room)) ∙ ap (λ x. frame + x) later_is
 
@@ -257,13 +265,13 @@ module _
               held =
                   also {l = left - 1} (record {
                     under = omega (arith, w.carried.few);
-                    inside = rw stored (high_inside v.universe left frame (n + owed) w.carried deep);
+                    inside = rw stored (high_inside v.accepted.universe left frame (n + owed) w.carried deep);
                   })
-                  (held_still v.universe starts (left - 1) high before w.rising w.held);
+                  (held_still v.accepted.universe starts (left - 1) high before w.rising w.held);
               tabled = w.tabled;
               stepped = w.stepped;
               room = length-set starts (left - 1) high ∙ w.room;
-              carried = low_carried v.universe left frame (n + owed) w.carried deep (n + (owed + bit)) (omega (arith, bit_is));
+              carried = low_carried v.accepted.universe left frame (n + owed) w.carried deep (n + (owed + bit)) (omega (arith, bit_is));
               within = w.within;
               tells = tells_halves;
             }
@@ -276,10 +284,10 @@ module _
   volume_fits bit b = omega (arith, most_voxels, voxels_are left left_few)
 
   pub watching_voxels : k.voxels + 2 ^ (get_or table left 0 + (left - get_or table left 0)) ≤ 2 ^ most_levels
-  watching_voxels = rw wide_is (omega (arith, w.within, touch_voxels v.universe left frame (n + owed) w.carried))
+  watching_voxels = rw wide_is (omega (arith, w.within, touch_voxels v.accepted.universe left frame (n + owed) w.carried))
 
   pub watching_bits : get_or table left 0 ≤ left
-  watching_bits = rw wide_is (carried_left v.universe left frame (n + owed) w.carried)
+  watching_bits = rw wide_is (carried_left v.accepted.universe left frame (n + owed) w.carried)
 
   -- a leaf, added to the volume and joined to the contact
   pub record Leafed (m : ℕ) (j : Contact) : Type 0 where
@@ -310,10 +318,10 @@ module _
         record {
           told =
               seen_read v p left frame n k (p + 1) m j (leaf Black) (leaf_at s left p Black e) refl
-              (f ∙ ap (λ x. n + x) (all ∙ black_volume v.universe left frame (n + owed) c))
-              (black_touches v.universe left frame (n + owed) c v.first v.last k j h);
+              (f ∙ ap (λ x. n + x) (all ∙ black_volume v.accepted.universe left frame (n + owed) c))
+              (black_touches v.accepted.universe left frame (n + owed) c v.first v.last k j h);
           most = omega arith;
-          within = rw h (omega (arith, w.within, black_most v.universe left frame (n + owed) c v.first v.last k));
+          within = rw h (omega (arith, w.within, black_most v.accepted.universe left frame (n + owed) c v.first v.last k));
         }
 
     tells_next : Leafed m j → over v s starts w.waiting (p + 1) m j ≡ whole
@@ -330,7 +338,7 @@ module _
     following : Due owed w.waiting
     following = due owed w.waiting w.owes w.rising (omega (arith, most_voxels)) some
 
-    its_held : AllHeld v.universe starts (following.first ∷ following.rest)
+    its_held : AllHeld v.accepted.universe starts (following.first ∷ following.rest)
     its_held = rw following.are at w.held
 
     module _ (l : ℕ) (e : l ≡ count_trailing_zeros 64 owed) where

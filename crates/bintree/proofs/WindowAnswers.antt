@@ -11,9 +11,12 @@ use lib.ListN.{length}
 use Rattle.lemmas.proofs.Sums.{and_left, and_right}
 use Rattle.std.specs.Prelude.{Some, None}
 use Rattle.universe.specs.declared.Universe.{Universe}
+use Rattle.universe.specs.declared.accepted.Accepted.{Accepted}
+use Rattle.universe.specs.Accepting.{accepted_answer}
 use Rattle.universe.specs.Refusals.{bad_expression, outside}
-use Rattle.universe.specs.Universe.{universe_refusal, levels, frame_count}
+use Rattle.universe.specs.Universe.{levels, frame_count}
 use Rattle.universe.specs.Voxel.{window_refusal}
+use Rattle.universe.proofs.Acceptance.{accepted_number, accepted_same}
 use Rattle.universe.proofs.Refusing.{unless_holds}
 use Rattle.universe.proofs.Universes.{accepted}
 use Rattle.bintree.specs.Told.{NumbersAnswer}
@@ -46,32 +49,45 @@ window_accepted u first last e =
       inside = ltb-true _ _ (and_right (leb first last) (ltb last (frame_count u)) both);
     }
 
--- the laws of `numbers_of`: `number` is the universe's own check
-module _ (u : Universe) (s : List ℕ) (first last number : ℕ) (e : number ≡ universe_refusal u) where
-  pub numbers_refused : (number ≡ 0 → ⊥) → refused_numbers number ≡ numbers_answer u s first last
-  unfolding numbers_answer
-  numbers_refused n = answer_universe u number e s (window_refusal u first last ∷ []) refused_numbers _ _ n refl
+-- the laws of `numbers_of`: a universe that is refused, and an accepted one
+pub numbers_refused :
+    (u : Universe) (s : List ℕ) (first last : ℕ) {n : ℕ} {v : Universe} → record { refusal = n; universe = v } ≡ accepted_answer u → (n ≡ 0 → ⊥) →
+    refused_numbers n ≡ numbers_answer u s first last
+unfolding numbers_answer
+numbers_refused u s first last {n} told h =
+    answer_universe u n (accepted_number u told) s (window_refusal u first last ∷ []) refused_numbers _ _ h refl
 
-  abbrev window : Window
-  window = record { universe = u; first = first; last = last }
+module _
+    (asked : Universe) (its : Accepted) (s : List ℕ) (first last : ℕ) (told : record { refusal = 0; universe = its.universe } ≡ accepted_answer asked)
+  where
+    abbrev u : Universe
+    u = its.universe
 
-  module _ (z : number ≡ 0) where
-    seven : expression u s ≡ none → refused_numbers bad_expression ≡ numbers_answer u s first last
+    abbrev window : Window
+    window = record { accepted = its; first = first; last = last }
+
+    same_numbers : numbers_answer u s first last ≡ numbers_answer asked s first last
+    same_numbers = ap (λ v. numbers_answer v s first last) (accepted_same asked told refl)
+
+    seven : expression u s ≡ none → refused_numbers bad_expression ≡ numbers_answer asked s first last
     unfolding numbers_answer
-    seven x = answer_none u number e s (window_refusal u first last ∷ []) refused_numbers _ _ z x refl
+    seven x = answer_none u 0 (sym its.not_refused) s (window_refusal u first last ∷ []) refused_numbers _ _ refl x refl ∙ same_numbers
 
-    pub numbers_nothing : None ≡ watched window (read_at s (levels u) 0) → refused_numbers bad_expression ≡ numbers_answer u s first last
+    pub numbers_nothing : None ≡ watched window (read_at s (levels u) 0) → refused_numbers bad_expression ≡ numbers_answer asked s first last
     numbers_nothing f = seven (expression_none u s (nothing_none window (read_at s (levels u) 0) f))
 
     module _ (t : Watched) (f : Some t ≡ watched window (read_at s (levels u) 0)) where
       all_reached : Reached window t (read_at s (levels u) 0)
       all_reached = reached window t (read_at s (levels u) 0) f
 
-      pub numbers_rest : (t.end ≡ length s → ⊥) → refused_numbers bad_expression ≡ numbers_answer u s first last
+      pub numbers_rest : (t.end ≡ length s → ⊥) → refused_numbers bad_expression ≡ numbers_answer asked s first last
       numbers_rest n = let w = all_reached in seven (expression_rest u s w.shape w.is (λ j. n (omega (arith, w.after))))
 
       -- the contact tells the verdict of the shape, where the window is accepted
-      module _ (j : t.end ≡ length s) (nine : ℕ) (i : nine ≡ window_refusal u first last) where
+      module _ (j : t.end ≡ length s) (nine : ℕ) (i : nine ≡ window_refusal asked first last) where
+        here : nine ≡ window_refusal u first last
+        here = i ∙ ap (λ v. window_refusal v first last) (sym (accepted_same asked told refl))
+
         a : Shape
         a = all_reached.shape
 
@@ -87,21 +103,22 @@ module _ (u : Universe) (s : List ℕ) (first last number : ℕ) (e : number ≡
         unfolding a
         contact_is = all_reached.contact
 
-        told : nine ≡ 0 → verdict_of t.contact ≡ verdict u a first last
-        told n =
-            let w = window_accepted u first last (sym i ∙ n) in
-            let some = (accepted u (sym e ∙ z)).some_axes in
+        judged : nine ≡ 0 → verdict_of t.contact ≡ verdict u a first last
+        judged n =
+            let w = window_accepted u first last (sym here ∙ n) in
+            let some = (accepted u its.not_refused).some_axes in
             let tells = contact_tells u some first last w.order a (read_is u s a all_read).1 w.inside in
             ap verdict_of contact_is
             ∙ sym (verdict_is_lem u a first last w.order (contact_from u first last 0 0 a (no_contact first last)) tells)
 
         by_window :
             (v : Verdict) {answer : NumbersAnswer} → (nine ≡ 0 → v ≡ verdict u a first last) →
-            answer ≡ unless_refused nine refused_numbers (done_numbers t.volume v) → answer ≡ numbers_answer u s first last
+            answer ≡ unless_refused nine refused_numbers (done_numbers t.volume v) → answer ≡ numbers_answer asked s first last
         unfolding numbers_answer
         by_window v {answer} h k =
-            answer_last u number e refused_numbers _ answer s (window_refusal u first last) a z all_read
-            (k ∙ rw (all_read, ← i) (go (ℕ_discrete nine 0)))
+            answer_last u 0 (sym its.not_refused) refused_numbers _ answer s (window_refusal u first last) a refl all_read
+            (k ∙ rw (all_read, ← here) (go (ℕ_discrete nine 0)))
+            ∙ same_numbers
           where
             go :
                 Dec (nine ≡ 0) →
@@ -110,8 +127,8 @@ module _ (u : Universe) (s : List ℕ) (first last number : ℕ) (e : number ≡
             go (yes n) = ap₂ (λ x y. unless_refused nine refused_numbers (done_numbers x y)) voxels_are (h n)
             go (no n) = rw (ne_eqb nine 0 n)
 
-        pub numbers_outside : (nine ≡ 0 → ⊥) → refused_numbers nine ≡ numbers_answer u s first last
+        pub numbers_outside : (nine ≡ 0 → ⊥) → refused_numbers nine ≡ numbers_answer asked s first last
         numbers_outside n = by_window Clear (λ y. absurd (n y)) (is_refused refused_numbers _ nine n)
 
-        pub numbers_found : nine ≡ 0 → (v : Verdict) → v ≡ verdict_of t.contact → done_numbers t.volume v ≡ numbers_answer u s first last
-        numbers_found y v g = by_window v (λ n. g ∙ told n) (is_done refused_numbers (done_numbers t.volume v) nine y)
+        pub numbers_found : nine ≡ 0 → (v : Verdict) → v ≡ verdict_of t.contact → done_numbers t.volume v ≡ numbers_answer asked s first last
+        numbers_found y v g = by_window v (λ n. g ∙ judged n) (is_done refused_numbers (done_numbers t.volume v) nine y)

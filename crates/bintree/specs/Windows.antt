@@ -65,8 +65,8 @@ watched w (read a) =
     let none_yet = no_contact w.first w.last in
     Some (record {
       end = size a;
-      volume = volume w.universe a;
-      contact = contact_from w.universe w.first w.last 0 0 a none_yet;
+      volume = volume w.accepted.universe a;
+      contact = contact_from w.accepted.universe w.first w.last 0 0 a none_yet;
     })
 
 -- the verdict that a contact is

@@ -19,7 +19,9 @@ pub(crate) struct Laid {
     pub(crate) to: usize,
 }
 
-// Whether two merged parts, by their symbols, are leaves of one colour.
+// Whether two merged parts, by their symbols, are leaves of one colour. A symbol that waits is a byte, 0 where none
+// does, and no `Option`: no symbol is 0, what waits is the very byte that is written later, and the recursions hand it
+// on in one register.
 #[tactic(auto, unfolding(crate::specs::Walks::is_alike))]
 pub fn is_alike(low: u8, high: u8) -> bool
     ensures { result ≡ is_alike low high }

@@ -1,6 +1,6 @@
 // The part for a block, asked by a path: one walk that follows the path's halves and reads the rest.
 ghost use Rattle.std.specs.Prelude.{◌≡◌, [], ◌≤◌};
-ghost use Rattle.universe.specs.Universe.{universe_refusal, most_levels};
+ghost use Rattle.universe.specs.Universe.{most_levels};
 ghost use Rattle.universe.specs.Told.{number_told};
 ghost use Rattle.bintree.specs.Told.{place_told};
 ghost use Rattle.bintree.specs.Reading.{read_at};
@@ -9,7 +9,7 @@ ghost use Rattle.bintree.specs.Walks.{traced};
 
 use crate::Placed;
 use crate::walk::walk;
-use universe::{Refusal, Universe};
+use universe::{Accepted, Refusal, Universe};
 
 // What following a path in one tree tells: the place after the tree, where the part stands and its length.
 #[derive(Clone, Copy)]
@@ -20,11 +20,10 @@ pub(crate) struct Traced {
 }
 
 // Refused where a path is longer than the levels or has a byte that is neither 0 nor 1.
-fn check_path(universe: Universe, path: &[u8]) -> Result<(), Refusal>
-    requires { universe_refusal universe ≡ 0 }
-    ensures { number_told result ≡ path_refusal universe path.now }
+fn check_path(accepted: Accepted, path: &[u8]) -> Result<(), Refusal>
+    ensures { number_told result ≡ path_refusal accepted.universe path.now }
 {
-    if universe.levels() < path.len() as u64 || path.iter().any(|half| 1 < *half) {
+    if accepted.levels() < path.len() as u64 || path.iter().any(|half| 1 < *half) {
         return Err(Refusal::Outside);
     }
     Ok(())
@@ -72,12 +71,12 @@ pub(crate) fn trace(expression: &[u8], at: usize, left: u64, path: &[u8]) -> Opt
 pub fn part_place(universe: Universe, expression: &[u8], path: &[u8]) -> Result<Placed, Refusal>
     ensures { place_told result ≡ place_answer universe expression.now path.now }
 {
-    universe.check()?;
-    let found = trace(expression, 0, universe.levels(), path).ok_or(Refusal::BadExpression)?;
+    let accepted = universe.accepted()?;
+    let found = trace(expression, 0, accepted.levels(), path).ok_or(Refusal::BadExpression)?;
     if found.end != expression.len() {
         return Err(Refusal::BadExpression);
     }
-    check_path(universe, path)?;
+    check_path(accepted, path)?;
     Ok(Placed {
         start: found.start as u64,
         length: found.length as u64,

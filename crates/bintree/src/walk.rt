@@ -27,7 +27,9 @@ pub(crate) fn levels_of(owed: u64) -> u64
 }
 
 // Walks over the tree of at most `left` levels that begins at `at`, and tells the place after it, where there is one.
-// `owed` counts the voxels of the high halves still to come: one bit for each, at the levels left to it.
+// `owed` counts the voxels of the high halves still to come: one bit for each, at the levels left to it. Here and in the
+// recursions the expression, the place and the levels left are no struct: a half has another place and a level less, so
+// it would be made anew at each. For the same reason `left ≤ most_levels` is asked of a number, and is in no type.
 pub(crate) fn walk(expression: &[u8], at: usize, left: u64) -> Option<usize>
     requires { left ≤ most_levels }
     ensures { result ≡ walked at (read_at expression.now left at) }

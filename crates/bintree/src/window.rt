@@ -1,6 +1,6 @@
 // The volume of an expression and its verdict over a window of frames: one walk reads the symbols and counts.
 ghost use Rattle.std.specs.Prelude.{◌≡◌, cond, ◌+◌, ◌^◌, ◌≤◌, eqb};
-ghost use Rattle.universe.specs.Universe.{universe_refusal, levels, most_levels, longest_side, frame_axis};
+ghost use Rattle.universe.specs.Universe.{levels, most_levels, longest_side, frame_axis};
 ghost use Rattle.bintree.specs.Reading.{read_at};
 ghost use Rattle.bintree.specs.Told.{numbers_told};
 ghost use Rattle.bintree.specs.Verdicts.{numbers_answer};
@@ -9,12 +9,12 @@ ghost use Rattle.bintree.specs.Windows.{watched, verdict_of};
 
 use crate::walk::{levels_of, voxels_of};
 use crate::{Contact, Numbers, Verdict};
-use universe::{Refusal, Universe};
+use universe::{Accepted, Refusal, Universe};
 
 // A window of a universe's frames, both ends in.
 #[derive(Clone, Copy)]
 pub(crate) struct Window {
-    pub(crate) universe: Universe,
+    pub(crate) accepted: Accepted,
     pub(crate) first: u64,
     pub(crate) last: u64,
 }
@@ -39,6 +39,7 @@ fn no_contact(window: Window) -> Contact
 }
 
 // Joins a black block's frames in the window to a contact: 2^bits frames from `frame` on, with 2^rest voxels in each.
+// That the frames end in time is asked, and in no type of them: they are made here alone, of what the walk has in hand.
 #[tactic(auto, using(crate::proofs::Watches::touch_laws))]
 fn touch(window: Window, contact: Contact, frame: u64, bits: u64, rest: u64) -> Contact
     requires bits_bound { frame + 2 ^ bits ≤ longest_side }
@@ -59,23 +60,21 @@ fn touch(window: Window, contact: Contact, frame: u64, bits: u64, rest: u64) -> 
 
 // How often a halving across an axis halves a block's frames: once where it is the frame axis.
 #[tactic(auto, using(crate::proofs::Frames::halving_laws))]
-fn frame_halvings(universe: Universe, axis: usize) -> u64
-    requires { universe_refusal universe ≡ 0 }
-    ensures { result ≡ cond (eqb axis (frame_axis universe)) 1 0 }
+fn frame_halvings(accepted: Accepted, axis: usize) -> u64
+    ensures { result ≡ cond (eqb axis (frame_axis accepted.universe)) 1 0 }
 {
-    u64::from(axis as u64 == universe.axes - 1)
+    u64::from(axis as u64 == accepted.frame_axis())
 }
 
 // The bits of the frames of blocks, by the levels left to them: one more for each halving across the frame axis.
-fn frame_bits(universe: Universe) -> [u64; Universe::MOST_LEVELS as usize + 1]
-    requires { universe_refusal universe ≡ 0 }
-    ensures { FrameTable universe result }
+fn frame_bits(accepted: Accepted) -> [u64; Universe::MOST_LEVELS as usize + 1]
+    ensures { FrameTable accepted.universe result }
 {
-    let axes = universe.axes_left();
-    let levels = universe.levels() as usize;
+    let axes = accepted.axes_left();
+    let levels = accepted.levels() as usize;
     let mut table = [0u64; Universe::MOST_LEVELS as usize + 1];
     for left in 0..levels {
-        table[left + 1] = table[left] + frame_halvings(universe, axes[left]);
+        table[left + 1] = table[left] + frame_halvings(accepted, axes[left]);
     }
     table
 }
@@ -83,14 +82,13 @@ fn frame_bits(universe: Universe) -> [u64; Universe::MOST_LEVELS as usize + 1]
 // How much later than its block's the frames of a high half begin, by the levels left to it: by as many frames as it
 // has fewer.
 fn later_frames(
-    universe: Universe,
+    accepted: Accepted,
     bits: [u64; Universe::MOST_LEVELS as usize + 1],
 ) -> [u64; Universe::MOST_LEVELS as usize]
-    requires universe_value { universe_refusal universe ≡ 0 }
-    requires frame_table { FrameTable universe bits }
-    ensures { LaterTable universe result }
+    requires { FrameTable accepted.universe bits }
+    ensures { LaterTable accepted.universe result }
 {
-    let levels = universe.levels() as usize;
+    let levels = accepted.levels() as usize;
     let mut table = [0u64; Universe::MOST_LEVELS as usize];
     for left in 0..levels {
         table[left] = (1 << bits[left + 1]) - (1 << bits[left]);
@@ -101,13 +99,12 @@ fn later_frames(
 // Walks over the tree that begins at the first symbol and stands for the whole universe. `owed` counts the voxels of
 // the high halves still to come: one bit for each, at the levels left to it, where `first_frames` has its first frame.
 fn watch(window: Window, expression: &[u8]) -> Option<Watched>
-    requires { universe_refusal window.universe ≡ 0 }
-    ensures { result ≡ watched window (read_at expression.now (levels window.universe) 0) }
+    ensures { result ≡ watched window (read_at expression.now (levels window.accepted.universe) 0) }
 {
-    let bits = frame_bits(window.universe);
-    let later = later_frames(window.universe, bits);
+    let bits = frame_bits(window.accepted);
+    let later = later_frames(window.accepted, bits);
     let mut first_frames = [0u64; Universe::MOST_LEVELS as usize];
-    let mut levels = window.universe.levels();
+    let mut levels = window.accepted.levels();
     let mut from: u64 = 0;
     let mut owed: u64 = 0;
     let mut volume: u64 = 0;
@@ -165,9 +162,9 @@ pub fn numbers_of(
 ) -> Result<Numbers, Refusal>
     ensures { numbers_told result ≡ numbers_answer universe expression.now first last }
 {
-    universe.check()?;
+    let accepted = universe.accepted()?;
     let window = Window {
-        universe,
+        accepted,
         first,
         last,
     };

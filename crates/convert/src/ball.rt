@@ -20,7 +20,8 @@ pub(crate) struct Squares {
     pub middle: u64,
 }
 
-// How far the farther end of a block is along one axis.
+// How far the farther end of a block is along one axis. This and `radius_squared` ask that the numbers are small, and
+// no public function asks anything: the crates above have their own.
 fn farthest(begin: u64, length: u64, centre: i64) -> u64
     requires small_place { SmallPlace begin }
     requires small_place_2 { SmallPlace length }

@@ -6,7 +6,8 @@ ghost use Rattle.convert.specs.Blocks.{whole_sides, Halved};
 
 use universe::Universe;
 
-// The sides of the whole universe; 0 along an axis that it lacks.
+// The sides of the whole universe; 0 along an axis that it lacks. The crates above have the same four calls: a public
+// function for them would be no plainer than the question that they ask.
 #[tactic(auto, unfolding(lemmas::specs::Grid::listed))]
 pub(crate) fn whole_sides(universe: Universe) -> [u64; Universe::MOST_AXES as usize]
     ensures { result ≡ whole_sides universe }

@@ -19,7 +19,7 @@ ghost use Rattle.convert.specs.Answers.{
 
 use crate::lay::write_whole;
 use crate::scene::{check_scene, room_of};
-use crate::scratch::{SHORT, long, short};
+use crate::scratch::{MOST_SCRATCH, SHORT, in_scratch};
 use universe::{Universe, Unwritten};
 
 // The expression of two trees that no check refuses. Room that is as large as the room formula says suffices.
@@ -45,9 +45,9 @@ pub(crate) fn written_of_two(
         return Ok(length as u64);
     }
     if out.len() <= SHORT {
-        return short(universe, rows, balls, first, second, merging, out);
+        return in_scratch::<SHORT>(universe, rows, balls, first, second, merging, out);
     }
-    long(universe, rows, balls, first, second, merging, out)
+    in_scratch::<MOST_SCRATCH>(universe, rows, balls, first, second, merging, out)
 }
 
 // The expression of two trees, or the number that refuses it.

@@ -28,7 +28,8 @@ use crate::marks::{BLACK_BIT, PAIR_UNIT};
 use universe::Universe;
 
 // What laying a block's shape comes to: the symbol of a shape that is one leaf, which is held back, or else 0; and the
-// place past what is written or held back.
+// place past what is written or held back. `held` is a byte and no `Option`: it is the very byte that is written later,
+// and goes through the recursion in one register with the place.
 #[derive(Clone, Copy)]
 pub(crate) struct Piece {
     pub held: u8,
@@ -39,7 +40,7 @@ pub(crate) struct Piece {
 const HELD_UNIT: usize = 256;
 
 // The symbol of a block that is judged BLACK or WHITE.
-fn symbol_of(mark: u8) -> u8
+pub fn symbol_of(mark: u8) -> u8
     ensures { result ≡ symbol_of_bits mark }
 {
     if mark == BLACK_BIT { b'B' } else { b'W' }
@@ -47,7 +48,7 @@ fn symbol_of(mark: u8) -> u8
 
 // Whether two halves are held back as one: leaves of one colour, where shapes are merged.
 #[tactic(auto, unfolding(crate::specs::Shapes::is_one))]
-fn is_one(merging: bool, below: u8, above: u8) -> bool
+pub fn is_one(merging: bool, below: u8, above: u8) -> bool
     ensures { result ≡ is_one merging below above }
 {
     merging && bintree::is_alike(below, above)
@@ -92,7 +93,8 @@ fn unpacked(number: usize) -> Piece
 }
 
 // Lays the shape of a half, merged or as it is, from `at` on, as far as there is room; a leaf is held back. What is
-// carried is of the whole. Its piece comes back packed, since two numbers would go through memory.
+// carried is of the whole. Its piece comes back packed, since two numbers would go through memory. `merging` is an
+// argument: of functions with a const parameter that call each other no answer to what a call asks counts as a proof.
 #[cycle(lay_half_lay_halves)]
 fn lay_half(
     universe: Universe,

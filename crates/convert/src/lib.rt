@@ -14,6 +14,8 @@ mod scratch;
 mod verdict;
 
 pub use conversion::{merged_of_one, merged_of_two, raw_of_one, raw_of_two};
+pub use lay::{is_one, symbol_of};
+pub use marks::{BLACK_BIT, WHITE_BIT, tested_code};
 pub use scene::check_scene;
 pub use scratch::MOST_SCRATCH;
 pub use verdict::{Clearance, verdict_of_two};

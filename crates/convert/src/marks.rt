@@ -3,10 +3,11 @@ ghost use Rattle.std.specs.Prelude.{◌≡◌, ◌≤◌};
 ghost use Rattle.csg.specs.Words.{operator_of};
 ghost use Rattle.convert.specs.Codes.{most_code, paired, tested_code, mixed, opposite_code, join_code};
 
-// A mark that is BLACK, and one that is WHITE; neither bit where it is undecided.
-pub(crate) const BLACK_BIT: u8 = 1;
+// A mark that is BLACK, and one that is WHITE; neither bit where it is undecided. A mark is a byte and no enum, since
+// marks over both halves are joined at once, by operations on bits, in the pass over the words of each block.
+pub const BLACK_BIT: u8 = 1;
 
-pub(crate) const WHITE_BIT: u8 = 2;
+pub const WHITE_BIT: u8 = 2;
 
 // What the code over the second of two blocks is multiplied by; the two colours' bits in both codes.
 pub(crate) const PAIR_UNIT: u8 = 4;
@@ -32,7 +33,7 @@ pub(crate) fn paired(one: u8, other: u8) -> u8
 
 // The code by the tests of the least and of the greatest value, the least looked at first. There is no branch, since
 // which way a test goes is not to be foreseen.
-pub(crate) fn tested_code(least: bool, greatest: bool) -> u8
+pub fn tested_code(least: bool, greatest: bool) -> u8
     ensures { result ≡ tested_code least greatest }
 {
     let black = least as u8;

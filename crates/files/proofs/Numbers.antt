@@ -1,4 +1,4 @@
--- Numbers that stand one after the other in bytes. A loop that stores them fills the front of a list: `Filling` is its invariant.
+-- Numbers that stand one after the other in bytes. A loop that stores them fills a list: `Filling` is its invariant.
 use Prim.Native.Nat.{ℕ, suc, ◌+◌, ◌*◌, ◌/◌, ◌%◌, ◌^◌, ◌≤◌, ◌<◌}
 use native.Mathlib.Omega.{arith}
 use native.Mathlib.Numerals.{add-one}
@@ -8,12 +8,12 @@ use mathlib.Core.Bool.{Bool, true, false}
 use mathlib.Core.List.{List, ◌++◌, append_assoc}
 use lib.Dec.{leb, eqb}
 use lib.ListN.{length, get_or, take, drop, set, length-set}
-use lib.Seq.{drop-cons, set_at, take_at}
-use lib.IntN.{ℤ, pos}
+use lib.Seq.{drop-cons, drop-length, set_at, take_at}
+use lib.IntN.{ℤ}
 use lib.Signed.{mag}
 use mir.Syntax.{w16, w64}
 use mir.Val.{to_z, of_z}
-use Rattle.std.proofs.Common.{nat_eq}
+use Rattle.std.proofs.Common.{nat_eq, append-nil}
 use Rattle.std.specs.List.{starts_with}
 use Rattle.std.proofs.lemmas.Slice.Eq.{starts_is}
 use Rattle.std.proofs.lemmas.Bool.{false≢true}
@@ -29,8 +29,7 @@ use Rattle.lemmas.proofs.Grid.{listed_length, listed_next}
 use Rattle.lemmas.proofs.Machine.{read_call}
 use Rattle.universe.specs.declared.Universe.{Universe}
 use Rattle.universe.specs.Universe.{equal_bits}
-use Rattle.csg.specs.Ball.{most_places, ball_length}
-use Rattle.files.specs.Numbers.{from_bits, u16_at, short_bytes, ball_number, version_of, universe_said, has_header}
+use Rattle.files.specs.Numbers.{from_bits, version_of, universe_said, has_header}
 
 -- ---- 64 bits as a whole number, and 16: what casts to a signed number gives, as the machine stores it
 
@@ -42,50 +41,38 @@ pub short_read : (n : ℕ) {z : ℤ} → n < 2 ^ 16 → mag z < 2 ^ 63 → z ≡
 unfolding from_bits
 short_read n h l e = read_call l (e ∙ rw (lt-ltb n (2 ^ 16) h))
 
--- ---- the numbers of balls
+-- ---- the first i places of a list are filled with what a rule gives
 
-module _ (bytes : List ℕ) (at i : ℕ) {bits : ℕ} (e : bits ≡ u16_at bytes (at + short_bytes * i)) where
-  pub radius_number : {z : ℤ} → i % ball_length ≡ most_places → z ≡ pos bits → z ≡ ball_number bytes at i
-  unfolding ball_number
-  radius_number t g = g ∙ rw (← e, eq-eqb (i % ball_length) most_places t)
-
-  pub centre_number : {z : ℤ} → (i % ball_length ≡ most_places → ⊥) → z ≡ from_bits 16 bits → z ≡ ball_number bytes at i
-  unfolding ball_number
-  centre_number n g = g ∙ rw (← e, ne_eqb (i % ball_length) most_places n)
-
--- ---- i of the n places at the front of a list are filled with what a rule gives
-
-pub record Filling {A : Type 0} (n : ℕ) (f : ℕ → A) (before : List A) (i : ℕ) (now : List A) : Type 0 where
-  pub within : i ≤ n
-  pub room : n ≤ length before
+pub record Filling {A : Type 0} (f : ℕ → A) (before : List A) (i : ℕ) (now : List A) : Type 0 where
+  pub within : i ≤ length before
   pub same : now ≡ listed i f ++ drop i before
   pub kept : length now ≡ length before
 
-pub filling_start : {A : Type 0} (n : ℕ) (f : ℕ → A) (before : List A) → n ≤ length before → Filling n f before 0 before
+pub filling_start : {A : Type 0} (f : ℕ → A) (before : List A) → Filling f before 0 before
 unfolding listed
-filling_start n f before h = record { within = omega arith; room = h; same = refl; kept = refl }
+filling_start f before = record { within = omega arith; same = refl; kept = refl }
 
-module _ {A : Type 0} {n : ℕ} {f : ℕ → A} {before : List A} {i : ℕ} {now : List A} (s : Filling n f before i now) where
-  module _ (h : i < n) where
+module _ {A : Type 0} {f : ℕ → A} {before : List A} {i : ℕ} {now : List A} (s : Filling f before i now) where
+  module _ (l : i < length before) where
     stored : set now i (f i) ≡ listed (i + 1) f ++ drop (i + 1) before
     stored =
-        let l : i < length before = omega (arith, s.room) in
         rw (s.same, add-one, listed_next i f, drop-cons before i (f i) l)
         (rw (set_at (listed i f) (get_or before i (f i)) (drop (suc i) before) (f i) i (listed_length i f), append_assoc))
 
-    pub filling_next : {x : A} → x ≡ f i → Filling n f before (i + 1) (set now i x)
-    filling_next e =
-        record { within = omega arith; room = s.room; same = ap (set now i) e ∙ stored; kept = length-set now i _ ∙ s.kept }
+    pub filling_next : {x : A} → x ≡ f i → Filling f before (i + 1) (set now i x)
+    filling_next e = record { within = omega arith; same = ap (set now i) e ∙ stored; kept = length-set now i _ ∙ s.kept }
 
-  pub filling_end : n ≤ i → now ≡ listed n f ++ drop n before
-  filling_end h = let e : i ≡ n = omega (arith, s.within) in s.same ∙ ap (λ (k : ℕ). listed k f ++ drop k before) e
+  pub filling_end : length before ≤ i → now ≡ listed (length before) f
+  filling_end h =
+      let e : i ≡ length before = omega (arith, s.within) in
+      s.same ∙ ap (λ (k : ℕ). listed k f ++ drop k before) e ∙ rw (drop-length before, append-nil)
 
   pub filling_kept : length now ≡ length before
   filling_kept = s.kept
 
 pub ruleset filling_laws = (rules, filling_start, filling_next, filling_end, filling_kept)
 
--- what a list that was filled so holds at its front
+-- what a list whose front was filled so holds there
 module _ {A : Type 0} (n : ℕ) (f : ℕ → A) (rest : List A) {now : List A} (e : now ≡ listed n f ++ rest) where
   pub front_is : take n now ≡ listed n f
   front_is = rw e (take_at (listed n f) rest n (listed_length n f))

@@ -1,7 +1,7 @@
 // Numbers in bytes, little-endian, and with what a file begins.
-ghost use Rattle.std.specs.Prelude.{◌≡◌, ◌++◌, ◌+◌, ◌*◌, ◌≤◌, ◌<◌, length, get_or, drop};
-ghost use Rattle.csg.specs.Ball.{ball_length};
-ghost use Rattle.files.specs.Numbers.{u16_at, u32_at, u64_at, from_bits, i64s_at, u16s_at, ball_number, balls_at};
+ghost use Rattle.std.specs.Prelude.{◌≡◌, ℕ, ◌+◌, ◌*◌, ◌≤◌, ◌<◌, length};
+ghost use Rattle.lemmas.specs.Grid.{listed};
+ghost use Rattle.files.specs.Numbers.{u16_at, u32_at, u64_at, from_bits, i64s_at, u16s_at, ball_number};
 ghost use Rattle.files.specs.Numbers.{number_bytes, word_bytes, short_bytes, version_of, universe_said, has_header};
 
 use csg::{BALL_LENGTH, MOST_PLACES};
@@ -26,20 +26,13 @@ pub(crate) fn has_header(bytes: &[u8], header: usize, mark: &[u8]) -> bool
     header <= bytes.len() && bytes.starts_with(mark)
 }
 
-// The byte at a place.
-pub(crate) fn byte_at(bytes: &[u8], at: usize) -> u64
-    requires { at < length bytes.now }
-    ensures { result ≡ get_or bytes.now at 0 }
-{
-    u64::from(bytes[at])
-}
-
-// The unsigned number of two bytes at a place.
+// The unsigned number of two bytes at a place. It, `u32_at` and `i64_at` stay three: `from_le_bytes` is a method of
+// each type of number, and of no trait.
 pub(crate) fn u16_at(bytes: &[u8], at: usize) -> u16
     requires { at + 2 ≤ length bytes.now }
     ensures { result ≡ u16_at bytes.now at }
 {
-    u16::from_le_bytes([bytes[at], bytes[at + 1]])
+    u16::from_le_bytes(bytes[at..at + 2].try_into().unwrap())
 }
 
 // The version of a file, behind the three bytes of its mark.
@@ -56,12 +49,12 @@ pub(crate) fn universe_said(bytes: &[u8]) -> Universe
     ensures { result ≡ universe_said bytes.now }
 {
     if version_of(bytes) == FIRST_VERSION {
-        return Universe::with_equal_bits(byte_at(bytes, 5), byte_at(bytes, 6));
+        return Universe::with_equal_bits(bytes[5].into(), bytes[6].into());
     }
     Universe {
-        axes: byte_at(bytes, 5),
-        bits: byte_at(bytes, 6),
-        frame_bits: byte_at(bytes, 7),
+        axes: bytes[5].into(),
+        bits: bytes[6].into(),
+        frame_bits: bytes[7].into(),
     }
 }
 
@@ -73,21 +66,13 @@ pub(crate) fn u32_at(bytes: &[u8], at: usize) -> u32
     u32::from_le_bytes(bytes[at..at + 4].try_into().unwrap())
 }
 
-// The unsigned number of eight bytes at a place.
-fn u64_at(bytes: &[u8], at: usize) -> u64
-    requires { at + 8 ≤ length bytes.now }
-    ensures { result ≡ u64_at bytes.now at }
-{
-    u64::from_le_bytes(bytes[at..at + 8].try_into().unwrap())
-}
-
 // The whole number of eight bytes at a place.
 #[tactic(auto, using(crate::proofs::Numbers::long_read))]
 fn i64_at(bytes: &[u8], at: usize) -> i64
     requires { at + 8 ≤ length bytes.now }
     ensures { result ≡ from_bits 64 (u64_at bytes.now at) }
 {
-    u64_at(bytes, at).cast_signed()
+    u64::from_le_bytes(bytes[at..at + 8].try_into().unwrap()).cast_signed()
 }
 
 // Number i of balls that begin at `at`: the last of each ball is its radius, which is unsigned.
@@ -103,39 +88,39 @@ fn ball_number(bytes: &[u8], at: usize, i: usize) -> i64
     i64::from(bits.cast_signed())
 }
 
-// Reads `count` numbers of eight bytes that begin at `at` into the front of `out`.
+// Fills a lent array with what is read at each place.
 #[tactic(auto, using(crate::proofs::Numbers::filling_laws))]
-pub(crate) fn read_numbers(bytes: &[u8], at: usize, count: usize, out: &mut [i64])
-    requires count_in_bounds { at + number_bytes * count ≤ length bytes.now }
-    requires count_in_bounds_2 { count ≤ length out.old }
-    ensures { out.new ≡ i64s_at bytes.now at count ++ drop count out.old }
+fn fill<T: Copy, F: Fn(usize) -> T>(out: &mut [T], read: F)
+    ghost rule: { ℕ → T }
+    requires callable { (i : ℕ) → i < length out.old → F.pre read i }
+    requires told { (i : ℕ) (x : T) → i < length out.old → F.post read i x → x ≡ rule i }
+    ensures { out.new ≡ listed (length out.old) rule }
 {
-    for (i, number) in out[..count].iter_mut().enumerate() {
-        *number = i64_at(bytes, at + NUMBER_BYTES * i);
+    for (i, value) in out.iter_mut().enumerate() {
+        *value = read(i);
     }
 }
 
-// Reads the numbers of `count` balls that begin at `at` into the front of `out`.
-#[tactic(auto, using(crate::proofs::Numbers::filling_laws))]
-pub(crate) fn read_balls(bytes: &[u8], at: usize, count: usize, out: &mut [i64])
-    requires count_in_bounds { at + short_bytes * (ball_length * count) ≤ length bytes.now }
-    requires count_in_bounds_2 { ball_length * count ≤ length out.old }
-    ensures { let rest = drop (ball_length * count) out.old in
-        out.new ≡ balls_at bytes.now at count ++ rest }
+// Reads numbers of eight bytes that begin at `at`, as many as `out` takes.
+pub(crate) fn read_numbers(bytes: &[u8], at: usize, out: &mut [i64])
+    requires { at + number_bytes * length out.old ≤ length bytes.now }
+    ensures { out.new ≡ i64s_at bytes.now at (length out.old) }
 {
-    for (i, number) in out[..BALL_LENGTH * count].iter_mut().enumerate() {
-        *number = ball_number(bytes, at, i);
-    }
+    fill(out, |i| i64_at(bytes, at + NUMBER_BYTES * i));
 }
 
-// Reads `count` words that begin at `at` into the front of `out`.
-#[tactic(auto, using(crate::proofs::Numbers::filling_laws))]
-pub(crate) fn read_words(bytes: &[u8], at: usize, count: usize, out: &mut [u16])
-    requires count_in_bounds { at + word_bytes * count ≤ length bytes.now }
-    requires count_in_bounds_2 { count ≤ length out.old }
-    ensures { out.new ≡ u16s_at bytes.now at count ++ drop count out.old }
+// Reads the numbers of balls that begin at `at`, as many as `out` takes.
+pub(crate) fn read_balls(bytes: &[u8], at: usize, out: &mut [i64])
+    requires { at + short_bytes * length out.old ≤ length bytes.now }
+    ensures { out.new ≡ listed (length out.old) (ball_number bytes.now at) }
 {
-    for (i, word) in out[..count].iter_mut().enumerate() {
-        *word = u16_at(bytes, at + WORD_BYTES * i);
-    }
+    fill(out, |i| ball_number(bytes, at, i));
+}
+
+// Reads words that begin at `at`, as many as `out` takes.
+pub(crate) fn read_words(bytes: &[u8], at: usize, out: &mut [u16])
+    requires { at + word_bytes * length out.old ≤ length bytes.now }
+    ensures { out.new ≡ u16s_at bytes.now at (length out.old) }
+{
+    fill(out, |i| u16_at(bytes, at + WORD_BYTES * i));
 }

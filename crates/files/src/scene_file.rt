@@ -12,8 +12,8 @@ ghost use Rattle.universe.specs.Told.{number_told};
 ghost use Rattle.files.specs.Scenes.{scene_answer, rows_after, balls_after, first_words_after, second_words_after};
 
 use crate::decode::{
-    FIRST_VERSION, NUMBER_BYTES, SHORT_BYTES, WORD_BYTES, byte_at, has_header, read_balls,
-    read_numbers, read_words, u16_at, universe_said, version_of,
+    FIRST_VERSION, NUMBER_BYTES, SHORT_BYTES, WORD_BYTES, has_header, read_balls, read_numbers,
+    read_words, u16_at, universe_said, version_of,
 };
 use crate::{Counts, Places, Scene, SceneHeader, Window};
 use csg::{
@@ -55,43 +55,85 @@ fn rows_place(bytes: &[u8]) -> usize
     HEADER_LENGTH
 }
 
-// How many balls there are.
-#[tactic(auto, unfolding(crate::specs::Scenes::balls_said, crate::specs::Scenes::rows_place))]
-fn balls_said(bytes: &[u8]) -> u16
-    requires { rows_place bytes.now ≤ length bytes.now }
-    ensures { result ≡ balls_said bytes.now }
-{
-    if version_of(bytes) == BALL_VERSION {
-        return u16_at(bytes, HEADER_LENGTH);
-    }
-    0
+// The bytes of a file that is as long as its header.
+#[derive(Clone, Copy)]
+struct SceneFile<'a> {
+    bytes: &'a [u8],
+    ghost long: { rows_place bytes.now ≤ length bytes.now },
 }
 
-// Whether the bytes are as long as their header says.
-#[tactic(auto, using(crate::proofs::SceneHeaders::header_laws))]
-fn is_whole(bytes: &[u8]) -> bool
-    requires { rows_place bytes.now ≤ length bytes.now }
-    ensures { result ≡ eqb (length bytes.now) (scene_length bytes.now) }
-{
-    let header = rows_place(bytes);
-    let rows = u16_at(bytes, 8) as usize;
-    let balls = balls_said(bytes) as usize;
-    let first = u16_at(bytes, 10) as usize;
-    let second = u16_at(bytes, 12) as usize;
-    bytes.len() == header + ROW_BYTES * rows + BALL_BYTES * balls + WORD_BYTES * (first + second)
-}
-
-// Whether the version is read: the first one has a byte 0 where frame bits stand.
-#[tactic(auto, unfolding(crate::specs::Scenes::has_version), using(crate::proofs::SceneHeaders::header_laws))]
-fn has_version(bytes: &[u8]) -> bool
-    requires { rows_place bytes.now ≤ length bytes.now }
-    ensures { result ≡ has_version bytes.now }
-{
-    let version = version_of(bytes);
-    if version == FIRST_VERSION {
-        return byte_at(bytes, 7) == 0;
+impl SceneFile<'_> {
+    // How many balls there are.
+    #[tactic(auto, unfolding(crate::specs::Scenes::balls_said, crate::specs::Scenes::rows_place))]
+    fn balls(&self) -> u16
+        ensures { result ≡ balls_said self.now.bytes.now }
+    {
+        if version_of(self.bytes) == BALL_VERSION {
+            return u16_at(self.bytes, HEADER_LENGTH);
+        }
+        0
     }
-    version == FRAME_VERSION || version == BALL_VERSION
+
+    // Whether it is as long as its header says.
+    #[tactic(auto, using(crate::proofs::SceneHeaders::header_laws))]
+    fn is_whole(&self) -> bool
+        ensures { result ≡ eqb (length self.now.bytes.now) (scene_length self.now.bytes.now) }
+    {
+        let bytes = self.bytes;
+        let header = rows_place(bytes);
+        let rows = usize::from(u16_at(bytes, 8));
+        let balls = usize::from(self.balls());
+        let first = usize::from(u16_at(bytes, 10));
+        let second = usize::from(u16_at(bytes, 12));
+        bytes.len()
+            == header + ROW_BYTES * rows + BALL_BYTES * balls + WORD_BYTES * (first + second)
+    }
+
+    // Whether its version is read: the first one has a byte 0 where frame bits stand.
+    #[tactic(auto, unfolding(crate::specs::Scenes::has_version), using(crate::proofs::SceneHeaders::header_laws))]
+    fn has_version(&self) -> bool
+        ensures { result ≡ has_version self.now.bytes.now }
+    {
+        let version = version_of(self.bytes);
+        if version == FIRST_VERSION {
+            return self.bytes[7] == 0;
+        }
+        version == FRAME_VERSION || version == BALL_VERSION
+    }
+
+    // What its header says.
+    #[tactic(auto, using(crate::proofs::SceneHeaders::header_laws))]
+    fn header(&self) -> SceneHeader
+        ensures { accepted_scene_header result ≡ scene_header_of self.now.bytes.now }
+    {
+        let bytes = self.bytes;
+        let counts = Counts {
+            rows: u16_at(bytes, 8).into(),
+            balls: self.balls().into(),
+            first: u16_at(bytes, 10).into(),
+            second: u16_at(bytes, 12).into(),
+        };
+        let rows = rows_place(bytes);
+        let balls = rows + ROW_BYTES * counts.rows as usize;
+        let first = balls + BALL_BYTES * counts.balls as usize;
+        SceneHeader {
+            scene: Scene {
+                version: version_of(bytes),
+                universe: universe_said(bytes),
+                counts,
+                window: Window {
+                    first: u16_at(bytes, 14).into(),
+                    last: u16_at(bytes, 16).into(),
+                },
+            },
+            places: Places {
+                rows,
+                balls,
+                first,
+                second: first + WORD_BYTES * counts.first as usize,
+            },
+        }
+    }
 }
 
 // Whether the bytes are a scene file by mark, version, zero byte and length.
@@ -99,46 +141,11 @@ fn has_version(bytes: &[u8]) -> bool
 fn is_scene(bytes: &[u8]) -> bool
     ensures { result ≡ is_scene bytes.now }
 {
-    HEADER_LENGTH <= bytes.len()
-        && has_header(bytes, rows_place(bytes), &MARK)
-        && has_version(bytes)
-        && is_whole(bytes)
-}
-
-// What the header of a scene file says.
-#[tactic(auto, using(crate::proofs::SceneHeaders::header_laws))]
-fn header_of(bytes: &[u8]) -> SceneHeader
-    requires { rows_place bytes.now ≤ length bytes.now }
-    ensures { accepted_scene_header result ≡ scene_header_of bytes.now }
-{
-    let header = rows_place(bytes);
-    let rows = u16_at(bytes, 8) as u64;
-    let balls = balls_said(bytes) as u64;
-    let first = u16_at(bytes, 10) as u64;
-    let after_rows = header + ROW_BYTES * rows as usize;
-    let after_balls = after_rows + BALL_BYTES * balls as usize;
-    SceneHeader {
-        scene: Scene {
-            version: version_of(bytes),
-            universe: universe_said(bytes),
-            counts: Counts {
-                rows,
-                balls,
-                first,
-                second: u16_at(bytes, 12) as u64,
-            },
-            window: Window {
-                first: u16_at(bytes, 14) as u64,
-                last: u16_at(bytes, 16) as u64,
-            },
-        },
-        places: Places {
-            rows: header,
-            balls: after_rows,
-            first: after_balls,
-            second: after_balls + WORD_BYTES * first as usize,
-        },
+    if bytes.len() < HEADER_LENGTH || !has_header(bytes, rows_place(bytes), &MARK) {
+        return false;
     }
+    let file = SceneFile { bytes };
+    file.has_version() && file.is_whole()
 }
 
 // The header of a scene file, or `BadFile`.
@@ -149,23 +156,21 @@ fn scene_header(bytes: &[u8]) -> Result<SceneHeader, Refusal>
     if !is_scene(bytes) {
         return Err(Refusal::BadFile);
     }
-    Ok(header_of(bytes))
+    Ok(SceneFile { bytes }.header())
 }
 
-// Refused where the rows of a scene are.
+// Refused where the rows of a scene are. Rows, balls and words keep a check each: one for all would take the room, the
+// refusal, the reader and the check as parameters, and be no shorter.
 #[tactic(auto, using(crate::proofs::Scenes::rows_many))]
 fn check_rows_at(universe: Universe, bytes: &[u8], at: usize, count: usize) -> Result<(), Refusal>
     requires { at + row_bytes * count ≤ length bytes.now }
     ensures { let rows = i64s_at bytes.now at (row_length * count) in
         number_told result ≡ rows_refusal universe rows }
 {
-    if MOST_ROWS < count {
-        return Err(Refusal::BadRows);
-    }
-    let mut rows = [0i64; MOST_NUMBERS];
-    let length = ROW_LENGTH * count;
-    read_numbers(bytes, at, length, &mut rows);
-    check_rows(universe, &rows[..length])
+    let mut rows = [0; MOST_NUMBERS];
+    let rows = rows.get_mut(..ROW_LENGTH * count).ok_or(Refusal::BadRows)?;
+    read_numbers(bytes, at, rows);
+    check_rows(universe, rows)
 }
 
 // Refused where the balls of a scene are.
@@ -174,13 +179,12 @@ fn check_balls_at(universe: Universe, bytes: &[u8], at: usize, count: usize) -> 
     requires { at + ball_bytes * count ≤ length bytes.now }
     ensures { number_told result ≡ balls_refusal universe (balls_at bytes.now at count) }
 {
-    if MOST_BALLS < count {
-        return Err(Refusal::BadRows);
-    }
-    let mut balls = [0i64; MOST_BALL_NUMBERS];
-    let length = BALL_LENGTH * count;
-    read_balls(bytes, at, count, &mut balls);
-    check_balls(universe, &balls[..length])
+    let mut balls = [0; MOST_BALL_NUMBERS];
+    let balls = balls
+        .get_mut(..BALL_LENGTH * count)
+        .ok_or(Refusal::BadRows)?;
+    read_balls(bytes, at, balls);
+    check_balls(universe, balls)
 }
 
 // Refused where the words of a tree are.
@@ -189,12 +193,10 @@ fn check_words_at(counts: Counts, bytes: &[u8], at: usize, count: usize) -> Resu
     requires { at + word_bytes * count ≤ length bytes.now }
     ensures { number_told result ≡ tree_refusal (named_by counts) (u16s_at bytes.now at count) }
 {
-    if MOST_WORDS < count {
-        return Err(Refusal::OverfullTree);
-    }
-    let mut words = [0u16; MOST_WORDS];
-    read_words(bytes, at, count, &mut words);
-    check_tree(counts.rows, counts.balls, &words[..count])
+    let mut words = [0; MOST_WORDS];
+    let words = words.get_mut(..count).ok_or(Refusal::OverfullTree)?;
+    read_words(bytes, at, words);
+    check_tree(counts.rows, counts.balls, words)
 }
 
 // Refused where a scene with this header is.
@@ -238,9 +240,17 @@ pub fn read_scene(
     check_scene(bytes, header)?;
     let SceneHeader { scene, places } = header;
     let counts = scene.counts;
-    read_numbers(bytes, places.rows, ROW_LENGTH * counts.rows as usize, rows);
-    read_balls(bytes, places.balls, counts.balls as usize, balls);
-    read_words(bytes, places.first, counts.first as usize, first);
-    read_words(bytes, places.second, counts.second as usize, second);
+    read_numbers(
+        bytes,
+        places.rows,
+        &mut rows[..ROW_LENGTH * counts.rows as usize],
+    );
+    read_balls(
+        bytes,
+        places.balls,
+        &mut balls[..BALL_LENGTH * counts.balls as usize],
+    );
+    read_words(bytes, places.first, &mut first[..counts.first as usize]);
+    read_words(bytes, places.second, &mut second[..counts.second as usize]);
     Ok(scene)
 }

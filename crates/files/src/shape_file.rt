@@ -118,7 +118,7 @@ fn is_shape(bytes: &[u8]) -> bool
         && bytes.len() == header + u32_at(bytes, header - COUNT_BYTES) as usize
 }
 
-// What the header of a shape file says.
+// What the header of a shape file says. That the bytes are as long is asked here alone, so no type holds it.
 #[tactic(auto, using(crate::proofs::Shapes::least))]
 fn header_of(bytes: &[u8]) -> ShapeHeader
     requires { shape_header_length (version_of bytes.now) ≤ length bytes.now }
@@ -128,7 +128,7 @@ fn header_of(bytes: &[u8]) -> ShapeHeader
     ShapeHeader {
         shape: ShapeRead {
             universe: universe_said(bytes),
-            length: u32_at(bytes, header - COUNT_BYTES) as u64,
+            length: u32_at(bytes, header - COUNT_BYTES).into(),
         },
         place: header,
     }

@@ -1,4 +1,4 @@
--- Work room of a call's own (rule 16.4): four sizes, in nodes, and when so many nodes suffice. With work room that
+-- Work room of a call's own (rule 16.4): its largest size, in nodes, and when so many nodes suffice. With work room that
 -- suffices, a pruned conversion's number and length are all that is left of its answer.
 use Rattle.std.specs.Prelude.{ℕ, ◌≤◌, ◌≡◌, Bool, cond, List}
 use Rattle.universe.specs.declared.Universe.{Universe}
@@ -8,15 +8,6 @@ use Rattle.csg.specs.Surfaces.{Surfaces}
 use Rattle.convert.specs.Answers.{raw_of_one_answer, raw_of_one_buffer, raw_of_two_answer, raw_of_two_buffer}
 use Rattle.pruned.specs.Told.{ConversionAnswer}
 use Rattle.pruned.specs.Answers.{nodes_needed}
-
-abbrev pub fewest : ℕ
-fewest = 32
-
-abbrev pub few : ℕ
-few = 128
-
-abbrev pub some : ℕ
-some = 512
 
 abbrev pub many : ℕ
 many = 1248

@@ -1,11 +1,12 @@
 // Work room of the call's own, of four sizes, and the pruned conversions in it.
-ghost use Rattle.std.specs.Prelude.{◌≡◌, ◌+◌, ◌≤◌, length};
+ghost use Rattle.std.specs.Prelude.{◌≡◌, ◌+◌, ◌*◌, ◌/◌, ◌≤◌, length};
 ghost use Rattle.bintree.specs.Told.{writing_told};
 ghost use Rattle.csg.specs.Surfaces.{surfaces_of};
 ghost use Rattle.convert.specs.Answers.{raw_of_one_answer, raw_of_one_buffer, raw_of_two_answer, raw_of_two_buffer};
 ghost use Rattle.pruned.specs.Answers.{nodes_lent};
+ghost use Rattle.pruned.specs.Nodes.{node_length};
 ghost use Rattle.pruned.specs.Told.{conversion_told};
-ghost use Rattle.local.specs.Rooms.{fewest, few, some, many, Suffices, parts_of, raw_answer, raw_buffer};
+ghost use Rattle.local.specs.Rooms.{many, Suffices, parts_of, raw_answer, raw_buffer};
 
 use pruned::{Conversion, Unconverted};
 use universe::{Universe, Unwritten};
@@ -23,6 +24,15 @@ const SOME: usize = 512;
 
 // Those of the largest: beside its recursion the stack has room for no more.
 pub(crate) const MANY: usize = 1_248;
+
+// The numbers of each.
+const FEWEST_NUMBERS: usize = NODE_LENGTH * FEWEST;
+
+const FEW_NUMBERS: usize = NODE_LENGTH * FEW;
+
+const SOME_NUMBERS: usize = NODE_LENGTH * SOME;
+
+const MANY_NUMBERS: usize = NODE_LENGTH * MANY;
 
 // The nodes of work room that trees with so many words need (rule 16.4), where they are no more than MANY.
 pub(crate) fn nodes_of(universe: Universe, words: usize) -> u64
@@ -72,8 +82,8 @@ fn laid_in(
     parts_of(found)
 }
 
-// The same in the smallest work room.
-fn fewest_of(
+// The same in work room of so many numbers.
+fn in_room<const NUMBERS: usize>(
     universe: Universe,
     rows: &[i64],
     balls: &[i64],
@@ -82,77 +92,15 @@ fn fewest_of(
     both: bool,
     out: &mut [u8],
 ) -> Result<u64, Unwritten>
-    requires { Suffices universe (length first.now + length second.now) fewest }
+    requires numbers_few { NUMBERS ≤ node_length * many }
+    requires suffices { Suffices universe (length first.now + length second.now) (NUMBERS / node_length) }
     ensures result_value { let surfaces = surfaces_of rows.now balls.now in
         writing_told result ≡ raw_answer both universe surfaces first.now second.now out.old }
     ensures out_after { let surfaces = surfaces_of rows.now balls.now in
         out.new
         ≡ raw_buffer both universe surfaces first.now second.now out.old }
 {
-    let mut work = [0i64; NODE_LENGTH * FEWEST];
-    laid_in(universe, rows, balls, first, second, both, &mut work, out)
-}
-
-// The same in the second.
-fn few_of(
-    universe: Universe,
-    rows: &[i64],
-    balls: &[i64],
-    first: &[u16],
-    second: &[u16],
-    both: bool,
-    out: &mut [u8],
-) -> Result<u64, Unwritten>
-    requires { Suffices universe (length first.now + length second.now) few }
-    ensures result_value { let surfaces = surfaces_of rows.now balls.now in
-        writing_told result ≡ raw_answer both universe surfaces first.now second.now out.old }
-    ensures out_after { let surfaces = surfaces_of rows.now balls.now in
-        out.new
-        ≡ raw_buffer both universe surfaces first.now second.now out.old }
-{
-    let mut work = [0i64; NODE_LENGTH * FEW];
-    laid_in(universe, rows, balls, first, second, both, &mut work, out)
-}
-
-// The same in the third.
-fn some_of(
-    universe: Universe,
-    rows: &[i64],
-    balls: &[i64],
-    first: &[u16],
-    second: &[u16],
-    both: bool,
-    out: &mut [u8],
-) -> Result<u64, Unwritten>
-    requires { Suffices universe (length first.now + length second.now) some }
-    ensures result_value { let surfaces = surfaces_of rows.now balls.now in
-        writing_told result ≡ raw_answer both universe surfaces first.now second.now out.old }
-    ensures out_after { let surfaces = surfaces_of rows.now balls.now in
-        out.new
-        ≡ raw_buffer both universe surfaces first.now second.now out.old }
-{
-    let mut work = [0i64; NODE_LENGTH * SOME];
-    laid_in(universe, rows, balls, first, second, both, &mut work, out)
-}
-
-// The same in the largest.
-fn many_of(
-    universe: Universe,
-    rows: &[i64],
-    balls: &[i64],
-    first: &[u16],
-    second: &[u16],
-    both: bool,
-    out: &mut [u8],
-) -> Result<u64, Unwritten>
-    requires { Suffices universe (length first.now + length second.now) many }
-    ensures result_value { let surfaces = surfaces_of rows.now balls.now in
-        writing_told result ≡ raw_answer both universe surfaces first.now second.now out.old }
-    ensures out_after { let surfaces = surfaces_of rows.now balls.now in
-        out.new
-        ≡ raw_buffer both universe surfaces first.now second.now out.old }
-{
-    let mut work = [0i64; NODE_LENGTH * MANY];
+    let mut work = [0i64; NUMBERS];
     laid_in(universe, rows, balls, first, second, both, &mut work, out)
 }
 
@@ -176,15 +124,15 @@ fn pruned_of(
         ≡ raw_buffer both universe surfaces first.now second.now out.old }
 {
     if nodes <= FEWEST as u64 {
-        return fewest_of(universe, rows, balls, first, second, both, out);
+        return in_room::<FEWEST_NUMBERS>(universe, rows, balls, first, second, both, out);
     }
     if nodes <= FEW as u64 {
-        return few_of(universe, rows, balls, first, second, both, out);
+        return in_room::<FEW_NUMBERS>(universe, rows, balls, first, second, both, out);
     }
     if nodes <= SOME as u64 {
-        return some_of(universe, rows, balls, first, second, both, out);
+        return in_room::<SOME_NUMBERS>(universe, rows, balls, first, second, both, out);
     }
-    many_of(universe, rows, balls, first, second, both, out)
+    in_room::<MANY_NUMBERS>(universe, rows, balls, first, second, both, out)
 }
 
 // The raw expression of one tree, pruned in work room of so many nodes or more.

@@ -2,10 +2,10 @@
 -- stretch, and static rows that leave room for six more.
 use Prim.Native.Nat.{ℕ, ◌+◌, ◌-◌, ◌*◌, ◌≤◌, ◌<◌}
 use native.Mathlib.Omega.{arith}
-use mathlib.Core.Path.{◌≡◌}
+use mathlib.Core.Path.{◌≡◌, sym, ◌∙◌}
 use mathlib.Core.Bool.{true, ◌&&◌}
 use mathlib.Core.List.{List}
-use borrow.Author.Tests.{leb-true, ltb-true, eqb-true}
+use borrow.Author.Tests.{leb-true, ltb-true, eqb-true, eq-eqb, ne_eqb}
 use lib.Dec.{ltb, leb, eqb}
 use lib.Ieee.{Float}
 use lib.ListN.{length}
@@ -15,6 +15,8 @@ use Rattle.universe.specs.declared.Universe.{Universe}
 use Rattle.universe.specs.Refusals.{bad_universe, bad_proxy, bad_keys, bad_step, bad_rows}
 use Rattle.universe.specs.Universe.{universe_refusal, longest_side, frame_axis, frame_count}
 use Rattle.universe.proofs.Refusing.{unless_holds}
+use Rattle.universe.specs.Accepting.{accepted_answer}
+use Rattle.universe.proofs.Acceptance.{accepted_number}
 use Rattle.universe.proofs.Universes.{accepted, side_few}
 use Rattle.csg.specs.Halfspace.{row_count, rows_refusal}
 use Rattle.csg.specs.Surfaces.{Surfaces}
@@ -36,6 +38,16 @@ module _ (u : Universe) (e : axes_refusal u ≡ 0) where
 
   pub four_axes_lem : u.axes ≡ proxy_axes
   four_axes_lem = eqb-true u.axes proxy_axes (and_right (eqb (universe_refusal u) 0) (eqb u.axes proxy_axes) both_tests)
+
+-- what the code gives, by what the universe told
+module _ (u : Universe) {n : ℕ} {v : Universe} (e : record { refusal = n; universe = v } ≡ accepted_answer u) where
+  pub axes_taken : n ≡ 0 → u.axes ≡ proxy_axes → 0 ≡ axes_refusal u
+  unfolding axes_refusal
+  axes_taken z four = rw (eq-eqb (universe_refusal u) 0 (sym (accepted_number u e) ∙ z), eq-eqb u.axes proxy_axes four)
+
+  pub axes_not : (n ≡ 0 → ⊥) → bad_universe ≡ axes_refusal u
+  unfolding axes_refusal
+  axes_not h = rw (ne_eqb (universe_refusal u) 0 (λ z. h (accepted_number u e ∙ z)))
 
 pub frames_most : (u : Universe) → universe_refusal u ≡ 0 → frame_count u ≤ longest_side
 frames_most u ok = side_few u (accepted u ok) (frame_axis u)

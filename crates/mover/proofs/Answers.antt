@@ -9,7 +9,6 @@ use lib.Dec.{leb}
 use lib.ListN.{length}
 use Rattle.universe.specs.declared.Universe.{Universe}
 use Rattle.universe.specs.Refusals.{no_room}
-use Rattle.universe.specs.Universe.{universe_refusal}
 use Rattle.universe.specs.Room.{room}
 use Rattle.csg.specs.Surfaces.{Surfaces, named}
 use Rattle.csg.specs.Words.{most_words, halfspace_words, ball_words}
@@ -22,21 +21,20 @@ use Rattle.mover.specs.Frames.{stretch_raw, mover_verdict}
 use Rattle.mover.specs.Answers.{box_rows, mover_checks, mover_refusal, largest_need, mover_answer, after_stretches}
 use Rattle.mover.specs.Answers.{mover_buffer}
 use Rattle.mover.specs.Ready.{Ready, Fits}
-use Rattle.mover.proofs.Accepted.{ready_universe}
 use Rattle.mover.proofs.Trees.{stretch_fits}
 use Rattle.mover.proofs.Judging.{most_needs}
 
 module _ {u : Universe} {m : Mover} {surfaces : Surfaces} {words : List ℕ} (r : Ready u m surfaces words) where
   -- as much room as the formula says is enough for every stretch
-  pub room_asks : (universe_refusal u ≡ 0) × (length words ≤ most_words)
-  room_asks = (ready_universe r, accepted_length (named surfaces) words r.accepted_tree)
+  pub room_asks : length words ≤ most_words
+  room_asks = accepted_length (named surfaces) words r.accepted_tree
 
   module _ {out : List ℕ} where
-    pub room_enough : {b : Bool} → b ≡ leb (room u (halfspace_words words + box_rows) (ball_words words)) (length out) → b ≡ true →
-        Fits u m surfaces words out
+    pub room_enough : {v : Universe} {b : Bool} → v ≡ u → b ≡ leb (room v (halfspace_words words + box_rows) (ball_words words)) (length out) →
+        b ≡ true → Fits u m surfaces words out
     unfolding largest_need
-    room_enough e t =
-        let enough = leb-true (room u (halfspace_words words + box_rows) (ball_words words)) (length out) (sym e ∙ t) in
+    room_enough same e t =
+        let enough = leb-true (room u (halfspace_words words + box_rows) (ball_words words)) (length out) (rw same at (sym e ∙ t)) in
         record {
           ready = r;
           room =

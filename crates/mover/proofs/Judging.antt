@@ -7,21 +7,17 @@ use native.Mathlib.Decide.{dec_le, ℕ_discrete}
 use mathlib.Core.Path.{◌≡◌, refl, sym, ap, ap₂, ◌∙◌}
 use mathlib.Core.Bool.{Bool, true, false, cond}
 use mathlib.Core.List.{List, [], ◌++◌}
-use borrow.Author.Tests.{le-leb, lt-leb, lt-ltb, le-ltb, eq-eqb}
+use borrow.Author.Tests.{le-leb, lt-leb, lt-ltb, le-ltb}
 use lib.Dec.{leb, eqb}
 use lib.IntN.{ℤ}
 use lib.ListN.{length, take, drop, length-append, length-drop}
 use lib.Seq.{take-append_seam, length-take-le}
 use Rattle.universe.specs.declared.Universe.{Universe}
-use Rattle.std.specs.Prelude.{Result, Ok, Err}
 use Rattle.std.proofs.Common.{Equal, Greater}
 use Rattle.std.specs.Ordering.{ord_max, nat_cmp, is_lt}
-use Rattle.universe.specs.declared.refusal.Refusal.{Refusal}
-use Rattle.universe.specs.Told.{RoomAnswer, room_told}
-use Rattle.universe.proofs.Telling.{number-not_zero}
-use Rattle.universe.specs.Universe.{universe_refusal, frame_count}
+use Rattle.universe.specs.Universe.{frame_count}
 use Rattle.universe.specs.Voxel.{window_refusal}
-use Rattle.universe.specs.Room.{room, room_answer}
+use Rattle.universe.specs.Room.{room}
 use Rattle.bintree.specs.declared.Verdict.{Verdict}
 use Rattle.bintree.specs.declared.Verdict.TheVariants.{Clear}
 use Rattle.bintree.specs.Told.{WrittenAnswer}
@@ -29,7 +25,7 @@ use Rattle.bintree.specs.Answers.{written_answer}
 use Rattle.bintree.proofs.Answers.{written_short, written_all, left_all}
 use Rattle.csg.specs.Halfspace.{row_length, row_count}
 use Rattle.csg.specs.Surfaces.{Surfaces, surfaces_of}
-use Rattle.csg.specs.Words.{most_words, halfspace_words, ball_words}
+use Rattle.csg.specs.Words.{most_words, halfspace_words}
 use Rattle.csg.proofs.Words.{count_words_most}
 use Rattle.convert.specs.Told.{ClearanceAnswer}
 use Rattle.convert.specs.Answers.{raw_of_two_answer, clearance_checks, clearance_refusal, done_clearance, clearance_answer}
@@ -126,18 +122,8 @@ module _ {u : Universe} {m : Mover} {surfaces : Surfaces} {words : List ℕ} {i 
         judged_left h = h ∙ rw (scene, g, stretch_accepted, raw_is q.ready i q.there) (sym (left_all 0 out symbols refl fits))
 
 -- ---- `has_room`
-module _ (u : Universe) (words : List ℕ) {leaves : ℕ} (e : leaves ≡ halfspace_words words) where
-  pub room_leaves : length words ≤ most_words → leaves + box_rows < 2 ^ 64
-  room_leaves h = omega (arith, e, count_words_most 256 256 words)
-
-  pub room_some : {balls : ℕ} {r : Result ℕ Refusal} → universe_refusal u ≡ 0 → balls ≡ ball_words words →
-      room_told r ≡ room_answer u (leaves + box_rows) balls → r ≡ Ok (room u (halfspace_words words + box_rows) (ball_words words))
-  unfolding room_answer
-  room_some {balls} {r} ok f g = go r (g ∙ rw (eq-eqb (universe_refusal u) 0 ok, e, f))
-    where
-      go : {n : ℕ} (r : Result ℕ Refusal) → room_told r ≡ record { refusal = 0; symbols = n } → r ≡ Ok n
-      go (Ok m) h = ap Ok (ap (λ (x : RoomAnswer). x.symbols) h)
-      go (Err w) h = absurd (number-not_zero w (ap (λ (x : RoomAnswer). x.refusal) h))
+pub room_leaves : (words : List ℕ) {leaves : ℕ} → leaves ≡ halfspace_words words → length words ≤ most_words → leaves + box_rows < 2 ^ 64
+room_leaves words e h = omega (arith, e, count_words_most 256 256 words)
 
 -- ---- `largest_need`: the largest of the first i needs
 -- the library's larger number

@@ -1,11 +1,11 @@
 -- What the checks of a mover's Box, corners and keys cite: the numbers of a displacement, whether the Box is taken, and the frames.
-use Prim.Native.Nat.{ℕ, ◌-◌, ◌≤◌, ◌<◌}
+use Prim.Native.Nat.{ℕ, ◌≤◌}
 use native.Mathlib.Omega.{arith}
 use native.Mathlib.Nat.{le_trans}
 use native.Mathlib.Decide.{ℕ_discrete}
 use mathlib.Core.Path.{◌≡◌, refl, sym, ap, ◌∙◌}
 use mathlib.Core.Bool.{Bool, true, false, cond, ◌&&◌}
-use borrow.Author.Tests.{lt-ltb, eq-eqb, ne_eqb}
+use borrow.Author.Tests.{ne_eqb}
 use lib.Dec.{eqb, lit≤}
 use lib.Ieee.{Float}
 use lib.IntN.{ℤ, pos, negsuc, nat_abs}
@@ -14,11 +14,7 @@ use mir.Val.{to_z, of_z}
 use Rattle.std.specs.Prelude.{Option, Some, None}
 use Rattle.std.specs.Option.{is_some}
 use Rattle.lemmas.proofs.Machine.{near}
-use Rattle.universe.specs.declared.Universe.{Universe}
 use Rattle.universe.specs.Refusals.{bad_proxy}
-use Rattle.universe.specs.Universe.{universe_refusal, frame_count}
-use Rattle.universe.specs.Questions.{side_answer}
-use Rattle.universe.proofs.Universes.{accepted}
 use Rattle.standin.specs.declared.Triple.{Triple}
 use Rattle.standin.specs.declared.Solid.{Solid}
 use Rattle.standin.specs.declared.Solid.TheVariants.{Box, Cut}
@@ -123,13 +119,3 @@ module _ (p : Proxy) {n : ℕ} (e : n ≡ box_row_count p) where
     pub still_not : {b : Bool} → b ≡ is_still p.displacement → b ≡ false → bad_proxy ≡ still_refusal p
     unfolding still_refusal
     still_not f t = rw ((some_rows p.solid p.displacement (λ z. some (e ∙ z))).still, ← f, t)
-
--- ---- `check_keys`: the last axis counts frames
-pub axis_fits : (u : Universe) → universe_refusal u ≡ 0 → 1 ≤ u.axes
-axis_fits u ok = (accepted u ok).some_axes
-
-pub side_frames : (u : Universe) → universe_refusal u ≡ 0 → side_answer u (u.axes - 1) ≡ frame_count u
-unfolding side_answer
-side_frames u ok =
-    let l : u.axes - 1 < u.axes = omega (arith, axis_fits u ok) in
-    rw (eq-eqb (universe_refusal u) 0 ok, lt-ltb (u.axes - 1) u.axes l)

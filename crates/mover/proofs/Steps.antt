@@ -1,5 +1,5 @@
 -- Corners and steps in whole sixteenths, as the machine computes them: every number is small, so that nothing overflows.
-use Prim.Native.Nat.{ℕ, ◌+◌, ◌-◌, ◌/◌, ◌%◌, ◌≤◌, ◌<◌}
+use Prim.Native.Nat.{ℕ, ◌+◌, ◌/◌, ◌%◌, ◌≤◌, ◌<◌}
 use native.Mathlib.Omega.{arith}
 use native.Mathlib.Nat.{le_trans, div-le_self}
 use mathlib.Core.Path.{◌≡◌, refl, sym, ap, ◌∙◌}

@@ -8,13 +8,14 @@ use Rattle.bintree.specs.declared.Verdict.TheVariants.{Clear, Hit}
 use Rattle.bintree.specs.Shape.{symbols}
 use Rattle.bintree.specs.Verdicts.{first_frame, last_frame, verdict}
 use Rattle.csg.specs.Halfspace.{row_count}
-use Rattle.csg.specs.Surfaces.{Surfaces, named, halfspace}
+use Rattle.csg.specs.Surfaces.{Surfaces, surfaces_of, named, halfspace}
 use Rattle.csg.specs.Tree.{Tree, leaf, surface}
 use Rattle.csg.specs.Words.{first_halfspace, tree_of}
 use Rattle.csg.specs.Marks.{tree_colour}
 use Rattle.csg.specs.Raw.{raw, both}
 use Rattle.demands.specs.Voxels.{black_voxels_at}
 use Rattle.demands.specs.Verdicts.{frame_of}
+use Rattle.mover.specs.declared.judge.StaticTree.{StaticTree}
 use Rattle.mover.specs.Keys.{Mover, moment_at}
 use Rattle.mover.specs.Stretches.{stretches, with_box}
 
@@ -32,6 +33,10 @@ unfoldable pub box_words : ℕ → List ℕ
 box_words n =
     let w = first_halfspace + n in
     w ∷ (w + 1) ∷ 3 ∷ (w + 2) ∷ 3 ∷ (w + 3) ∷ 3 ∷ (w + 4) ∷ 3 ∷ (w + 5) ∷ 3 ∷ []
+
+-- the rows and balls of a static tree that is lent
+abbrev pub surfaces_lent : StaticTree → Surfaces
+surfaces_lent tree = surfaces_of tree.rows.now tree.balls.now
 
 -- rule 15.5: the static tree, which knows its own rows and balls alone, intersected with the Box
 abbrev pub static_tree : Surfaces → List ℕ → Tree

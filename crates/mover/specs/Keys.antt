@@ -13,6 +13,7 @@ use Rattle.standin.specs.declared.Proxy.{Proxy}
 use Rattle.standin.specs.declared.Numbers.{Numbers}
 use Rattle.standin.specs.Sixteenths.{sixteenths, is_taken, corner_limit}
 use Rattle.standin.specs.Rows.{numbers_of, alike, takes_box}
+use Rattle.mover.specs.declared.step.Mover as keyed
 
 -- rule 15.1: the Box, the keys' moments, and their near corners, three numbers each
 pub record Mover : Type 0 where
@@ -22,6 +23,10 @@ pub record Mover : Type 0 where
 
 abbrev pub mover_of : Proxy → List ℕ → List Float → Mover
 mover_of box moments corners = record { box = box; moments = moments; corners = corners }
+
+-- the same of what is lent
+abbrev pub mover_lent : keyed.Mover → Mover
+mover_lent m = mover_of m.size m.moments.now m.corners.now
 
 -- rule 15.1: how many keys there may be, and the numbers of a corner
 abbrev pub least_keys : ℕ

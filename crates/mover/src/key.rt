@@ -1,13 +1,13 @@
 // What a mover is refused for before any row is looked at: its Box, its corners and its keys.
 ghost use Rattle.std.specs.Prelude.{◌≡◌, true};
-ghost use Rattle.universe.specs.Universe.{universe_refusal};
 ghost use Rattle.universe.specs.Told.{number_told};
 ghost use Rattle.standin.specs.Sixteenths.{corner_limit, normal_limit, is_taken};
 ghost use Rattle.standin.specs.Rows.{takes_triple};
 ghost use Rattle.mover.specs.Keys.{is_still, still_refusal, corners_refusal, is_rising, are_within, keys_refusal};
 
+use crate::step::Mover;
 use standin::{Proxy, Triple};
-use universe::{Refusal, Universe};
+use universe::{Accepted, Refusal};
 
 // How many keys a mover may have, and the numbers of a corner (rule 15.1).
 pub const LEAST_KEYS: usize = 2;
@@ -72,25 +72,21 @@ fn are_within(most: u64, moments: &[u64]) -> bool
     moments.iter().all(|moment| *moment <= most)
 }
 
-// BadKeys where there are too few keys or too many, not a whole corner for each, or moments that do not rise or lie
-// past the end of the last frame.
-pub(crate) fn check_keys(
-    universe: Universe,
-    moments: &[u64],
-    corners: &[f64],
-) -> Result<(), Refusal>
-    requires { universe_refusal universe ≡ 0 }
-    ensures { number_told result ≡ keys_refusal universe moments.now corners.now }
-{
-    let count = moments.len();
-    let frames = universe.side(universe.axes - 1);
-    if count < LEAST_KEYS
-        || MOST_KEYS < count
-        || corners.len() != CORNER_LENGTH * count
-        || !is_rising(moments)
-        || !are_within(frames, moments)
+impl Mover<'_> {
+    // BadKeys where there are too few keys or too many, not a whole corner for each, or moments that do not rise or lie
+    // past the end of the last frame.
+    pub(crate) fn check_keys(self, accepted: Accepted) -> Result<(), Refusal>
+        ensures { number_told result ≡ keys_refusal accepted.universe self.entry.moments.now self.entry.corners.now }
     {
-        return Err(Refusal::BadKeys);
+        let count = self.moments.len();
+        if count < LEAST_KEYS
+            || MOST_KEYS < count
+            || self.corners.len() != CORNER_LENGTH * count
+            || !is_rising(self.moments)
+            || !are_within(accepted.frames(), self.moments)
+        {
+            return Err(Refusal::BadKeys);
+        }
+        Ok(())
     }
-    Ok(())
 }

@@ -7,36 +7,39 @@ mod scene;
 mod step;
 mod stretch;
 
-ghost use Rattle.std.specs.Prelude.{◌≡◌, OnOk};
+ghost use Rattle.std.specs.Prelude.{◌≡◌, IfOk, OnOk};
 ghost use Rattle.universe.specs.Told.{number_told};
+ghost use Rattle.universe.specs.Accepting.{accepted_told};
 ghost use Rattle.csg.specs.Surfaces.{surfaces_of};
 ghost use Rattle.convert.specs.Told.{clearance_told};
-ghost use Rattle.mover.specs.Keys.{mover_of};
+ghost use Rattle.mover.specs.Keys.{mover_of, mover_lent};
 ghost use Rattle.mover.specs.Answers.{axes_refusal, static_refusal, mover_refusal, mover_answer, mover_buffer};
+ghost use Rattle.mover.specs.Frames.{surfaces_lent};
 ghost use Rattle.mover.specs.Ready.{Ready};
 
 use convert::Clearance;
 use csg::{BALL_LENGTH, ROW_LENGTH};
-use judge::{has_room, judge_all, largest_need};
+use judge::{StaticTree, has_room, judge_all, largest_need};
 pub use key::{CORNER_LENGTH, LEAST_KEYS, MOST_KEYS};
-use key::{check_corners, check_keys, check_still};
+use key::{check_corners, check_still};
 pub use scene::{BOX_ROWS, MOST_STATIC};
 use standin::Proxy;
-use step::check_steps;
-use universe::{Refusal, Universe, Unwritten};
+use step::Mover;
+use universe::{Accepted, Refusal, Universe, Unwritten};
 
 // The axes of a proxy, and so of a mover.
 const PROXY_AXES: u64 = 4;
 
 // BadUniverse where the universe is refused or has not a proxy's axes.
 #[tactic(auto, unfolding(crate::specs::Answers::axes_refusal))]
-fn check_axes(universe: Universe) -> Result<(), Refusal>
-    ensures { number_told result ≡ axes_refusal universe }
+fn check_axes(universe: Universe) -> Result<Accepted, Refusal>
+    ensures is { (accepted_told result).refusal ≡ axes_refusal universe }
+    ensures same { IfOk result (λ accepted. accepted.universe ≡ universe) }
 {
-    if universe.check().is_err() || universe.axes != PROXY_AXES {
-        return Err(Refusal::BadUniverse);
+    match universe.accepted() {
+        Ok(accepted) if universe.axes == PROXY_AXES => Ok(accepted),
+        _ => Err(Refusal::BadUniverse),
     }
-    Ok(())
 }
 
 // BadRows where static rows are refused, or leave no room for the Box's.
@@ -52,32 +55,27 @@ fn check_static(universe: Universe, rows: &[i64]) -> Result<(), Refusal>
 
 // What refuses the call before room is asked for; where nothing does, the stretches can be judged.
 #[tactic(auto, unfolding(crate::specs::Answers::mover_checks))]
-fn check(
-    universe: Universe,
-    size: Proxy,
-    moments: &[u64],
-    corners: &[f64],
-    rows: &[i64],
-    balls: &[i64],
-    words: &[u16],
-) -> Result<(), Refusal>
-    ensures is { let m = mover_of size moments.now corners.now in
-        number_told result ≡ mover_refusal universe m (surfaces_of rows.now balls.now) words.now }
-    ensures ready { let m = mover_of size moments.now corners.now in
-        OnOk result (Ready universe m (surfaces_of rows.now balls.now) words.now) }
+fn check(universe: Universe, mover: Mover<'_>, tree: StaticTree<'_>) -> Result<Accepted, Refusal>
+    ensures is { let number = (accepted_told result).refusal in
+        let tree = tree.entry in
+        number ≡ mover_refusal universe (mover_lent mover.entry) (surfaces_lent tree) tree.words.now }
+    ensures same { IfOk result (λ accepted. accepted.universe ≡ universe) }
+    ensures ready { let tree = tree.entry in
+        OnOk result (Ready universe (mover_lent mover.entry) (surfaces_lent tree) tree.words.now) }
 {
-    check_axes(universe)?;
-    check_still(size)?;
-    check_corners(corners)?;
-    check_keys(universe, moments, corners)?;
-    check_steps(moments, corners)?;
-    check_static(universe, rows)?;
-    csg::check_balls(universe, balls)?;
+    let accepted = check_axes(universe)?;
+    check_still(mover.size)?;
+    check_corners(mover.corners)?;
+    mover.check_keys(accepted)?;
+    mover.check_steps()?;
+    check_static(universe, tree.rows)?;
+    csg::check_balls(universe, tree.balls)?;
     csg::check_tree(
-        (rows.len() / ROW_LENGTH) as u64,
-        (balls.len() / BALL_LENGTH) as u64,
-        words,
-    )
+        (tree.rows.len() / ROW_LENGTH) as u64,
+        (tree.balls.len() / BALL_LENGTH) as u64,
+        tree.words,
+    )?;
+    Ok(accepted)
 }
 
 // Whether a mover and a static tree share space, over all stretches from key to key: `size` is a Box that stands
@@ -101,12 +99,18 @@ pub fn verdict_of_mover(
         let surfaces = surfaces_of rows.now balls.now in
         out.new ≡ mover_buffer universe m surfaces words.now out.old }
 {
-    check(universe, size, moments, corners, rows, balls, words)?;
-    if !has_room(universe, words, out.len()) {
-        let need = largest_need(universe, size, moments, corners, rows, balls, words);
+    let mover = Mover {
+        size,
+        moments,
+        corners,
+    };
+    let tree = StaticTree { rows, balls, words };
+    let accepted = check(universe, mover, tree)?;
+    if !has_room(accepted, words, out.len()) {
+        let need = largest_need(universe, mover, tree);
         if (out.len() as u64) < need {
             return Err(Unwritten::NoRoom(need));
         }
     }
-    judge_all(universe, size, moments, corners, rows, balls, words, out)
+    judge_all(universe, mover, tree, out)
 }

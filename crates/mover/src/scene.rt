@@ -1,15 +1,14 @@
 // The rows and the words with which a stretch is judged: the static rows, the Box's behind them, and the Box's tree.
 ghost use Rattle.std.specs.Prelude.{◌≡◌, ◌++◌, ◌+◌, ◌*◌, ◌≤◌, length, drop};
 ghost use Rattle.csg.specs.Halfspace.{row_length};
-ghost use Rattle.mover.specs.Keys.{mover_of};
+ghost use Rattle.mover.specs.Keys.{mover_lent};
 ghost use Rattle.mover.specs.Stretches.{stretch_rows};
 ghost use Rattle.mover.specs.Frames.{box_words};
 ghost use Rattle.mover.specs.Answers.{box_rows, most_static};
 ghost use Rattle.mover.specs.Ready.{HasBox};
 
-use crate::stretch::rows_of;
+use crate::step::Mover;
 use csg::{FIRST_HALFSPACE, INTERSECTION, MOST_ROWS, ROW_LENGTH};
-use standin::Proxy;
 
 // How many rows the Box takes, and how many may stand before them (rule 15.8).
 pub const BOX_ROWS: usize = 6;
@@ -20,25 +19,16 @@ pub const MOST_STATIC: usize = MOST_ROWS - BOX_ROWS;
 pub(crate) const MOST_NUMBERS: usize = MOST_ROWS * ROW_LENGTH;
 
 // Copies the static rows, and behind them the Box's over stretch i, to the front of `all`: so many numbers.
-pub(crate) fn lay_rows(
-    size: Proxy,
-    moments: &[u64],
-    corners: &[f64],
-    i: usize,
-    rows: &[i64],
-    all: &mut [i64],
-) -> usize
-    requires has_box { HasBox (mover_of size moments.now corners.now) i }
+pub(crate) fn lay_rows(mover: Mover<'_>, i: usize, rows: &[i64], all: &mut [i64]) -> usize
+    requires has_box { HasBox (mover_lent mover) i }
     requires row_length_in_bounds { length rows.now + box_rows * row_length ≤ length all.old }
-    ensures result_value { let m = mover_of size moments.now corners.now in
-        result ≡ length (rows.now ++ stretch_rows m i) }
-    ensures all_after { let m = mover_of size moments.now corners.now in
-        let numbers = rows.now ++ stretch_rows m i in
+    ensures result_value { result ≡ length (rows.now ++ stretch_rows (mover_lent mover.entry) i) }
+    ensures all_after { let numbers = rows.now ++ stretch_rows (mover_lent mover.entry) i in
         all.new ≡ numbers ++ drop (length numbers) all.old }
 {
     let mut end = rows.len();
     all[..end].copy_from_slice(rows);
-    for row in rows_of(size, moments, corners, i) {
+    for row in mover.rows_of(i) {
         all[end..end + ROW_LENGTH].copy_from_slice(&row);
         end += ROW_LENGTH;
     }

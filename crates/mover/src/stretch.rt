@@ -2,11 +2,11 @@
 ghost use Rattle.std.specs.Prelude.{◌≡◌, pos, ◌-ℤ◌, ◌*ℤ◌};
 ghost use Rattle.standin.specs.Rows.{rows_between};
 ghost use Rattle.standin.specs.Held.{Limited};
-ghost use Rattle.mover.specs.Keys.{mover_of, size_of, still_refusal};
+ghost use Rattle.mover.specs.Keys.{mover_lent, size_of, still_refusal};
 ghost use Rattle.mover.specs.Stretches.{worked_back, more_numbers, near_at0, far_at0, step_along};
 ghost use Rattle.mover.specs.Ready.{Working, WorkingAll, back_limit, change_limit, HasBox};
 
-use crate::step::{change_of, corner_at, frames_of, less, steps_of};
+use crate::step::{Mover, each, less, steps_of};
 use standin::{Numbers, Proxy, Solid};
 
 // How large the Box is: far less near.
@@ -37,11 +37,7 @@ fn worked_back(moment: u64, corner: Numbers, step: Numbers) -> Numbers
     requires { WorkingAll moment corner step }
     ensures { result ≡ worked_back moment corner step }
 {
-    Numbers {
-        x: back_along(moment, corner.x, step.x),
-        y: back_along(moment, corner.y, step.y),
-        z: back_along(moment, corner.z, step.z),
-    }
+    each(corner, step, |from, by| back_along(moment, from, by))
 }
 
 // One corner and a size.
@@ -50,24 +46,22 @@ fn more(a: Numbers, b: Numbers) -> Numbers
     requires limited_2 { Limited change_limit b }
     ensures { result ≡ more_numbers a b }
 {
-    Numbers {
-        x: a.x + b.x,
-        y: a.y + b.y,
-        z: a.z + b.z,
-    }
+    each(a, b, |number, more| number + more)
 }
 
-// The six rows of the Box over stretch i.
-pub(crate) fn rows_of(size: Proxy, moments: &[u64], corners: &[f64], i: usize) -> [[i64; 5]; 6]
-    requires { HasBox (mover_of size moments.now corners.now) i }
-    ensures { let m = mover_of size moments.now corners.now in
-        result ≡ rows_between (near_at0 m i) (far_at0 m i) (step_along m i) }
-{
-    let change = change_of(corners, i);
-    let step = steps_of(frames_of(moments, i), change);
-    let corner = corner_at(corners, i);
-    let near = worked_back(moments[i], corner, step);
-    let extent = size_of(size);
-    let far = more(near, extent);
-    standin::rows_between(near, far, step)
+impl Mover<'_> {
+    // The six rows of the Box over stretch i.
+    pub(crate) fn rows_of(self, i: usize) -> [[i64; 5]; 6]
+        requires { HasBox (mover_lent self) i }
+        ensures { let m = mover_lent self.entry in
+            result ≡ rows_between (near_at0 m i) (far_at0 m i) (step_along m i) }
+    {
+        let change = self.change_of(i);
+        let step = steps_of(self.frames_of(i), change);
+        let corner = self.corner_at(i);
+        let near = worked_back(self.moments[i], corner, step);
+        let extent = size_of(self.size);
+        let far = more(near, extent);
+        standin::rows_between(near, far, step)
+    }
 }

@@ -3,11 +3,11 @@
 -- form that code leaves them.
 use mathlib.Core.Path.{◌≡◌, refl, sym, ap, ap₂, ◌∙◌}
 use mathlib.Core.List.{List, [], ◌∷◌, ◌++◌, append_assoc}
-use Prim.Native.Nat.{ℕ, zero, suc, ◌+◌, ◌*◌, ◌^◌, ◌/◌, ◌≤◌, ◌<◌}
+use Prim.Native.Nat.{ℕ, zero, suc, ◌+◌, ◌-◌, ◌*◌, ◌^◌, ◌≤◌, ◌<◌}
 use native.Mathlib.Nat.{two-pow-succ}
 use native.Mathlib.Omega.{arith}
 use lib.ListN.{length}
-use Rattle.std.specs.Prelude.{Option, Some, None}
+use Rattle.std.specs.Prelude.{Option, Some, None, min}
 use lib.Seq.{sets}
 use lib.Pow.{pow_mono, pow_pos}
 use borrow.Author.Rules.{rules}
@@ -16,21 +16,19 @@ use Rattle.universe.specs.Universe.{most_bits, levels}
 use Rattle.bintree.specs.Shape.{Shape, leaf, halved, symbols, size, depth}
 use Rattle.bintree.specs.Reading.{read, read_at, expression_refusal}
 use Rattle.bintree.specs.Merging.{merged}
-use Rattle.bintree.specs.Walks.{leaf_symbol, noted}
 use Rattle.bintree.specs.Answers.{of_shape, well_formed_refusal}
 use Rattle.bintree.proofs.Shape.{length_symbols, depth_low, depth_high, halved_deep}
 use Rattle.bintree.proofs.Reading as reading
 use Rattle.bintree.proofs.Ends.{expression_told}
 use Rattle.bintree.proofs.Merging.{merged_size, merged_depth}
-use Rattle.bintree.proofs.Lays.{laid_noted, noted_none}
 use Rattle.octree.specs.declared.Piece.{Piece}
 use Rattle.octree.specs.Octree.{Octree, solid, parted, AtMost, octree_symbols, octree_size}
 use Rattle.octree.specs.Octree.{Found, nothing, found, of_found, octree_at, octree_on, reduce}
 use Rattle.octree.specs.Parting.{low_part, high_part, cube_of, octree_of, shape_of}
 use Rattle.octree.specs.Answers.{cube_refusal, octree_refusal, export_symbols, import_symbols}
 use Rattle.octree.specs.Answers.{Exportable, Importable}
-use Rattle.octree.specs.Runs.{as_found, run_at, past_run, Importing, import_piece, import_room}
-use Rattle.octree.specs.Runs.{son_symbols, held_symbol, laid_sons, levels_in, Exporting, export_piece, export_room}
+use Rattle.octree.specs.Runs.{as_found, run_at, most_place, past_run, Importing, held_leaf, filled, import_piece, import_room}
+use Rattle.octree.specs.Runs.{son_symbols, held_symbol, levels_in, Exporting, export_piece, export_room}
 use Rattle.octree.proofs.Octrees.{stands, stands_most, stands_past, on_nothing, on_found, on_rest, on_at}
 use Rattle.octree.proofs.Partings.{quarter_0, quarter_1, quarter_2, quarter_3, low_two, high_two, shape_deep, reduce_octree}
 use Rattle.octree.proofs.Colours.{Cubic, cubic, cube_levels}
@@ -171,11 +169,6 @@ octree_sons (suc n) (halved a b) h =
 
 -- ---- `write_octree`
 
-laid_whole : (o : List ℕ) (n : ℕ) (t : Shape) → noted (laid_sons o 0 0 n t) 0 (held_symbol t) ≡ sets o 0 (son_symbols 0 n t)
-unfolding laid_sons held_symbol son_symbols
-laid_whole o n (leaf c) = sym (exports.noted_solid o c)
-laid_whole o n (halved a b) = sym (noted_none (sets o 0 (son_symbols 0 n (halved a b))) 0 0 refl)
-
 module _ {u : Universe} {s : List ℕ} (r : Exportable u s) where
   cubic_u : Cubic u
   cubic_u = cubic u r.cube
@@ -195,11 +188,14 @@ module _ {u : Universe} {s : List ℕ} (r : Exportable u s) where
   few_places : 2 ^ suc (3 * u.bits) ≤ 2 ^ suc (3 * most_bits)
   few_places = few_blocks u.bits cubic_u.few
 
+  few_sons : length (son_symbols 0 u.bits r.shape) ≤ most_place
+  few_sons = omega (arith, sons_shorter r.shape 0 u.bits, size_deep r.shape (3 * u.bits) deep, few_places)
+
   pub export_asks : Exporting s u.bits 0 0 0
   export_asks = record {
     shape = r.shape;
     there = all_there;
-    short = omega (arith, sons_shorter r.shape 0 u.bits, size_deep r.shape (3 * u.bits) deep, few_places);
+    short = omega (arith, few_sons);
   }
 
   export_is : export_symbols u s ≡ son_symbols 0 u.bits (merged r.shape)
@@ -216,12 +212,12 @@ module _ {u : Universe} {s : List ℕ} (r : Exportable u s) where
     pub export_length : piece.end ≡ length (export_symbols u s)
     export_length = omega (arith, export_told.2, ap length export_is)
 
-    pub export_written : (o o₁ : List ℕ) {o₂ : List ℕ} → o₁ ≡ export_room o u.bits 0 0 (read_at s (levels_in u.bits 0) 0) → o₂ ≡ noted o₁ 0 piece.held →
+    pub export_written : (o o₁ : List ℕ) {o₂ : List ℕ} → o₁ ≡ export_room o u.bits 0 0 (read_at s (levels_in u.bits 0) 0) → o₂ ≡ filled o₁ 0 1 piece.held →
         o₂ ≡ sets o 0 (export_symbols u s)
     export_written o o₁ f g =
         g
-        ∙ ap₂ (λ l h. noted l 0 h) (f ∙ sym (exports.leaves o u.bits 0 0 r.shape all_there)) export_told.0
-        ∙ laid_whole o u.bits (merged r.shape)
+        ∙ ap₂ (λ l h. filled l 0 1 h) (f ∙ sym (exports.leaves o u.bits 0 0 r.shape all_there)) export_told.0
+        ∙ exports.laid_filled o 0 0 u.bits (merged r.shape)
         ∙ ap (sets o 0) (sym export_is)
 
   -- THEOREM: so much room suffices
@@ -229,8 +225,15 @@ module _ {u : Universe} {s : List ℕ} (r : Exportable u s) where
   export_suffices =
       omega (arith, ap length export_is, sons_shorter (merged r.shape) 0 u.bits, merged_size r.shape, whole.1)
 
-  pub export_room_lem : (out : List ℕ) → length s ≤ length out / 4 → length (export_symbols u s) ≤ length out
-  export_room_lem out h = omega (arith, export_suffices)
+  pub export_few : {most : ℕ} → most ≡ min (length s * 4) (2 ^ 64 - 1) → length (export_symbols u s) ≤ most
+  export_few e = omega (
+    arith,
+    e,
+    export_suffices,
+    ap length export_is,
+    exports.merged_length r.shape 0 u.bits,
+    few_sons,
+  )
 
 -- ---- `write_merged`
 
@@ -245,15 +248,15 @@ module _ {u : Universe} {s : List ℕ} (r : Importable u s) where
   most : AtMost u.bits r.octree
   most = stands_most (stands s u.bits 0 r.octree r.past octree_there.0)
 
-  few_symbols : 2 ^ suc (3 * u.bits) ≤ 2 ^ suc (3 * most_bits)
-  few_symbols = few_blocks u.bits (cubic u r.cube).few
+  few_symbols : size (shape_of r.octree) ≤ most_place
+  few_symbols = omega (arith, size_deep (shape_of r.octree) (3 * u.bits) (shape_deep most), few_blocks u.bits (cubic u r.cube).few)
 
   pub import_asks : Importing s u.bits 0 0 0
   import_asks = record {
     shape = shape_of r.octree;
     past = r.past;
     there = run_there;
-    short = omega (arith, size_deep (shape_of r.octree) (3 * u.bits) (shape_deep most), few_symbols);
+    short = omega (arith, few_symbols);
   }
 
   import_is : import_symbols u s ≡ symbols (merged (shape_of r.octree))
@@ -263,18 +266,18 @@ module _ {u : Universe} {s : List ℕ} (r : Importable u s) where
   import_size = ap length import_is ∙ length_symbols (merged (shape_of r.octree))
 
   module _ {piece : Piece} (e : piece ≡ import_piece 0 (run_at s u.bits 0 0)) where
-    import_told : (piece.held ≡ leaf_symbol (merged (shape_of r.octree))) × (piece.next ≡ r.past) × (piece.end ≡ 0 + size (merged (shape_of r.octree)))
+    import_told : (piece.held ≡ held_leaf (merged (shape_of r.octree))) × (piece.next ≡ r.past) × (piece.end ≡ 0 + size (merged (shape_of r.octree)))
     import_told = imports.told 0 (shape_of r.octree) r.past run_there e
 
     pub import_length : piece.end ≡ length (import_symbols u s)
     import_length = omega (arith, import_told.2, import_size)
 
-    pub import_written : (o o₁ : List ℕ) {o₂ : List ℕ} → o₁ ≡ import_room o 0 (run_at s u.bits 0 0) → o₂ ≡ noted o₁ 0 piece.held →
+    pub import_written : (o o₁ : List ℕ) {o₂ : List ℕ} → o₁ ≡ import_room o 0 (run_at s u.bits 0 0) → o₂ ≡ filled o₁ 0 1 piece.held →
         o₂ ≡ sets o 0 (import_symbols u s)
     import_written o o₁ f g =
         g
-        ∙ ap₂ (λ l h. noted l 0 h) (f ∙ sym (imports.leaves o 0 (shape_of r.octree) r.past run_there)) import_told.0
-        ∙ laid_noted o 0 (merged (shape_of r.octree))
+        ∙ ap₂ (λ l h. filled l 0 1 h) (f ∙ sym (imports.leaves o 0 (shape_of r.octree) r.past run_there)) import_told.0
+        ∙ imports.laid_filled o (merged (shape_of r.octree))
         ∙ ap (sets o 0) (sym import_is)
 
   -- THEOREM: so much room suffices
@@ -289,8 +292,15 @@ module _ {u : Universe} {s : List ℕ} (r : Importable u s) where
         octree_there.1,
       )
 
-  pub import_room_lem : (out : List ℕ) → length s ≤ length out / 2 → length (import_symbols u s) ≤ length out
-  import_room_lem out h = omega (arith, import_suffices)
+  pub import_few : {most : ℕ} → most ≡ min (length s * 2) (2 ^ 64 - 1) → length (import_symbols u s) ≤ most
+  import_few e = omega (
+    arith,
+    e,
+    import_suffices,
+    import_size,
+    merged_size (shape_of r.octree),
+    few_symbols,
+  )
 
 pub ruleset write_laws = (rules, export_asks, export_length, export_written, import_asks, import_length, import_written)
 

@@ -7,10 +7,12 @@ use mathlib.Core.List.{List, [], ◌∷◌, ◌++◌}
 use Prim.Native.Nat.{ℕ, zero, suc, ◌+◌, ◌-◌, ◌*◌, ◌^◌, ◌≤◌, ◌<◌}
 use native.Mathlib.Nat.{two-pow-succ, le_refl}
 use native.Mathlib.Omega.{arith}
-use native.Mathlib.Decide.{ℕ_discrete}
 use borrow.Author.Rules.{rules}
 use borrow.Author.Tests.{eq-eqb, ne_eqb}
-use lib.ListN.{length, get_or, set, replicate, length-replicate, length-append}
+use lib.ListN.{length, get_or, set, take, replicate, length-replicate, length-append}
+use lib.Pow.{pow_mono}
+use Rattle.std.specs.Prelude.{Option, Some, None, is_some}
+use Rattle.std.proofs.lemmas.List.{take-replicate}
 use lib.Seq.{sets}
 use Rattle.lemmas.proofs.Stores.{set_sets, sets_append}
 use Rattle.bintree.specs.declared.Colour.{Colour}
@@ -22,11 +24,10 @@ use Rattle.bintree.specs.Walks.{leaf_symbol, is_alike, noted}
 use Rattle.bintree.proofs.Shape.{size_positive, symbol_not_open}
 use Rattle.bintree.proofs.Reading.{Stands, leaf_stands, open_stands, stands, stood, inside}
 use Rattle.bintree.proofs.Merging.{Joined, one, two, joined}
-use Rattle.bintree.proofs.Lays.{merged_same, merged_apart, noted_some, noted_none}
+use Rattle.bintree.proofs.Lays.{merged_same, merged_apart, noted_some}
 use Rattle.octree.specs.declared.Piece.{Piece}
 use Rattle.octree.specs.Octree.{part_symbol, solid_symbol}
-use Rattle.octree.specs.Runs.{most_place, solid_of, son_symbols, held_symbol, filled, laid_sons, levels_in, Exporting, export_piece, export_room}
-use Rattle.octree.proofs.Octrees.{solid_not_zero}
+use Rattle.octree.specs.Runs.{solid_of, is_same, son_symbols, held_symbol, most_held, filled, laid_sons, levels_in, Exporting, export_piece, export_room}
 use Rattle.octree.proofs.Imports.{piece_eq}
 
 -- ---- `solid_of` and `sons_in`
@@ -41,44 +42,17 @@ solid_is : (c : Colour) (x : ℕ) → x ≡ symbol_of c → solid_of x ≡ solid
 solid_is Black x e = sym (solid_black x e)
 solid_is White x e = sym (solid_white x (λ z. omega arith))
 
-pub few_shift : (m : ℕ) → m ≤ 3 → m < 64
-few_shift m h = omega arith
+-- ---- `write_held`
 
--- ---- `fill`
-
-replicate_next : (i x : ℕ) → replicate i x ++ (x ∷ []) ≡ replicate (suc i) x
-replicate_next zero x = refl
-replicate_next (suc i) x = ap (λ (l : List ℕ). x ∷ l) (replicate_next i x)
-
-filled_some : (o : List ℕ) (at i x : ℕ) → (x ≡ 0 → ⊥) → filled o at i x ≡ sets o at (replicate i x)
+pub filled_some : (o : List ℕ) (at count x : ℕ) → count ≤ most_held → sets o at (take count (replicate most_held x)) ≡ filled o at count (Some x)
 unfolding filled
-filled_some o at i x n = rw (ne_eqb x 0 n)
+filled_some o at count x h = ap (sets o at) (take-replicate count most_held x h)
 
-filled_none : (o : List ℕ) (at i x : ℕ) → x ≡ 0 → filled o at i x ≡ o
+pub filled_none : (o : List ℕ) (at count : ℕ) → o ≡ filled o at count None
 unfolding filled
-filled_none o at i x e = rw (eq-eqb x 0 e)
+filled_none o at count = refl
 
--- one more is filled in
-module _ (before : List ℕ) (at x : ℕ) where
-  pub filling_start : before ≡ filled before at 0 x
-  filling_start = go (ℕ_discrete x 0)
-    where
-      go : Dec (x ≡ 0) → before ≡ filled before at 0 x
-      go (yes e) = sym (filled_none before at 0 x e)
-      go (no n) = sym (filled_some before at 0 x n)
-
-  pub filling_next : (i : ℕ) (now : List ℕ) → now ≡ filled before at i x → noted now (at + i) x ≡ filled before at (i + 1) x
-  filling_next i now g = go (ℕ_discrete x 0)
-    where
-      go : Dec (x ≡ 0) → noted now (at + i) x ≡ filled before at (i + 1) x
-      go (yes z) = sym (noted_none now (at + i) x z) ∙ g ∙ filled_none before at i x z ∙ sym (filled_none before at (i + 1) x z)
-      go (no n) =
-          let w : suc i ≡ i + 1 = omega arith in
-          sym (noted_some now (at + i) x n)
-          ∙ ap₂ (λ l k. set l (at + k) x) (g ∙ filled_some before at i x n) (sym (length-replicate i x))
-          ∙ sets_append (replicate i x) (x ∷ []) before at
-          ∙ ap (sets before at) (replicate_next i x ∙ ap (λ k. replicate k x) w)
-          ∙ sym (filled_some before at (i + 1) x n)
+pub ruleset held_laws = (rules, filled_some, filled_none)
 
 -- ---- the symbols of sons
 
@@ -143,26 +117,24 @@ merged_length (halved a b) m n =
 
 -- ---- what is held back
 
-held_leaf : (a b : Shape) → is_alike (held_symbol a) (held_symbol b) ≡ is_alike (leaf_symbol a) (leaf_symbol b)
-unfolding held_symbol leaf_symbol is_alike
-held_leaf (leaf Black) (leaf Black) = refl
-held_leaf (leaf Black) (leaf White) = refl
-held_leaf (leaf White) (leaf Black) = refl
-held_leaf (leaf White) (leaf White) = refl
-held_leaf (leaf Black) (halved x y) = refl
-held_leaf (leaf White) (halved x y) = refl
-held_leaf (halved x y) (leaf Black) = refl
-held_leaf (halved x y) (leaf White) = refl
-held_leaf (halved x y) (halved z w) = refl
+held_alike : (a b : Shape) → is_same (held_symbol a) (held_symbol b) ≡ is_alike (leaf_symbol a) (leaf_symbol b)
+unfolding held_symbol leaf_symbol is_same is_alike
+held_alike (leaf Black) (leaf Black) = refl
+held_alike (leaf Black) (leaf White) = refl
+held_alike (leaf White) (leaf Black) = refl
+held_alike (leaf White) (leaf White) = refl
+held_alike (leaf Black) (halved x y) = refl
+held_alike (leaf White) (halved x y) = refl
+held_alike (halved x y) b = refl
 
-held_some : (a : Shape) → (held_symbol a ≡ 0 → ⊥) → (c : Colour) × (a ≡ leaf c)
+held_some : (a : Shape) → is_some (held_symbol a) ≡ true → (c : Colour) × (a ≡ leaf c)
 unfolding held_symbol
 held_some (leaf c) n = (c, refl)
-held_some (halved a b) n = absurd (n refl)
+held_some (halved a b) n = cc
 
-held_none : (a : Shape) → held_symbol a ≡ 0 → (x : Shape) × (y : Shape) × (a ≡ halved x y)
+held_none : (a : Shape) → is_some (held_symbol a) ≡ false → (x : Shape) × (y : Shape) × (a ≡ halved x y)
 unfolding held_symbol
-held_none (leaf c) e = absurd (solid_not_zero c e)
+held_none (leaf c) e = cc
 held_none (halved x y) e = (x, y, refl)
 
 -- ---- runs of stores
@@ -172,30 +144,23 @@ sets_sets [] vs o t d h = refl
 sets_sets (u ∷ us) vs o t d h =
     ap (λ l. sets l (suc t) us) (set_sets vs o t d u (omega arith)) ∙ sets_sets us vs (set o t u) (suc t) d (omega arith)
 
-laid_filled : (o : List ℕ) (t m n : ℕ) (a : Shape) → filled (laid_sons o t m n a) t (2 ^ m) (held_symbol a) ≡ sets o t (son_symbols m n a)
-unfolding laid_sons held_symbol
-laid_filled o t m n (leaf c) = filled_some o t (2 ^ m) (solid_symbol c) (solid_not_zero c) ∙ ap (sets o t) (sym (sons_leaf m n c))
-laid_filled o t m n (halved a b) = filled_none (sets o t (son_symbols m n (halved a b))) t (2 ^ m) 0 refl
+pub laid_filled : (o : List ℕ) (t m n : ℕ) (a : Shape) → filled (laid_sons o t m n a) t (2 ^ m) (held_symbol a) ≡ sets o t (son_symbols m n a)
+unfolding filled laid_sons held_symbol
+laid_filled o t m n (leaf c) = ap (sets o t) (sym (sons_leaf m n c))
+laid_filled o t m n (halved a b) = refl
 
-some_laid : (o : List ℕ) (t d count x m n : ℕ) (a : Shape) → t + count ≤ d → (x ≡ 0 → ⊥) →
-    filled (laid_sons o d m n a) t count x ≡ laid_sons (filled o t count x) d m n a
-unfolding laid_sons
-some_laid o t d count x m n (leaf c) h e = refl
-some_laid o t d count x m n (halved a b) h e =
-    filled_some (sets o d (son_symbols m n (halved a b))) t count x e
-    ∙ sets_sets (replicate count x) (son_symbols m n (halved a b)) o t d (omega (arith, length-replicate count x))
-    ∙ ap (λ l. sets l d (son_symbols m n (halved a b))) (sym (filled_some o t count x e))
-
-filled_laid : (o : List ℕ) (t d count x m n : ℕ) (a : Shape) → t + count ≤ d → filled (laid_sons o d m n a) t count x ≡ laid_sons (filled o t count x) d m n a
-filled_laid o t d count x m n a h = go (ℕ_discrete x 0)
-  where
-    go : Dec (x ≡ 0) → filled (laid_sons o d m n a) t count x ≡ laid_sons (filled o t count x) d m n a
-    go (yes e) = filled_none (laid_sons o d m n a) t count x e ∙ ap (λ l. laid_sons l d m n a) (sym (filled_none o t count x e))
-    go (no e) = some_laid o t d count x m n a h e
+filled_laid : (o : List ℕ) (t d count : ℕ) (h : Option ℕ) (m n : ℕ) (a : Shape) → t + count ≤ d →
+    filled (laid_sons o d m n a) t count h ≡ laid_sons (filled o t count h) d m n a
+unfolding filled laid_sons
+filled_laid o t d count None m n a f = refl
+filled_laid o t d count (Some x) m n (leaf c) f = refl
+filled_laid o t d count (Some x) m n (halved a b) f =
+    sets_sets (replicate count x) (son_symbols m n (halved a b)) o t d (omega (arith, length-replicate count x))
 
 -- the runs of two parts make that of the whole
 parts_laid : (o : List ℕ) (t d m n : ℕ) (a b : Shape) → d ≡ t + length (son_symbols m n a) →
-    filled (filled (laid_sons (laid_sons o t m n a) d m n b) t (2 ^ m) (held_symbol a)) d (2 ^ m) (held_symbol b) ≡ sets o t (son_symbols (suc m) n (halved a b))
+    filled (filled (laid_sons (laid_sons o t m n a) d m n b) t (2 ^ m) (held_symbol a)) d (2 ^ m) (held_symbol b)
+    ≡ sets o t (son_symbols (suc m) n (halved a b))
 parts_laid o t d m n a b e =
     let h : t + 2 ^ m ≤ d = omega (arith, e, sons_least a m n) in
     ap (λ l. filled l d (2 ^ m) (held_symbol b)) (filled_laid (laid_sons o t m n a) t d (2 ^ m) (held_symbol a) m n b h)
@@ -215,7 +180,7 @@ told n m p to {r} {y} t e f =
     let g : r ≡ export_piece n m p to (read t) = f ∙ ap (export_piece n m p to) e in
     (ap (λ (x : Piece). x.held) g, ap (λ (x : Piece). x.next) g, ap (λ (x : Piece). x.end) g)
 
-tells : (n m p to : ℕ) {h q e : ℕ} {y : Reading} (t : Shape) → y ≡ read t → h ≡ held_symbol (merged t) → q ≡ p + size t →
+tells : (n m p to : ℕ) {h : Option ℕ} {q e : ℕ} {y : Reading} (t : Shape) → y ≡ read t → h ≡ held_symbol (merged t) → q ≡ p + size t →
     e ≡ to + length (son_symbols m n (merged t)) → ◌≡◌ {A = Piece} (record { held = h; next = q; end = e }) (export_piece n m p to y)
 unfolding export_piece
 tells n m p to t e f g h = piece_eq f g h ∙ ap (export_piece n m p to) (sym e)
@@ -223,9 +188,6 @@ tells n m p to t e f g h = piece_eq f g h ∙ ap (export_piece n m p to) (sym e)
 pub leaves : (out : List ℕ) (n m to : ℕ) {y : Reading} (t : Shape) → y ≡ read t → laid_sons out to m n (merged t) ≡ export_room out n m to y
 unfolding export_room
 leaves out n m to t e = ap (export_room out n m to) (sym e)
-
-pub noted_solid : (o : List ℕ) (c : Colour) → sets o 0 (solid_symbol c ∷ []) ≡ noted o 0 (solid_symbol c)
-noted_solid o c = noted_some o 0 (solid_symbol c) (solid_not_zero c)
 
 laid_leaf : (o : List ℕ) (t m n : ℕ) (c : Colour) {a : Shape} → a ≡ leaf c → laid_sons o t m n a ≡ o
 unfolding laid_sons
@@ -266,7 +228,7 @@ halved_size : (a b : Shape) → size (halved a b) ≡ suc (size a + size b)
 unfolding size
 halved_size a b = refl
 
-held_of : (c : Colour) → held_symbol (leaf c) ≡ solid_symbol c
+held_of : (c : Colour) → held_symbol (leaf c) ≡ Some (solid_symbol c)
 unfolding held_symbol
 held_of c = refl
 
@@ -296,10 +258,10 @@ module _ {s : List ℕ} {n m p to : ℕ} (g : Exporting s n m p to) where
       leaf_fits = omega (arith, g.short, sons_least g.shape m n)
 
       pub leaf_tells : {h : ℕ} → h ≡ solid_of (get_or s p 0) →
-          ◌≡◌ {A = Piece} (record { held = h; next = p + 1; end = to + count }) (export_piece n m p to (read_at s (levels_in n m) p))
+          ◌≡◌ {A = Piece} (record { held = Some h; next = p + 1; end = to + count }) (export_piece n m p to (read_at s (levels_in n m) p))
       leaf_tells f =
           let c = one_leaf.0 in
-          tells n m p to (leaf c) read_leaf_lem (f ∙ solid_is c (get_or s p 0) one_leaf.1 ∙ sym (held_of c) ∙ ap held_symbol (sym (merged_leaf c)))
+          tells n m p to (leaf c) read_leaf_lem (ap Some (f ∙ solid_is c (get_or s p 0) one_leaf.1) ∙ sym (held_of c) ∙ ap held_symbol (sym (merged_leaf c)))
           (omega (arith, leaf_size c))
           (omega (arith, e, ap (λ t. length (son_symbols m n t)) (merged_leaf c), leaf_length m n c))
 
@@ -353,9 +315,9 @@ module _ {s : List ℕ} {n m p to : ℕ} (g : Exporting s n m p to) where
         sons_told = told (n - 1) 3 p (to + 1) g.shape sons_there e
 
         -- they are all solids of one colour
-        module _ (f : sons.held ≡ 0 → ⊥) where
+        module _ (f : is_some sons.held ≡ true) where
           solid_cube : (c : Colour) × (merged g.shape ≡ leaf c)
-          solid_cube = held_some (merged g.shape) (λ y. f (sons_told.0 ∙ y))
+          solid_cube = held_some (merged g.shape) (ap is_some (sym sons_told.0) ∙ f)
 
           one_symbol : length (son_symbols m n (merged g.shape)) ≡ 1
           one_symbol = ap (λ t. length (son_symbols m n t)) solid_cube.1 ∙ leaf_length m n solid_cube.0 ∙ ap (λ i. 2 ^ i) z
@@ -373,9 +335,9 @@ module _ {s : List ℕ} {n m p to : ℕ} (g : Exporting s n m p to) where
               ∙ sym (laid_leaf o to m n solid_cube.0 solid_cube.1)
               ∙ leaves o n m to g.shape g.there
 
-        module _ (f : sons.held ≡ 0) where
+        module _ (f : is_some sons.held ≡ false) where
           parted_cube : (x : Shape) × (y : Shape) × (merged g.shape ≡ halved x y)
-          parted_cube = held_none (merged g.shape) (sym sons_told.0 ∙ f)
+          parted_cube = held_none (merged g.shape) (ap is_some (sym sons_told.0) ∙ f)
 
           pub parted_tells : sons ≡ export_piece n m p to (read_at s (levels_in n m) p)
           parted_tells =
@@ -427,9 +389,6 @@ module _ {s : List ℕ} {n m p to : ℕ} (g : Exporting s n m p to) where
       pub low_asks : Exporting s n (m - 1) (p + 1) to
       low_asks = record { shape = parts.low; there = low_there; short = omega (arith, g.short, lengths) }
 
-      pub first_fits : {count : ℕ} → count ≡ 2 ^ (m - 1) → to + count ≤ most_place
-      first_fits c = omega (arith, g.short, lengths, sons_least parts.low (m - 1) n)
-
       module _ {below : Piece} (e : below ≡ export_piece n (m - 1) (p + 1) to (read_at s (levels_in n (m - 1)) (p + 1))) where
         below_told : (below.held ≡ held_symbol (merged parts.low)) × (below.next ≡ p + 1 + size parts.low)
             × (below.end ≡ to + length (son_symbols (m - 1) n (merged parts.low)))
@@ -448,12 +407,8 @@ module _ {s : List ℕ} {n m p to : ℕ} (g : Exporting s n m p to) where
               omega (arith, g.short, lengths, below_told.2, merged_length parts.low (m - 1) n);
         }
 
-        pub second_fits : {count : ℕ} → count ≡ 2 ^ (m - 1) → below.end + count ≤ most_place
-        second_fits c =
-            omega (arith, g.short, lengths, below_told.2, merged_length parts.low (m - 1) n, sons_least parts.high (m - 1) n)
-
         module _ {above : Piece} (f : above ≡ export_piece n (m - 1) below.next below.end (read_at s (levels_in n (m - 1)) below.next)) (b : Bool)
-            (i : b ≡ is_alike below.held above.held) where
+            (i : b ≡ is_same below.held above.held) where
           abbrev low : Shape
           low = parts.low
 
@@ -471,16 +426,15 @@ module _ {s : List ℕ} {n m p to : ℕ} (g : Exporting s n m p to) where
           past = omega (arith, above_told.1, below_told.1, halved_size low high)
 
           test : (c : Bool) → b ≡ c → is_alike (leaf_symbol (merged low)) (leaf_symbol (merged high)) ≡ c
-          test c w = sym (held_leaf (merged low) (merged high)) ∙ rw (← below_told.0, ← above_told.0) (sym i ∙ w)
+          test c w = sym (held_alike (merged low) (merged high)) ∙ rw (← below_told.0, ← above_told.0) (sym i ∙ w)
 
           module _ (w : b ≡ true) where
             same : (c : Colour) × (merged low ≡ leaf c) × (merged high ≡ leaf c) × (merged (halved low high) ≡ leaf c)
             same = merged_same low high (test true w)
 
-            pub alike_tells : ◌≡◌ {A = Piece} (record { held = below.held; next = above.next; end = above.end })
-                (export_piece n m p to (read_at s (levels_in n m) p))
+            pub alike_tells : above ≡ export_piece n m p to (read_at s (levels_in n m) p)
             alike_tells =
-                tells n m p to (halved low high) whole (below_told.0 ∙ ap held_symbol (same.1 ∙ sym same.3)) past
+                tells n m p to (halved low high) whole (above_told.0 ∙ ap held_symbol (same.2 ∙ sym same.3)) past
                 (omega (
                   arith,
                   above_told.2,
@@ -510,7 +464,7 @@ module _ {s : List ℕ} {n m p to : ℕ} (g : Exporting s n m p to) where
             apart : merged (halved low high) ≡ halved (merged low) (merged high)
             apart = merged_apart low high (test false w)
 
-            pub apart_tells : ◌≡◌ {A = Piece} (record { held = 0; next = above.next; end = above.end })
+            pub apart_tells : ◌≡◌ {A = Piece} (record { held = None; next = above.next; end = above.end })
                 (export_piece n m p to (read_at s (levels_in n m) p))
             unfolding held_symbol
             apart_tells =
@@ -547,6 +501,9 @@ sons_fall n m t e h = omega arith
 pub fewer : (m : ℕ) → m ≤ 3 → m - 1 ≤ 3
 fewer m h = omega arith
 
+pub few_held : (m : ℕ) → m ≤ 3 → (m ≡ 0 → ⊥) → 2 ^ (m - 1) ≤ most_held
+few_held m h n = let k : m - 1 ≤ 2 = omega arith in pow_mono k
+
 pub ruleset sons_laws = (
   rules,
   export_inside,
@@ -566,10 +523,9 @@ pub ruleset sons_laws = (
   high_asks,
   alike_tells,
   alike_leaves,
-  first_fits,
-  second_fits,
   apart_tells,
   apart_leaves,
   sons_fall,
   fewer,
+  few_held,
 )

@@ -3,15 +3,16 @@
 use mathlib.Core.Path.{◌≡◌, refl, sym, ap, fun_ext, ◌∙◌}
 use mathlib.Core.Bool.{Bool, true, false}
 use mathlib.Core.List.{List}
-use Rattle.std.specs.Prelude.{Option, Some, None}
+use Rattle.std.specs.Prelude.{Option, Some, None, unwrap_or}
 use Prim.Native.Nat.{ℕ, zero, suc, ◌+◌, ◌-◌, ◌*◌, ◌^◌, ◌≤◌, ◌<◌}
 use native.Mathlib.Omega.{arith}
 use borrow.Author.Rules.{rules}
 use borrow.Author.Tests.{eq-eqb, ne_eqb}
 use lib.ListN.{length, get_or, get_or-eq_default}
+use lib.Seq.{sets}
 use Rattle.bintree.specs.declared.Colour.{Colour}
 use Rattle.bintree.specs.declared.Colour.TheVariants.{White, Black}
-use Rattle.bintree.specs.Shape.{Shape, leaf, halved, symbol_of, size}
+use Rattle.bintree.specs.Shape.{Shape, leaf, halved, symbol_of, symbols, size}
 use Rattle.bintree.specs.Merging.{merged}
 use Rattle.bintree.specs.Walks.{leaf_symbol, is_alike, joined_halves, laid}
 use Rattle.bintree.proofs.Shape.{size_positive}
@@ -21,7 +22,7 @@ use Rattle.octree.specs.declared.Piece.{Piece}
 use Rattle.octree.specs.Octree.{Octree, part_symbol, solid_symbol, Found, nothing}
 use Rattle.octree.specs.Octree.{found, with_second, after_first, two_at, Two, parted_of, octree_at}
 use Rattle.octree.specs.Parting.{shape_of}
-use Rattle.octree.specs.Runs.{leaf_of, as_found, as_halved, run_at, past_run, Importing, import_piece, import_room}
+use Rattle.octree.specs.Runs.{leaf_of, as_found, as_halved, run_at, past_run, Importing, is_same, held_leaf, filled, import_piece, import_room}
 use Rattle.octree.proofs.Octrees.{Stands, stands, solid_stands, parted_stands, stands_past, stands_inside, octree_some, Both, found_two, two_found}
 use Rattle.octree.proofs.Octrees.{at_part, at_solid, at_none, at_deep}
 
@@ -245,9 +246,31 @@ end_falls n m t e h = omega arith
 
 -- ---- `lay_run`
 
-pub piece_eq : {h h' n n' e e' : ℕ} → h ≡ h' → n ≡ n' → e ≡ e' →
+pub piece_eq : {h h' : Option ℕ} {n n' e e' : ℕ} → h ≡ h' → n ≡ n' → e ≡ e' →
     ◌≡◌ {A = Piece} (record { held = h; next = n; end = e }) (record { held = h'; next = n'; end = e' })
 piece_eq p q r = λ i. record { held = p i; next = q i; end = r i }
+
+-- two parts that hold back the same symbol are leaves of one colour
+held_alike : (a b : Shape) → is_same (held_leaf a) (held_leaf b) ≡ is_alike (leaf_symbol a) (leaf_symbol b)
+unfolding held_leaf leaf_symbol is_same is_alike
+held_alike (leaf Black) (leaf Black) = refl
+held_alike (leaf Black) (leaf White) = refl
+held_alike (leaf White) (leaf Black) = refl
+held_alike (leaf White) (leaf White) = refl
+held_alike (leaf Black) (halved x y) = refl
+held_alike (leaf White) (halved x y) = refl
+held_alike (halved x y) b = refl
+
+-- what is written of a symbol that is held back
+held_written : (a : Shape) → unwrap_or (held_leaf a) 0 ≡ leaf_symbol a
+unfolding held_leaf leaf_symbol
+held_written (leaf c) = refl
+held_written (halved x y) = refl
+
+pub laid_filled : (o : List ℕ) (a : Shape) → filled (laid o 0 a) 0 1 (held_leaf a) ≡ sets o 0 (symbols a)
+unfolding filled held_leaf laid symbols
+laid_filled o (leaf c) = refl
+laid_filled o (halved x y) = refl
 
 -- an octree that is no `P` is a solid
 stands_solid : {s : List ℕ} {n p : ℕ} {o : Octree} {q : ℕ} → Stands s n p o q → (get_or s p 0 ≡ 80 → ⊥) → (c : Colour) × (get_or s p 0 ≡ solid_symbol c)
@@ -256,13 +279,13 @@ stands_solid (parted_stands e sa sb sc sd se sf sg sh) k = absurd (k e)
 
 -- what is told of a run that is found
 pub told : (to : ℕ) {r : Piece} {y : Found Shape} (t : Shape) (q : ℕ) → y ≡ found t q → r ≡ import_piece to y →
-    (r.held ≡ leaf_symbol (merged t)) × (r.next ≡ q) × (r.end ≡ to + size (merged t))
+    (r.held ≡ held_leaf (merged t)) × (r.next ≡ q) × (r.end ≡ to + size (merged t))
 unfolding import_piece
 told to {r} {y} t q e f =
     let g : r ≡ import_piece to (found t q) = f ∙ ap (import_piece to) e in
     (ap (λ (x : Piece). x.held) g, ap (λ (x : Piece). x.next) g, ap (λ (x : Piece). x.end) g)
 
-tells : (to : ℕ) {h n e : ℕ} {y : Found Shape} (t : Shape) (q : ℕ) → y ≡ found t q → h ≡ leaf_symbol (merged t) → n ≡ q → e ≡ to + size (merged t) →
+tells : (to : ℕ) {h : Option ℕ} {n e : ℕ} {y : Found Shape} (t : Shape) (q : ℕ) → y ≡ found t q → h ≡ held_leaf (merged t) → n ≡ q → e ≡ to + size (merged t) →
     ◌≡◌ {A = Piece} (record { held = h; next = n; end = e }) (import_piece to y)
 unfolding import_piece
 tells to t q e f g h = piece_eq f g h ∙ ap (import_piece to) (sym e)
@@ -318,11 +341,11 @@ module _ {s : List ℕ} {n m p to : ℕ} (g : Importing s n m p to) where
               absurd (omega arith)
           go (found o q) f = stands_solid (stands s n p o q f) k
 
-      pub solid_tells : {h : ℕ} → h ≡ leaf_of (get_or s p 0) → ◌≡◌ {A = Piece} (record { held = h; next = p + 1; end = to + 1 }) (import_piece to (run_at s n m p))
-      unfolding merged leaf_symbol size
+      pub solid_tells : {h : ℕ} → h ≡ leaf_of (get_or s p 0) → ◌≡◌ {A = Piece} (record { held = Some h; next = p + 1; end = to + 1 }) (import_piece to (run_at s n m p))
+      unfolding merged held_leaf size
       solid_tells f =
           let w = one_solid in
-          tells to (leaf w.0) (p + 1) (solid_run s n m p z w.0 w.1) (f ∙ leaf_is w.0 (get_or s p 0) w.1) refl refl
+          tells to (leaf w.0) (p + 1) (solid_run s n m p z w.0 w.1) (ap Some (f ∙ leaf_is w.0 (get_or s p 0) w.1)) refl refl
 
       pub solid_leaves : (o : List ℕ) → o ≡ import_room o to (run_at s n m p)
       unfolding merged laid
@@ -364,7 +387,7 @@ module _ {s : List ℕ} {n m p to : ℕ} (g : Importing s n m p to) where
     low_asks = record { shape = low; past = between; there = low_there; short = omega (arith, g.short, sizes) }
 
     module _ {below : Piece} (e : below ≡ import_piece (to + 1) (run_at s n (m - 1) p)) where
-      below_told : (below.held ≡ leaf_symbol (merged low)) × (below.next ≡ between) × (below.end ≡ to + 1 + size (merged low))
+      below_told : (below.held ≡ held_leaf (merged low)) × (below.next ≡ between) × (below.end ≡ to + 1 + size (merged low))
       below_told = told (to + 1) low between low_there e
 
       above_there : run_at s n (m - 1) below.next ≡ found high g.past
@@ -379,21 +402,21 @@ module _ {s : List ℕ} {n m p to : ℕ} (g : Importing s n m p to) where
       }
 
       module _ {above : Piece} (f : above ≡ import_piece below.end (run_at s n (m - 1) below.next)) (b : Bool)
-          (i : b ≡ is_alike below.held above.held) where
-        above_told : (above.held ≡ leaf_symbol (merged high)) × (above.next ≡ g.past) × (above.end ≡ below.end + size (merged high))
+          (i : b ≡ is_same below.held above.held) where
+        above_told : (above.held ≡ held_leaf (merged high)) × (above.next ≡ g.past) × (above.end ≡ below.end + size (merged high))
         above_told = told below.end high g.past above_there f
 
         test : (c : Bool) → b ≡ c → is_alike (leaf_symbol (merged low)) (leaf_symbol (merged high)) ≡ c
-        test c k = rw (← below_told.0, ← above_told.0) (sym i ∙ k)
+        test c k = sym (held_alike (merged low) (merged high)) ∙ rw (← below_told.0, ← above_told.0) (sym i ∙ k)
 
         module _ (k : b ≡ true) where
           same : (c : Colour) × (merged low ≡ leaf c) × (merged high ≡ leaf c) × (merged (halved low high) ≡ leaf c)
           same = merged_same low high (test true k)
 
-          pub alike_tells : ◌≡◌ {A = Piece} (record { held = below.held; next = above.next; end = to + 1 }) (import_piece to (run_at s n m p))
+          pub alike_tells : ◌≡◌ {A = Piece} (record { held = above.held; next = above.next; end = to + 1 }) (import_piece to (run_at s n m p))
           unfolding size
           alike_tells =
-              tells to (halved low high) g.past all_there (below_told.0 ∙ ap leaf_symbol (same.1 ∙ sym same.3)) above_told.1
+              tells to (halved low high) g.past all_there (above_told.0 ∙ ap held_leaf (same.2 ∙ sym same.3)) above_told.1
               (ap (λ t. to + size t) (sym same.3))
 
           pub alike_leaves : (o o₁ : List ℕ) {o₂ : List ℕ} → o₁ ≡ import_room o (to + 1) (run_at s n (m - 1) p) →
@@ -412,19 +435,19 @@ module _ {s : List ℕ} {n m p to : ℕ} (g : Importing s n m p to) where
           apart : merged (halved low high) ≡ halved (merged low) (merged high)
           apart = merged_apart low high (test false k)
 
-          pub apart_tells : ◌≡◌ {A = Piece} (record { held = 0; next = above.next; end = above.end }) (import_piece to (run_at s n m p))
-          unfolding size leaf_symbol
+          pub apart_tells : ◌≡◌ {A = Piece} (record { held = None; next = above.next; end = above.end }) (import_piece to (run_at s n m p))
+          unfolding size held_leaf
           apart_tells =
-              tells to (halved low high) g.past all_there (sym (ap leaf_symbol apart)) above_told.1
+              tells to (halved low high) g.past all_there (sym (ap held_leaf apart)) above_told.1
               (omega (arith, above_told.2, below_told.2, ap size apart))
 
           pub apart_leaves : (o o₁ o₂ : List ℕ) {o₃ : List ℕ} → o₁ ≡ import_room o (to + 1) (run_at s n (m - 1) p) →
-              o₂ ≡ import_room o₁ below.end (run_at s n (m - 1) below.next) → o₃ ≡ joined_halves o₂ to below.held below.end above.held →
-              o₃ ≡ import_room o to (run_at s n m p)
+              o₂ ≡ import_room o₁ below.end (run_at s n (m - 1) below.next) →
+              o₃ ≡ joined_halves o₂ to (unwrap_or below.held 0) below.end (unwrap_or above.held 0) → o₃ ≡ import_room o to (run_at s n m p)
           apart_leaves o o₁ o₂ {o₃} u v w =
-              apart_laid o o₁ o₂ o₃ to below.end below.held above.held (merged low) (merged high)
+              apart_laid o o₁ o₂ o₃ to below.end _ _ (merged low) (merged high)
               (u ∙ sym (leaves o (to + 1) low between low_there)) (v ∙ sym (leaves o₁ below.end high g.past above_there)) below_told.2
-              below_told.0 above_told.0 w
+              (ap (λ x. unwrap_or x 0) below_told.0 ∙ held_written (merged low)) (ap (λ x. unwrap_or x 0) above_told.0 ∙ held_written (merged high)) w
               ∙ ap (laid o to) (sym apart)
               ∙ leaves o to (halved low high) g.past all_there
 

@@ -1,6 +1,8 @@
 -- Rules 13.1, 13.6 and 13.7: what export and import answer and what they leave in lent room. Both are refused 2 where
 -- the universe is refused, has not three axes or has not equal bits, then 7, and 6 last.
-use Rattle.std.specs.Prelude.{ℕ, ◌≡◌, ◌&&◌, List, [], ◌∷◌, eqb}
+use Rattle.std.specs.Prelude.{ℕ, ◌≡◌, ◌≤◌, ◌&&◌, List, [], ◌∷◌, eqb, length}
+use Rattle.std.specs.Borrow.{MutBor}
+use Rattle.std.proofs.lemmas.List.Edits.{sets}
 use Rattle.universe.specs.declared.Universe.{Universe}
 use Rattle.universe.specs.Refusals.{bad_universe, bad_expression, unless, first_refusal}
 use Rattle.universe.specs.Universe.{universe_refusal}
@@ -70,3 +72,10 @@ pub record Importable (u : Universe) (s : List ℕ) : Type 0 where
   pub octree : Octree
   pub past : ℕ
   pub reads : octree_on u.bits s ≡ found octree past
+
+-- a pass writes these symbols from the front of the room that it is lent, as far as there is room, and tells how many
+-- they are, which is no more than `most`
+pub record Writes (pass : MutBor (List ℕ) → ℕ → MutBor (List ℕ) → Type 0) (most : ℕ) (symbols : List ℕ) : Type 0 where
+  pub few : length symbols ≤ most
+  pub written : (room : MutBor (List ℕ)) (count : ℕ) (left : MutBor (List ℕ)) → pass room count left
+      → (count ≡ length symbols) × (left.now ≡ sets room.now 0 symbols)

@@ -4,11 +4,12 @@
 mod runs;
 mod sons;
 
-ghost use Rattle.std.specs.Prelude.{◌≡◌, length};
+ghost use Rattle.std.specs.Prelude.{◌≡◌, ℕ, List, length};
 ghost use Rattle.std.proofs.lemmas.List.Edits.{sets};
 ghost use Rattle.universe.specs.Told.{number_told};
 ghost use Rattle.bintree.specs.Answers.{written_answer, written_buffer};
 ghost use Rattle.bintree.specs.Told.{writing_told};
+ghost use Rattle.octree.specs.Runs.{is_same};
 ghost use Rattle.octree.specs.Answers.{
   cube_refusal,
   octree_refusal,
@@ -20,22 +21,35 @@ ghost use Rattle.octree.specs.Answers.{
   import_buffer,
   Exportable,
   Importable,
+  Writes,
 };
 
 use runs::{lay_run, run_end};
-use sons::lay_sons;
+use sons::{lay_sons, write_held};
 use universe::{Refusal, Universe, Unwritten};
 
 // x, y and z.
 const CUBE_AXES: u64 = 3;
 
-// What laying a part comes to: the symbol that is held back, or 0; the place past what was read; and the place past
-// what is written or held back.
+// What laying a part comes to: the symbol that is held back, where there is one; the place past what was read; and the
+// place past what is written or held back. The crate `sweep` has one of its own, with no place that was read: one for
+// both would be a new public name. Nothing compares or prints a piece.
 #[derive(Clone, Copy)]
 pub(crate) struct Piece {
-    pub held: u8,
+    pub held: Option<u8>,
     pub next: usize,
     pub end: usize,
+}
+
+impl Piece {
+    // Whether two parts hold back the same symbol, so that both are leaves or solids of one colour. `bintree::is_alike`
+    // is no question of an `Option`: it takes bytes, 0 for none.
+    #[tactic(auto, unfolding(crate::specs::Runs::is_same))]
+    fn is_alike(self, high: Piece) -> bool
+        ensures { result ≡ is_same self.held high.held }
+    {
+        self.held.is_some() && self.held == high.held
+    }
 }
 
 // Refused where a universe is, has not three axes or has not equal bits.
@@ -61,6 +75,7 @@ fn check_octree(levels: u64, octree: &[u8]) -> Result<(), Refusal>
 }
 
 // Writes the reduced octree of an expression, as far as there is room, and gives its length.
+#[tactic(auto, using(crate::proofs::Answers::write_laws))]
 fn write_octree(universe: Universe, expression: &[u8], out: &mut [u8]) -> usize
     requires { Exportable universe expression.now }
     ensures value { result ≡ length (export_symbols universe expression.now) }
@@ -68,11 +83,12 @@ fn write_octree(universe: Universe, expression: &[u8], out: &mut [u8]) -> usize
         out.new ≡ sets out.old 0 symbols }
 {
     let sons = lay_sons(expression, 0, universe.bits, 0, out, 0);
-    bintree::note(out, 0, sons.held);
+    write_held(out, 0, 1, sons.held);
     sons.end
 }
 
 // Writes the merged expression of an octree, as far as there is room, and gives its length.
+#[tactic(auto, using(crate::proofs::Answers::write_laws))]
 fn write_merged(universe: Universe, octree: &[u8], out: &mut [u8]) -> usize
     requires { Importable universe octree.now }
     ensures value { result ≡ length (import_symbols universe octree.now) }
@@ -80,47 +96,29 @@ fn write_merged(universe: Universe, octree: &[u8], out: &mut [u8]) -> usize
         out.new ≡ sets out.old 0 symbols }
 {
     let piece = lay_run(octree, 0, universe.bits, 0, out, 0);
-    bintree::note(out, 0, piece.held);
+    write_held(out, 0, 1, piece.held);
     piece.end
 }
 
-// The octree, or nothing where it does not fit. A halved block is at most one `P`, of eight sons; so it is measured
-// only where less room is lent than that.
-fn export_fitting(universe: Universe, expression: &[u8], out: &mut [u8]) -> Result<u64, Unwritten>
-    requires { Exportable universe expression.now }
-    ensures result_value { let symbols = export_symbols universe expression.now in
-        writing_told result ≡ written_answer 0 out.old symbols }
-    ensures out_after { let symbols = export_symbols universe expression.now in
-        out.new ≡ written_buffer 0 out.old symbols }
+// What a pass writes, or nothing where it does not fit. It is no longer than `most`, so that it is measured, by the
+// same pass over no room, only where less room is lent than that.
+fn write_fitting<F: Fn(&mut [u8]) -> usize>(
+    write: F,
+    most: usize,
+    out: &mut [u8],
+) -> Result<u64, Unwritten>
+    requires { F.IsAlwaysCallable write }
+    ensures { (symbols : List ℕ) → Writes (F.post write) most symbols →
+        (writing_told result ≡ written_answer 0 out.old symbols) × (out.new ≡ written_buffer 0 out.old symbols) }
 {
-    if expression.len() <= out.len() / 4 {
-        return Ok(write_octree(universe, expression, out) as u64);
+    if most <= out.len() {
+        return Ok(write(out) as u64);
     }
-    let needed = write_octree(universe, expression, &mut []);
+    let needed = write(&mut []);
     if out.len() < needed {
         return Err(Unwritten::NoRoom(needed as u64));
     }
-    write_octree(universe, expression, out);
-    Ok(needed as u64)
-}
-
-// The expression, or nothing where it does not fit. A `P` is seven halved blocks; so it is shorter than twice the
-// octree, and measured only where less room is lent than that.
-fn import_fitting(universe: Universe, octree: &[u8], out: &mut [u8]) -> Result<u64, Unwritten>
-    requires { Importable universe octree.now }
-    ensures result_value { let symbols = import_symbols universe octree.now in
-        writing_told result ≡ written_answer 0 out.old symbols }
-    ensures out_after { let symbols = import_symbols universe octree.now in
-        out.new ≡ written_buffer 0 out.old symbols }
-{
-    if octree.len() <= out.len() / 2 {
-        return Ok(write_merged(universe, octree, out) as u64);
-    }
-    let needed = write_merged(universe, octree, &mut []);
-    if out.len() < needed {
-        return Err(Unwritten::NoRoom(needed as u64));
-    }
-    write_merged(universe, octree, out);
+    write(out);
     Ok(needed as u64)
 }
 
@@ -137,7 +135,9 @@ pub fn export_octree(
 {
     check_cube(universe)?;
     bintree::well_formed(universe, expression)?;
-    export_fitting(universe, expression, out)
+    // A halved block is at most one `P`, of eight sons.
+    let most = expression.len().saturating_mul(4);
+    write_fitting(|room| write_octree(universe, expression, room), most, out)
 }
 
 // Writes the merged expression of an octree of three axes with equal bits, reduced or not, into `out`, and gives its
@@ -148,5 +148,7 @@ pub fn import_octree(universe: Universe, octree: &[u8], out: &mut [u8]) -> Resul
 {
     check_cube(universe)?;
     check_octree(universe.bits, octree)?;
-    import_fitting(universe, octree, out)
+    // A `P` is seven halved blocks, so the expression is shorter than twice the octree.
+    let most = octree.len().saturating_mul(2);
+    write_fitting(|room| write_merged(universe, octree, room), most, out)
 }

@@ -48,24 +48,25 @@ pub(crate) fn lay_run(
             return lay_run(octree, at + 1, left - 1, 3, out, to);
         }
         return Piece {
-            held: leaf_of(symbol),
+            held: Some(leaf_of(symbol)),
             next: at + 1,
             end: to + 1,
         };
     }
     let low = lay_run(octree, at, left, inside - 1, out, to + 1);
     let high = lay_run(octree, low.next, left, inside - 1, out, low.end);
-    if bintree::is_alike(low.held, high.held) {
+    if low.is_alike(high) {
         return Piece {
-            held: low.held,
-            next: high.next,
             end: to + 1,
+            ..high
         };
     }
-    bintree::join_halves(out, to, low.held, low.end, high.held);
-    Piece {
-        held: 0,
-        next: high.next,
-        end: high.end,
-    }
+    bintree::join_halves(
+        out,
+        to,
+        low.held.unwrap_or(0),
+        low.end,
+        high.held.unwrap_or(0),
+    );
+    Piece { held: None, ..high }
 }

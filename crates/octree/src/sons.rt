@@ -1,9 +1,12 @@
 // Export: the recursion over the parts of an expression, which lays the sons that they stand for into room.
 ghost use Rattle.std.specs.Prelude.{◌≡◌, ◌+◌, ◌^◌, ◌≤◌};
 ghost use Rattle.bintree.specs.Reading.{read_at};
-ghost use Rattle.octree.specs.Runs.{most_place, solid_of, filled, levels_in, Exporting, export_piece, export_room};
+ghost use Rattle.octree.specs.Runs.{solid_of, most_held, filled, levels_in, Exporting, export_piece, export_room};
 
 use crate::Piece;
+
+// Of sons that are held back no more are written at once than half a cube has.
+const MOST_HELD: usize = 4;
 
 // `F` for `B` and `E` for `W`.
 fn solid_of(symbol: u8) -> u8
@@ -20,13 +23,14 @@ fn sons_in(inside: u64) -> usize
     1 << inside
 }
 
-// Writes so many sons that were held back, where there are any, as far as there is room.
-fn fill(out: &mut [u8], at: usize, count: usize, symbol: u8)
-    requires { at + count ≤ most_place }
-    ensures { out.new ≡ filled out.old at count symbol }
+// Writes a symbol that was held back, so many times, where there is one, as far as there is room.
+#[tactic(auto, using(crate::proofs::Exports::held_laws))]
+pub(crate) fn write_held(out: &mut [u8], at: usize, count: usize, held: Option<u8>)
+    requires { count ≤ most_held }
+    ensures { out.new ≡ filled out.old at count held }
 {
-    for place in at..at + count {
-        bintree::note(out, place, symbol);
+    if let Some(symbol) = held {
+        bintree::copy(&[symbol; MOST_HELD][..count], out, at);
     }
 }
 
@@ -52,18 +56,17 @@ pub(crate) fn lay_sons(
     let symbol = expression[at];
     if symbol != b'(' {
         return Piece {
-            held: solid_of(symbol),
+            held: Some(solid_of(symbol)),
             next: at + 1,
             end: to + sons_in(inside),
         };
     }
     if inside == 0 {
         let sons = lay_sons(expression, at, left - 1, 3, out, to + 1);
-        if sons.held != 0 {
+        if sons.held.is_some() {
             return Piece {
-                held: sons.held,
-                next: sons.next,
                 end: to + 1,
+                ..sons
             };
         }
         bintree::note(out, to, b'P');
@@ -71,19 +74,11 @@ pub(crate) fn lay_sons(
     }
     let low = lay_sons(expression, at + 1, left, inside - 1, out, to);
     let high = lay_sons(expression, low.next, left, inside - 1, out, low.end);
-    if bintree::is_alike(low.held, high.held) {
-        return Piece {
-            held: low.held,
-            next: high.next,
-            end: high.end,
-        };
+    if low.is_alike(high) {
+        return high;
     }
     let count = sons_in(inside - 1);
-    fill(out, to, count, low.held);
-    fill(out, low.end, count, high.held);
-    Piece {
-        held: 0,
-        next: high.next,
-        end: high.end,
-    }
+    write_held(out, to, count, low.held);
+    write_held(out, low.end, count, high.held);
+    Piece { held: None, ..high }
 }

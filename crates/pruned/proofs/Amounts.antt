@@ -1,22 +1,22 @@
 -- What the values of a row move by at each level: a loop from a block down halves its sides, and each amount is the coefficient along the level's axis times
 -- half the side there, which is a power of two.
-use Prim.Native.Nat.{ℕ, zero, suc, ◌+◌, ◌*◌, ◌-◌, ◌/◌, ◌^◌, ◌≤◌, ◌<◌}
-use mathlib.Core.Path.{◌≡◌, refl, sym, ap, ◌∙◌, subst}
-use mathlib.Core.List.{List, [], ◌∷◌}
+use Prim.Native.Nat.{ℕ, suc, ◌+◌, ◌*◌, ◌-◌, ◌/◌, ◌^◌, ◌≤◌, ◌<◌}
+use mathlib.Core.Path.{◌≡◌, ap, ◌∙◌, subst}
+use mathlib.Core.List.{List}
 use native.Mathlib.Omega.{arith}
 use native.Mathlib.Decide.{ℕ_discrete}
 use lib.Count.{count_trailing_zeros}
-use lib.IntN.{ℤ, pos, nat_abs, ◌*ℤ◌}
+use lib.IntN.{ℤ, pos, ◌*ℤ◌}
 use lib.ListN.{length, get_or, set, length-set}
 use lib.Seq.{get_or-set_same, get_or-set_other}
 use Rattle.universe.specs.declared.Universe.{Universe}
 use Rattle.universe.specs.Universe.{most_axes, most_levels, longest_side, levels, axis_at, block_side}
 use Rattle.universe.proofs.Universes.{accepted, levels_few}
-use Rattle.csg.specs.Halfspace.{Halfspace, row_at, row_count}
+use Rattle.csg.specs.Halfspace.{Halfspace, row_at}
 use Rattle.lemmas.proofs.Machine.{near}
-use Rattle.convert.specs.Small.{SmallCoefficient, SmallPlace, SmallHalfspace}
-use Rattle.convert.specs.Blocks.{Standing, half_side, halved_sides}
-use Rattle.convert.proofs.Blocks.{four, axis_is, axis_few, half_is, lower_standing}
+use Rattle.convert.specs.Small.{SmallCoefficient, SmallPlace}
+use Rattle.convert.specs.Blocks.{Standing}
+use Rattle.convert.proofs.Blocks.{axis_is, axis_few, half_is, lower_standing}
 use Rattle.pruned.specs.Nodes.{number_at}
 use Rattle.pruned.specs.Alone.{Steps, StepsJob}
 use Rattle.pruned.proofs.Doublings.{times_few, power_is}

@@ -9,7 +9,6 @@ use native.Mathlib.Omega.{arith}
 use borrow.Author.Tests.{ne_eqb}
 use lib.IntN.{ℤ}
 use lib.ListN.{length}
-use Rattle.universe.specs.Lent.{room_refusal}
 use Rattle.universe.proofs.Lent.{room_enough, room_short, untouched}
 use Rattle.bintree.specs.Told.{WrittenAnswer}
 use Rattle.bintree.specs.Answers.{written_answer, written_buffer}

@@ -1,24 +1,22 @@
 -- A ball's code as the machine finds it. Its differences of a place and a centre's number are small, so are their squares, and so are the sums of these over
 -- the place axes; what is added up is what the definitions add up.
 use Prim.Native.Nat.{ℕ, suc, ◌+◌, ◌*◌, ◌-◌, ◌≤◌, ◌<◌}
-use mathlib.Core.Path.{◌≡◌, refl, sym, ap, ap₂, subst, ◌∙◌}
+use mathlib.Core.Path.{◌≡◌, refl, ap, ap₂, subst, ◌∙◌}
 use mathlib.Core.Bool.{Bool, true, false, cond}
 use mathlib.Core.List.{List}
 use native.Mathlib.Omega.{arith}
 use native.Mathlib.Nat.{mul-le-mul}
 use borrow.Author.Rules.{rules}
-use borrow.Author.Tests.{le-leb, lt-leb}
-use lib.Dec.{T, leb, ltb}
-use lib.IntN.{ℤ, pos, nat_abs, ◌-ℤ◌, ◌*ℤ◌}
+use lib.Dec.{leb, ltb}
+use lib.IntN.{ℤ, pos, nat_abs, ◌*ℤ◌}
 use lib.ListN.{get_or}
-use lib.Signed.{◌<ℤ◌, lt_z, non_neg}
+use lib.Signed.{lt_z}
 use mir.Syntax.{w64}
 use mir.Val.{Fits, SFits, to_z, of_z}
 use Rattle.lemmas.specs.Sums.{sum}
-use Rattle.lemmas.proofs.Machine.{Near, near, near_back, near_cast, near_lit, near_nat, near_sub, near_mul, near_fits, near_unsigned, size_neg}
-use Rattle.lemmas.proofs.Whole.{ι, ν, ◌⊖◌, ⊝, eq_by, le_by, lt_of, lt_z_true, lt_z_false}
+use Rattle.lemmas.proofs.Machine.{Near, near, near_back, near_lit, near_nat, near_sub, near_mul, near_fits}
 use Rattle.universe.specs.Universe.{most_axes, longest_side, centre_limit, radius_limit}
-use Rattle.csg.specs.Ball.{Ball, ball_at, ball_count, square, radius_squared, gap, nearest, farthest, off}
+use Rattle.csg.specs.Ball.{Ball, ball_at, square, radius_squared, gap, nearest, farthest, off}
 use Rattle.convert.specs.Codes.{tested_code, near_over, far_over, off_over, ball_code_over, ball_code_at}
 use Rattle.convert.specs.Small.{SmallPlaces, SmallBall, BallReady}
 use Rattle.pruned.specs.Balls.{BallPlace, DoubledCentre, apart_limit}

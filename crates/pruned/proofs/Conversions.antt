@@ -1,14 +1,13 @@
 -- The conversions: the first check that refuses is the answer's number; then the work room is asked for. Where all accept, the words of the trees are loaded,
 -- and the universe is written from their nodes; they stand for the tree, or for the two intersected, that the first conversion converts.
-use Prim.Native.Nat.{ℕ, zero, suc, ◌+◌, ◌*◌, ◌-◌, ◌/◌, ◌^◌, ◌≤◌, ◌<◌}
+use Prim.Native.Nat.{ℕ, suc, ◌+◌, ◌*◌, ◌^◌, ◌≤◌, ◌<◌}
 use native.Mathlib.Omega.{arith}
 use native.Mathlib.Nat.{mul-le-mul}
 use native.Mathlib.Decide.{ℕ_discrete}
-use mathlib.Core.Path.{◌≡◌, refl, sym, ap, ap₂, subst, ◌∙◌}
-use mathlib.Core.Bool.{Bool, true, false, cond}
+use mathlib.Core.Path.{◌≡◌, refl, sym, ap, ◌∙◌}
+use mathlib.Core.Bool.{Bool, true, false}
 use mathlib.Core.List.{List, [], ◌∷◌, ◌++◌, append-nil}
 use borrow.Author.Tests.{eq-eqb, ne_eqb}
-use lib.Dec.{eqb}
 use Rattle.std.specs.Prelude.{Result, Ok, Err}
 use lib.IntN.{ℤ}
 use lib.ListN.{length, replicate, length-append}
@@ -19,7 +18,6 @@ use Rattle.universe.proofs.Telling.{number-not_zero}
 use Rattle.universe.specs.Universe.{most_axes, most_levels, universe_refusal, levels}
 use Rattle.universe.specs.Questions.{levels_answer}
 use Rattle.universe.specs.Refusals.{first_refusal}
-use Rattle.universe.specs.Lent.{room_refusal}
 use Rattle.universe.specs.Block.{whole_block}
 use Rattle.universe.specs.Room.{room, room_answer}
 use Rattle.universe.proofs.Lent.{room_enough, room_short}
@@ -31,19 +29,19 @@ use Rattle.csg.specs.Ball.{balls_refusal}
 use Rattle.csg.specs.Surfaces.{Surfaces, Named, named}
 use Rattle.csg.specs.Tree.{Tree, Plain, plain, count_leaves, leaves, ball_leaves}
 use Rattle.csg.specs.Words.{meaning, step, finish, run, parse, tree_refusal, tree_of, halfspace_words, ball_words}
-use Rattle.csg.specs.Raw.{raw, both}
+use Rattle.csg.specs.Raw.{raw}
 use Rattle.csg.proofs.Words.{accepted_length, tree_leaves, tree_balls}
 use Rattle.demands.proofs.Room.{raw_room}
-use Rattle.convert.specs.Blocks.{Standing, trees_of, whole_sides}
+use Rattle.convert.specs.Blocks.{Standing, whole_sides}
 use Rattle.convert.specs.Shapes.{shaped}
 use Rattle.convert.specs.Answers.{one_tree_checks, one_tree_refusal, two_trees_checks, two_trees_refusal, raw_of_one, merged_of_one, raw_of_two, merged_of_two, written_of_two}
 use Rattle.convert.proofs.Blocks.{whole_standing}
 use Rattle.pruned.specs.Told.{ConversionAnswer}
 use Rattle.pruned.specs.Looked.{examine_all, nodes_looked}
-use Rattle.pruned.specs.Nodes.{postfix, all_postfix, Holds, OneOrTwo, one, two, most_shapes}
+use Rattle.pruned.specs.Nodes.{postfix, all_postfix, Holds, one, two, most_shapes}
 use Rattle.pruned.specs.Laying.{SoundScene}
 use Rattle.pruned.specs.Loading.{Sources, whole_of, Loading, Loaded}
-use Rattle.pruned.specs.Answers.{one_tree, two_trees, nodes_lent, nodes_needed, refused_conversion, short_of_work, written_conversion, written_room, work_refusal}
+use Rattle.pruned.specs.Answers.{one_tree, two_trees, nodes_lent, nodes_needed, refused_conversion, short_of_work}
 use Rattle.pruned.specs.Answers.{conversion_answer, conversion_room, written_of_one, raw_of_one_answer, raw_of_one_buffer, merged_of_one_answer, merged_of_one_buffer}
 use Rattle.pruned.specs.Answers.{raw_of_two_answer, raw_of_two_buffer, merged_of_two_answer, merged_of_two_buffer, work_of_one, work_of_two}
 use Rattle.pruned.specs.Whole.{Ended, WholeJob, symbols_of, OneReady, TwoReady, Converted}

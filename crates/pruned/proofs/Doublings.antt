@@ -1,7 +1,7 @@
 -- The length of a half is a power of two: 1 doubled as often as there are zeros behind its digit. So a coefficient times that length is the coefficient shifted
 -- left, below 0 too, as a word of 64 digits holds it; and a length to which 1 would be doubled 64 times or more is 0.
 use Prim.Native.Nat.{ℕ, zero, suc, ◌+◌, ◌*◌, ◌-◌, ◌%◌, ◌^◌, ◌≤◌, ◌<◌}
-use mathlib.Core.Path.{◌≡◌, refl, sym, ap, ◌∙◌, subst}
+use mathlib.Core.Path.{◌≡◌, refl, sym, ap, ◌∙◌}
 use mathlib.Core.Bool.{Bool, true, false, cond}
 use native.Mathlib.Omega.{arith}
 use native.Mathlib.Nat.{mod-eq_of_lt, mul-mod_left, add-mul-mod_self_left, mul-le-mul, mul-one, one-mul, le_of_suc-le-suc}
@@ -16,7 +16,7 @@ use mir.Syntax.{w64}
 use mir.Val.{to_z, of_z}
 use Rattle.lemmas.proofs.Machine.{near, size_mul}
 use Rattle.universe.specs.declared.Universe.{Universe}
-use Rattle.universe.specs.Universe.{longest_side, coefficient_limit, bits_along, halvings, block_side}
+use Rattle.universe.specs.Universe.{longest_side, bits_along, halvings, block_side}
 use Rattle.convert.specs.Small.{SmallCoefficient, SmallPlace}
 use Rattle.pruned.specs.Nodes.{doubled, moving_below, first_ball_side, amount_limit}
 

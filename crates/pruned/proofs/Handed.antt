@@ -1,20 +1,19 @@
 -- What is left of the trees over a block is one node: it is that of a leaf, by its code of a halfspace's side or of a ball's, and both halves are laid by that
 -- side alone as they are by the trees.
-use Prim.Native.Nat.{ℕ, zero, suc, ◌+◌, ◌*◌, ◌-◌, ◌/◌, ◌%◌, ◌^◌, ◌≤◌, ◌<◌}
+use Prim.Native.Nat.{ℕ, ◌+◌, ◌*◌, ◌-◌, ◌/◌, ◌%◌, ◌≤◌, ◌<◌}
 use mathlib.Core.Path.{◌≡◌, refl, sym, ap, ap₂, ◌∙◌}
 use mathlib.Core.Bool.{Bool, true, false}
-use mathlib.Core.List.{List, [], ◌∷◌, ◌++◌}
+use mathlib.Core.List.{List, [], ◌∷◌}
 use native.Mathlib.Omega.{arith}
-use borrow.Author.Tests.{leb-true}
-use lib.Dec.{eqb, leb}
-use lib.IntN.{ℤ, pos, nat_abs}
+use lib.Dec.{eqb}
+use lib.IntN.{ℤ, nat_abs}
 use lib.ListN.{length, get_or}
 use Rattle.universe.specs.declared.Block.{Block}
 use Rattle.bintree.specs.Shape.{Shape, size}
 use Rattle.bintree.specs.Walks.{laid}
 use Rattle.csg.specs.Halfspace.{Halfspace, most_rows, row_at, row_count, least, greatest}
-use Rattle.csg.specs.Ball.{most_balls, ball_count}
-use Rattle.csg.specs.Surfaces.{Surfaces, Surface, halfspace, ball, surfaces_of, named, IsNamed, halfspace_named, ball_named}
+use Rattle.csg.specs.Ball.{ball_count}
+use Rattle.csg.specs.Surfaces.{Surfaces, Surface, halfspace, ball, surfaces_of, named, halfspace_named, ball_named}
 use Rattle.csg.specs.Tree.{Plain, colour, side, union_of, intersection_of}
 use Rattle.bintree.specs.declared.Colour.TheVariants.{White, Black}
 use Rattle.convert.specs.Blocks.{block_left}

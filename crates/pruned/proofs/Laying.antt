@@ -3,7 +3,7 @@
 use Prim.Native.Nat.{ℕ, zero, suc, ◌+◌, ◌*◌, ◌-◌, ◌/◌, ◌%◌, ◌^◌, ◌≤◌, ◌<◌}
 use mathlib.Core.Path.{◌≡◌, refl, sym, ap, ap₂, ◌∙◌, subst}
 use mathlib.Core.Bool.{Bool, true, false, cond}
-use mathlib.Core.Logic.{◌⊎◌, inl, inr}
+use mathlib.Core.Logic.{inr}
 use mathlib.Core.List.{List, [], ◌∷◌}
 use native.Mathlib.Omega.{arith}
 use native.Mathlib.Nat.{mul-le-mul_left}
@@ -22,9 +22,9 @@ use Rattle.bintree.specs.declared.Colour.TheVariants.{White, Black}
 use Rattle.bintree.specs.Shape.{Shape, leaf, halved, size, symbol_of}
 use Rattle.bintree.specs.Walks.{leaf_symbol, joined_halves, laid}
 use Rattle.csg.specs.Halfspace.{Mark, decided, undecided}
-use Rattle.csg.specs.Surfaces.{Surfaces, Surface, named}
+use Rattle.csg.specs.Surfaces.{Surfaces, named}
 use Rattle.csg.specs.Tree.{Plain, colour, side, union_of, intersection_of}
-use Rattle.csg.specs.Marks.{side_mark, side_colour, union_colour, intersection_mark, intersection_colour, plain_mark, plain_colour}
+use Rattle.csg.specs.Marks.{union_colour, intersection_mark, intersection_colour, plain_colour}
 use Rattle.csg.proofs.Marks.{intersection_colours}
 use Rattle.csg.proofs.Nested.{low_nested, high_nested}
 use Rattle.convert.specs.Codes.{bits_of}
@@ -35,9 +35,9 @@ use Rattle.convert.proofs.Shapes.{shaped_leaf, shaped_size, shaped_one, shaped_a
 use Rattle.bintree.proofs.Shape.{size_positive}
 use Rattle.bintree.proofs.Lays.{leaf_laid, apart_laid}
 use Rattle.lemmas.proofs.Stores.{restored}
-use Rattle.pruned.specs.Left.{Left, settled, as_mark, union_left, intersection_left, left_by, left, all_mark, all_colour, kept, all_left, all_nodes}
+use Rattle.pruned.specs.Left.{settled, as_mark, union_left, intersection_left, left_by, left, all_mark, all_colour, kept, all_left, all_nodes}
 use Rattle.pruned.specs.Looked.{examine_all, looked_from}
-use Rattle.pruned.specs.Nodes.{all_postfix, Holds, SameBelow, OneOrTwo, doubled, Stepping, judged_marks, block_of, marks_of, all_mark_by, all_left_by, Pruning}
+use Rattle.pruned.specs.Nodes.{all_postfix, Holds, OneOrTwo, doubled, Stepping, judged_marks, block_of, all_mark_by, all_left_by, Pruning}
 use Rattle.pruned.specs.Nodes.{Pruned}
 use Rattle.pruned.specs.Laying.{packed_shape, joined_packed, joined_out, lower_part, upper_part, halves_shape, looked_in_halves, BlockJob, BlockLaid, HalvesJob}
 use Rattle.pruned.specs.Laying.{HalvesLaid}
@@ -46,7 +46,7 @@ use Rattle.pruned.proofs.Looked.{all_nodes_fewer, looked_least, all_decided, all
 use Rattle.pruned.proofs.Memory.{holds_same}
 use Rattle.pruned.proofs.Doublings.{doubled_is}
 use Rattle.pruned.proofs.Steps.{stepping, step_low, step_high}
-use Rattle.pruned.proofs.Reading.{length_all, few_left, fewer_nodes}
+use Rattle.pruned.proofs.Reading.{length_all, few_left}
 
 -- the halves of a block, where their names are taken
 abbrev Block·low : Block → Block

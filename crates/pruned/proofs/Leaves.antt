@@ -1,33 +1,31 @@
 -- A leaf's node judged over a half: its code tells which leaf it is, the two moved values are those over the half, and the code that they or a ball's distances
 -- give is that of the side's mark there, at level L that of its colour at the centre.
-use Prim.Native.Nat.{ℕ, zero, suc, ◌+◌, ◌*◌, ◌-◌, ◌/◌, ◌%◌, ◌≤◌, ◌<◌}
+use Prim.Native.Nat.{ℕ, suc, ◌+◌, ◌*◌, ◌-◌, ◌/◌, ◌%◌, ◌≤◌, ◌<◌}
 use mathlib.Core.Path.{◌≡◌, refl, sym, ap, ap₂, ◌∙◌}
 use mathlib.Core.Bool.{Bool, true, false, cond}
 use mathlib.Core.List.{List}
 use native.Mathlib.Omega.{arith}
 use lib.Dec.{eqb, leb}
-use lib.IntN.{ℤ, pos, nat_abs, ◌+ℤ◌}
+use lib.IntN.{ℤ, pos, ◌+ℤ◌}
 use lib.Signed.{le_z}
 use lib.ListN.{length, get_or}
-use Rattle.universe.specs.declared.Universe.{Universe}
 use Rattle.universe.specs.declared.Block.{Block}
-use Rattle.universe.specs.Universe.{least_axes, most_axes, longest_side, levels, block_side}
+use Rattle.universe.specs.Universe.{least_axes, levels, block_side}
 use Rattle.universe.proofs.Universes.{side_last}
 use Rattle.bintree.specs.declared.Colour.{Colour}
 use Rattle.bintree.specs.declared.Colour.TheVariants.{White, Black}
 use Rattle.csg.specs.Halfspace.{Halfspace, Mark, decided, undecided, most_rows, row_at, row_count, least, greatest, mark_over, centre_value, colour_at_centre}
-use Rattle.csg.specs.Ball.{Ball, most_places, radius_squared, ball_at, ball_count, place_axes, ball_mark, ball_colour}
-use Rattle.csg.specs.Surfaces.{Surfaces, Surface, halfspace, ball, Named, named, IsNamed, halfspace_named, ball_named}
-use Rattle.csg.specs.Tree.{Plain, colour, side}
+use Rattle.csg.specs.Ball.{Ball, radius_squared, ball_at, ball_count}
+use Rattle.csg.specs.Surfaces.{Surfaces, Surface, halfspace, ball, Named, named, halfspace_named, ball_named}
+use Rattle.csg.specs.Tree.{Plain, colour}
 use Rattle.csg.specs.Marks.{opposite_colour, opposite_mark, surface_mark, surface_colour, side_mark, side_colour}
 use Rattle.csg.proofs.Halfspace.{voxel_sum}
 use Rattle.convert.specs.Codes.{white_bit, bits_of, tested_code, off_over, ball_code_at}
 use Rattle.convert.specs.Small.{SmallCoefficient, SmallPlace, SmallPlaces, BallReady}
-use Rattle.convert.specs.Blocks.{Standing, block_left}
 use Rattle.convert.proofs.Blocks.{low_small, side_small}
 use Rattle.convert.proofs.BallMarks.{ball_over, ball_at_lem}
-use Rattle.pruned.specs.Left.{Left, side_left, left_by}
-use Rattle.pruned.specs.Nodes.{joining, Node, of_colour, of_side, word_of, bit_of, node_code, first_ball_side, least_of, greatest_of, moved_least, moved_greatest}
+use Rattle.pruned.specs.Left.{side_left, left_by}
+use Rattle.pruned.specs.Nodes.{joining, Node, of_colour, of_side, bit_of, node_code, first_ball_side, least_of, greatest_of, moved_least, moved_greatest}
 use Rattle.pruned.specs.Nodes.{SmallExtreme}
 use Rattle.pruned.specs.Nodes.{Stepping, judged_marks, block_of, marks_of, left_bits, value_code, ball_code, turned_code, LeafOf, colour_leaf, side_leaf}
 use Rattle.pruned.specs.Nodes.{LeafJob, LeafJudged}

@@ -5,20 +5,19 @@ use Prim.Native.Nat.{ℕ, suc, ◌+◌, ◌≤◌, max}
 use native.Mathlib.Omega.{arith}
 use mathlib.Core.Path.{◌≡◌, refl, sym, ap, ap₂, ◌∙◌}
 use mathlib.Core.Bool.{Bool}
-use mathlib.Core.List.{List, [], ◌∷◌}
+use mathlib.Core.List.{List}
 use Rattle.universe.specs.declared.Universe.{Universe}
 use Rattle.universe.specs.declared.Block.{Block}
 use Rattle.universe.specs.Voxel.{Within}
 use Rattle.bintree.specs.declared.Colour.{Colour}
 use Rattle.bintree.specs.declared.Colour.TheVariants.{White, Black}
 use Rattle.csg.specs.Halfspace.{Mark, decided, undecided}
-use Rattle.csg.specs.Surfaces.{Surfaces, Surface, Named, IsNamed}
+use Rattle.csg.specs.Surfaces.{Surfaces, Surface}
 use Rattle.csg.specs.Tree.{Plain, colour, side, union_of, intersection_of}
 use Rattle.csg.specs.Marks.{side_mark, union_mark, intersection_mark, union_colour, intersection_colour, plain_mark, plain_colour}
 use Rattle.csg.proofs.Nested.{Nested}
-use Rattle.csg.proofs.Marks.{Follows, tree_nested, tree_sound}
-use Rattle.pruned.specs.Left.{Left, settled, still, as_mark, union_left, intersection_left, side_left, left_by, left, nodes, depth, all_mark, all_colour, kept}
-use Rattle.pruned.specs.Left.{all_left, all_nodes}
+use Rattle.csg.proofs.Marks.{tree_nested, tree_sound}
+use Rattle.pruned.specs.Left.{Left, settled, still, as_mark, union_left, intersection_left, side_left, left_by, left, nodes, depth}
 
 -- marks of the sides of surfaces, and finer ones: those over a part of the block
 abbrev Marks : Type 0

@@ -2,33 +2,31 @@
 -- behind them, an operator's behind the two last, of which MINUS turns over the later. At the end they are those of the tree that the words make.
 use Prim.Native.Nat.{ℕ, zero, suc, ◌+◌, ◌*◌, ◌-◌, ◌≤◌, ◌<◌}
 use native.Mathlib.Omega.{arith}
-use native.Mathlib.Numerals.{add-one}
 use mathlib.Core.Path.{◌≡◌, refl, sym, ap, ap₂, subst, ◌∙◌}
-use mathlib.Core.Bool.{Bool, true, false, cond, false≢true}
-use mathlib.Core.List.{List, [], ◌∷◌, ◌++◌, append_assoc, append-nil}
-use borrow.Author.Tests.{leb-true, eq-eqb, ne_eqb}
+use mathlib.Core.Bool.{Bool, true, false, cond}
+use mathlib.Core.List.{List, [], ◌∷◌, ◌++◌, append_assoc}
+use borrow.Author.Tests.{leb-true, ne_eqb}
 use lib.Dec.{leb, eqb}
 use lib.IntN.{ℤ, pos}
-use lib.ListN.{length, get_or, drop, set, replicate, length-append, length-set, length-drop}
+use lib.ListN.{length, get_or, drop, set, replicate, length-append, length-set}
 use Rattle.lemmas.proofs.Sums.{and_left, and_right}
 use Rattle.universe.specs.declared.Universe.{Universe}
 use Rattle.universe.specs.declared.Block.{Block}
-use Rattle.universe.specs.Universe.{least_axes, most_axes, levels}
-use Rattle.universe.specs.Block.{low_along}
+use Rattle.universe.specs.Universe.{most_axes}
 use Rattle.bintree.specs.declared.Colour.TheVariants.{White, Black}
 use Rattle.csg.specs.Halfspace.{most_rows, row_at, row_count, least, greatest}
 use Rattle.csg.specs.Ball.{most_balls}
 use Rattle.csg.specs.Surfaces.{Surfaces, Surface, halfspace, ball, Named, named, IsNamed, halfspace_named, ball_named}
 use Rattle.csg.specs.Tree.{Leaf, white, black, surface, Operator, Plain, colour, side, union_of, intersection_of, plain}
-use Rattle.csg.specs.Words.{most_pending, made, first_halfspace, first_ball, surface_of, is_operator, operator_of, is_leaf, leaf_of, tree_refusal, tree_of}
+use Rattle.csg.specs.Words.{most_pending, made, first_halfspace, first_ball, surface_of, is_operator, operator_of, is_leaf, leaf_of, tree_of}
 use Rattle.csg.proofs.Tree.{turned}
 use Rattle.csg.proofs.Words.{Names, a_halfspace, a_ball, leaf_names, leaf_surface, below_halfspace, above_ball, next}
-use Rattle.csg.proofs.Words.{Reads, ended, pushed, joined, reads, accepted_length, accepted_run, leaf_next, two_pending, join_next, left_one}
+use Rattle.csg.proofs.Words.{Reads, reads, accepted_length, accepted_run, leaf_next, two_pending, join_next, left_one}
 use Rattle.convert.proofs.Blocks.{side_small}
 use Rattle.pruned.specs.declared.leaf.Extremes.{Extremes}
-use Rattle.pruned.specs.Nodes.{Node, of_colour, of_side, joining, postfix, node_code, bit_of, least_of, greatest_of, number_at, stored, Holds, nothing, node}
+use Rattle.pruned.specs.Nodes.{Node, of_colour, of_side, joining, postfix, node_code, least_of, greatest_of, number_at, stored, Holds, nothing, node}
 use Rattle.pruned.specs.Nodes.{SidesNamed, colour_named, side_named, union_named, intersection_named, SmallExtreme, code_limit, Storable, most_shapes}
-use Rattle.pruned.specs.Loading.{whole_extremes, WholeReady, turn_node, turn_nodes, SmallCodes, no_codes, code_small, Turning, Turned}
+use Rattle.pruned.specs.Loading.{whole_extremes, WholeReady, turn_nodes, SmallCodes, no_codes, code_small, Turning, Turned}
 use Rattle.pruned.specs.Loading.{leaf_node, meets, turned_for, Joining, Joined, Sources, whole_of, LeafWord, LeafValues, Loading, Loaded}
 use Rattle.pruned.proofs.Loads.{plain_leaf, plain_node, plain_fold, turn_postfix}
 use Rattle.pruned.proofs.Memory.{stored_long, stored_below, holds_same, holds_front, holds_join, holds_more}

@@ -1,20 +1,20 @@
 -- A tree's words read into nodes: the shapes pending stand one after the other as the nodes of plain trees, MINUS turning over the nodes of the later one. At
 -- the end they are those of the tree that the words make, which can be carried: its surfaces are there, and few shapes are pending.
-use Prim.Native.Nat.{ℕ, zero, suc, ◌+◌, ◌*◌, ◌-◌, ◌≤◌, ◌<◌, max}
+use Prim.Native.Nat.{ℕ, suc, ◌+◌, ◌≤◌, ◌<◌, max}
 use mathlib.Core.Path.{◌≡◌, refl, sym, ap, ap₂, ◌∙◌}
-use mathlib.Core.Bool.{Bool, true, false, not, cond}
-use mathlib.Core.List.{List, [], ◌∷◌, ◌++◌, append_assoc}
+use mathlib.Core.Bool.{true, false}
+use mathlib.Core.List.{List, [], ◌∷◌, ◌++◌}
 use native.Mathlib.Omega.{arith}
-use lib.ListN.{length, length-append}
-use Rattle.csg.specs.Surfaces.{Surface, Named, IsNamed}
+use lib.ListN.{length}
+use Rattle.csg.specs.Surfaces.{Named}
 use Rattle.csg.specs.Tree.{Leaf, white, black, surface, Operator, union, intersection, minus, Tree, leaf, node}
-use Rattle.csg.specs.Tree.{Plain, colour, side, union_of, intersection_of, as_it_is, reversed, plain, reversal}
+use Rattle.csg.specs.Tree.{Plain, colour, side, union_of, intersection_of, as_it_is, plain, reversal}
 use Rattle.csg.specs.Words.{most_pending, leaf_of, operator_of, fold, tree_refusal, tree_of, AllNamed, surface_named, node_named}
-use Rattle.csg.proofs.Tree.{turned, reversal_turned, plain_turned}
+use Rattle.csg.proofs.Tree.{turned, reversal_turned}
 use Rattle.csg.proofs.Words.{Reads, ended, pushed, joined, reads, accepted_run, tree_named}
 use Rattle.bintree.specs.declared.Colour.TheVariants.{White, Black}
 use Rattle.pruned.specs.Left.{nodes, depth, all_nodes}
-use Rattle.pruned.specs.Nodes.{Node, of_colour, of_side, joining, postfix, SidesNamed, colour_named, side_named, union_named, intersection_named, Carriable}
+use Rattle.pruned.specs.Nodes.{Node, joining, postfix, SidesNamed, colour_named, side_named, union_named, intersection_named, Carriable}
 use Rattle.pruned.specs.Loading.{turn_node, turn_nodes}
 
 -- ---- the meaning of words as plain trees

@@ -1,31 +1,31 @@
 -- Several trees intersected: where they are undecided over a block, what is left of them is examined as they are in every part of the block, and the nodes
 -- looked at are as many by what is carried as by the full trees; at most the examined blocks times the nodes of the full trees.
-use Prim.Native.Nat.{ℕ, zero, suc, ◌+◌, ◌*◌, ◌-◌, ◌^◌, ◌≤◌, ◌<◌}
+use Prim.Native.Nat.{ℕ, zero, suc, ◌+◌, ◌*◌, ◌^◌, ◌≤◌, ◌<◌}
 use native.Mathlib.Omega.{arith}
-use native.Mathlib.Nat.{mul-le-mul_left, two-pow-succ}
+use native.Mathlib.Nat.{two-pow-succ}
 use mathlib.Core.Path.{◌≡◌, refl, sym, ap, ap₂, ◌∙◌}
 use mathlib.Core.List.{List, [], ◌∷◌}
 use Rattle.universe.specs.declared.Universe.{Universe}
 use Rattle.universe.specs.declared.Block.{Block}
 use Rattle.universe.specs.Universe.{levels}
-use Rattle.universe.specs.Block.{whole_block, low_along, low, high}
+use Rattle.universe.specs.Block.{low, high}
 use Rattle.universe.specs.Voxel.{Within}
 use Rattle.universe.proofs.Universes.{side_positive}
 use Rattle.bintree.specs.declared.Colour.{Colour}
 use Rattle.bintree.specs.declared.Colour.TheVariants.{White, Black}
-use Rattle.bintree.specs.Shape.{Shape, leaf, halved, size}
+use Rattle.bintree.specs.Shape.{leaf, halved, size}
 use Rattle.csg.specs.Halfspace.{Mark, decided, undecided}
 use Rattle.csg.specs.Surfaces.{Surfaces}
 use Rattle.csg.specs.Tree.{Tree, Plain, plain}
 use Rattle.csg.specs.Marks.{intersection_mark, intersection_colour, plain_mark, plain_colour, tree_mark, tree_colour}
-use Rattle.csg.specs.Raw.{examine, examined, raw, both, blocks_examined}
+use Rattle.csg.specs.Raw.{examine, examined, both}
 use Rattle.csg.proofs.Nested.{Nested, low_nested, high_nested}
-use Rattle.csg.proofs.Marks.{tree_nested, tree_sound}
-use Rattle.csg.proofs.Raw.{examine_decided, examine_undecided, examine_voxel}
+use Rattle.csg.proofs.Marks.{tree_nested}
+use Rattle.csg.proofs.Raw.{examine_decided, examine_undecided}
 use Rattle.convert.specs.Blocks.{judged}
 use Rattle.convert.proofs.Judging.{written_decided}
 use Rattle.pruned.specs.Left.{Left, settled, still, as_mark, left, nodes, all_mark, all_colour, kept, all_left, all_nodes}
-use Rattle.pruned.specs.Looked.{examine_all, looked_at, nodes_looked, looked_from}
+use Rattle.pruned.specs.Looked.{examine_all, looked_at, looked_from}
 use Rattle.pruned.proofs.Left.{mark_is, part_mark, part_still, centre_left, colour_of, nodes_of, left_nodes_lem}
 
 -- a mark that is not WHITE: no tree of the run is WHITE

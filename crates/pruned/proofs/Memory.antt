@@ -1,22 +1,16 @@
 -- Nodes in the work room, number by number: what a store changes, and that nodes which no store meets stay.
-use Prim.Native.Nat.{ℕ, zero, suc, ◌+◌, ◌*◌, ◌≤◌, ◌<◌}
-use mathlib.Core.Path.{◌≡◌, refl, sym, ap, ◌∙◌}
+use Prim.Native.Nat.{ℕ, suc, ◌+◌, ◌*◌, ◌≤◌, ◌<◌}
+use mathlib.Core.Path.{◌≡◌, ap, ◌∙◌}
 use mathlib.Core.List.{List, [], ◌∷◌, ◌++◌}
 use native.Mathlib.Omega.{arith}
-use native.Mathlib.Numerals.{add-one}
-use lib.Dec.{T}
-use lib.IntN.{ℤ, pos, nat_abs}
-use lib.Signed.{non_neg}
-use lib.ListN.{length, get_or, set, length-set, length-append}
+use lib.IntN.{ℤ, pos}
+use lib.ListN.{length, set, length-set}
 use lib.Seq.{get_or-set_same, get_or-set_other}
-use mir.Syntax.{w64}
-use mir.Val.{Fits, to_z, of_z}
-use Rattle.lemmas.proofs.Machine.{near, near_cast}
+use Rattle.lemmas.proofs.Machine.{near}
 use Rattle.universe.specs.declared.Block.{Block}
 use Rattle.csg.specs.Surfaces.{Surfaces}
-use Rattle.pruned.specs.Nodes.{Node, node_code, least_of, greatest_of, node_length, number_at, stored, NodeAt, Holds, nothing, node, SameBelow, code_limit}
-use Rattle.pruned.specs.Nodes.{CodeAt, Storable}
-use Rattle.pruned.proofs.Moving.{held, extreme_near}
+use Rattle.pruned.specs.Nodes.{Node, node_code, least_of, greatest_of, number_at, stored, Holds, nothing, node, code_limit}
+use Rattle.pruned.proofs.Moving.{held}
 
 pub code_held : {x : ℤ} {k : ℕ} → x ≡ pos k → k < code_limit → held x ≡ pos k
 code_held {x} {k} e h = ap held e ∙ (near {x = pos k} {b = code_limit} (record { most = omega arith }) tt).same

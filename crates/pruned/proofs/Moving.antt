@@ -5,7 +5,6 @@ use mathlib.Core.Path.{◌≡◌, refl, sym, ap, ◌∙◌}
 use mathlib.Core.Bool.{Bool, true, false, cond}
 use native.Mathlib.Omega.{arith}
 use borrow.Author.Tests.{lt-ltb, le-leb}
-use lib.Dec.{lit≤}
 use lib.IntN.{ℤ, pos, negsuc, nat_abs, ◌+ℤ◌, ◌-ℤ◌, ◌*ℤ◌}
 use lib.Signed.{le_z}
 use mir.Syntax.{w64}
@@ -13,7 +12,7 @@ use mir.Val.{SFits, to_z, of_z}
 use Rattle.std.specs.Int.{int_min}
 use Rattle.lemmas.proofs.Machine.{Near, near, near_cast, near_lit, near_add, near_sub, near_mul, near_back, near_fits}
 use Rattle.lemmas.proofs.Whole.{up, dn, one_part, Is, is_nat, is_self, is_add, is_sub, is_mul, is_eq, le_is, lt_is, le_z_true, le_z_false}
-use Rattle.universe.specs.Universe.{coefficient_limit, longest_side}
+use Rattle.universe.specs.Universe.{longest_side}
 use Rattle.csg.specs.Halfspace.{lesser}
 use Rattle.csg.proofs.Extremes.{above_is, below_is}
 use Rattle.convert.specs.Codes.{tested_code}

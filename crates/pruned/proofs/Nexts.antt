@@ -4,7 +4,7 @@ use Prim.Native.Nat.{ℕ, suc, ◌+◌, ◌*◌, ◌≤◌, ◌<◌}
 use native.Mathlib.Omega.{arith}
 use mathlib.Core.Path.{◌≡◌, refl, sym, ap, ◌∙◌}
 use mathlib.Core.Bool.{Bool, true, false, false≢true}
-use mathlib.Core.List.{List, [], ◌∷◌}
+use mathlib.Core.List.{List, ◌∷◌}
 use lib.IntN.{ℤ, nat_abs}
 use lib.ListN.{length}
 use Rattle.universe.specs.declared.Block.{Block}
@@ -13,7 +13,7 @@ use Rattle.csg.specs.Halfspace.{most_rows, row_count}
 use Rattle.csg.specs.Ball.{most_balls, ball_count}
 use Rattle.csg.specs.Surfaces.{Surfaces, halfspace, ball, Named, named, halfspace_named, ball_named}
 use Rattle.csg.specs.Tree.{Plain}
-use Rattle.pruned.specs.Nodes.{Node, joining, join_plain, node_code, is_join, number_at, NodeAt, Holds, nothing, node, LeafOf, side_leaf, colour_leaf}
+use Rattle.pruned.specs.Nodes.{Node, joining, join_plain, node_code, is_join, number_at, NodeAt, Holds, node, LeafOf, side_leaf, colour_leaf}
 use Rattle.pruned.specs.Nodes.{CodeAt, most_shapes}
 use Rattle.pruned.proofs.Reading.{Reads, ended, pushed, joined, leaf_code, join_code_lem}
 

@@ -1,20 +1,17 @@
 -- Two voxels at once. A halfspace's values over the block, added up, are twice its value at the block's centre; those over a half add up to that less or more
 -- the coefficient along the axis, and are twice the value at the voxel's centre. Digits are joined by operators as colours are, so that one pass over the nodes
 -- of the trees gives their colours at both centres.
-use Prim.Native.Nat.{ℕ, zero, suc, ◌+◌, ◌*◌, ◌-◌, ◌/◌, ◌%◌, ◌^◌, ◌≤◌, ◌<◌}
+use Prim.Native.Nat.{ℕ, suc, ◌+◌, ◌*◌, ◌-◌, ◌/◌, ◌%◌, ◌≤◌, ◌<◌}
 use native.Mathlib.Omega.{arith}
 use native.Mathlib.Numerals.{add-one}
-use mathlib.Core.Path.{◌≡◌, refl, sym, ap, ap₂, ◌∙◌, subst}
+use mathlib.Core.Path.{◌≡◌, refl, sym, ap, ap₂, ◌∙◌}
 use mathlib.Core.Bool.{Bool, true, false, cond}
 use mathlib.Core.List.{List, [], ◌∷◌}
-use borrow.Author.Tests.{eq-eqb, ne_eqb}
-use lib.Dec.{eqb, leb}
+use lib.Dec.{eqb}
 use lib.IntN.{ℤ, pos, nat_abs, ◌+ℤ◌, ◌-ℤ◌}
 use lib.ListN.{length, get_or, set, length-set}
 use lib.Signed.{le_z}
-use mir.Syntax.{w64}
-use mir.Val.{SFits}
-use Rattle.lemmas.proofs.Machine.{Near, near, near_add, near_sub, near_back, near_fits}
+use Rattle.lemmas.proofs.Machine.{Near, near, near_add, near_sub, near_back}
 use Rattle.lemmas.proofs.Whole.{is_self, is_add, is_sub, is_eq}
 use Rattle.universe.specs.Universe.{most_axes, coefficient_limit}
 use Rattle.bintree.specs.declared.Colour.TheVariants.{White, Black}
@@ -22,17 +19,13 @@ use Rattle.csg.specs.Surfaces.{Surfaces, Surface, named}
 use Rattle.csg.specs.Halfspace.{Mark}
 use Rattle.csg.specs.Ball.{ball_at}
 use Rattle.csg.specs.Tree.{Plain}
-use Rattle.convert.specs.Codes.{bits_of, tested_code, ball_code_at}
-use Rattle.convert.specs.Shapes.{symbol_of_bits}
+use Rattle.convert.specs.Codes.{bits_of, ball_code_at}
 use Rattle.convert.specs.Small.{SmallCoefficient, BallReady}
-use Rattle.convert.proofs.Blocks.{four}
 use Rattle.pruned.specs.Left.{Left, settled, still, left_by}
-use Rattle.pruned.specs.Nodes.{Node, join_plain, join_left, all_postfix, bit_of, node_code, is_join, is_meet, least_of, greatest_of, number_at, Holds, OneOrTwo}
+use Rattle.pruned.specs.Nodes.{Node, join_plain, join_left, all_postfix, node_code, is_join, is_meet, least_of, greatest_of, number_at, Holds, OneOrTwo}
 use Rattle.pruned.specs.Nodes.{one, two, first_ball_side, moved_least, moved_greatest, extreme_limit, SmallExtreme, Stepping, marks_of, left_bits, all_mark_by}
-use Rattle.pruned.specs.Nodes.{joined_code, CodeAt, most_shapes}
+use Rattle.pruned.specs.Nodes.{CodeAt, most_shapes}
 use Rattle.pruned.specs.Pair.{next_places, pair_of, is_black, turned_pair, joined_pair, whole_pair, PairStep, pair_by, PairLeaf, leaf_pair, PairTrees, trees_pair}
-use Rattle.pruned.specs.Pair.{below_black, above_black, below_symbol, above_symbol}
-use Rattle.pruned.specs.Laying.{joined_packed, joined_out}
 use Rattle.pruned.proofs.Moving.{held, extreme_near, rise_is, fall_is}
 use Rattle.pruned.proofs.Leaves.{turned_black, values_small, white_told, black_told, row_in, moved_asks, centre_black, ball_asks, ball_black}
 use Rattle.pruned.proofs.Nexts.{LeafNext, leaf_next, JoinNext, join_next, code_next, all_read}

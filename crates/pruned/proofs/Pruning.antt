@@ -1,35 +1,34 @@
 -- The loop of pruning. Every node is stored at the end of those that are kept, and the end moves only where it is kept: it falls back to the start of a shape
 -- that is settled, stays where a son is handed over, and grows by an operator whose sons both stay or by an undecided leaf. The shapes pending are held as
 -- trees; both arrays, the end and the nodes written are told by them.
-use Prim.Native.Nat.{ℕ, zero, suc, ◌+◌, ◌*◌, ◌-◌, ◌≤◌, ◌<◌}
+use Prim.Native.Nat.{ℕ, suc, ◌+◌, ◌*◌, ◌-◌, ◌≤◌, ◌<◌}
 use native.Mathlib.Omega.{arith}
 use native.Mathlib.Numerals.{add-one}
 use mathlib.Core.Path.{◌≡◌, refl, sym, ap, ap₂, ◌∙◌}
-use mathlib.Core.Bool.{Bool, true, false, cond, false≢true}
-use mathlib.Core.Logic.{◌⊎◌, inl, inr, ⊎_elim}
+use mathlib.Core.Bool.{Bool, true, false, cond}
+use mathlib.Core.Logic.{⊎_elim}
 use mathlib.Core.List.{List, [], ◌∷◌, ◌++◌, append_assoc, append-nil}
 use lib.Dec.{eqb}
 use lib.IntN.{ℤ, pos, nat_abs}
 use lib.ListN.{length, get_or, set, length-append, length-set}
 use Rattle.universe.specs.declared.Block.{Block}
-use Rattle.bintree.specs.declared.Colour.{Colour}
 use Rattle.bintree.specs.declared.Colour.TheVariants.{White, Black}
 use Rattle.csg.specs.Halfspace.{Mark, decided, undecided}
-use Rattle.csg.specs.Surfaces.{Surfaces, Surface, halfspace, ball, Named, named, IsNamed, halfspace_named, ball_named}
+use Rattle.csg.specs.Surfaces.{Surfaces, Surface, halfspace, ball, Named, named, halfspace_named}
 use Rattle.csg.specs.Tree.{Plain}
 use Rattle.csg.specs.Marks.{intersection_mark}
 use Rattle.convert.specs.Codes.{bits_of}
 use Rattle.pruned.specs.Left.{Left, settled, still, as_mark, side_left, left_by, kept}
 use Rattle.pruned.specs.Nodes.{Node, of_colour, of_side, joining, join_plain, join_left, postfix, left_nodes, all_postfix, node_code, is_join, is_meet, least_of}
 use Rattle.pruned.specs.Nodes.{greatest_of}
-use Rattle.pruned.specs.Nodes.{number_at, stored, NodeAt, Holds, nothing, node, SameBelow, OneOrTwo, one, two, SmallExtreme, Stepping, block_of, marks_of}
+use Rattle.pruned.specs.Nodes.{number_at, stored, Holds, nothing, OneOrTwo, one, two, SmallExtreme, block_of, marks_of}
 use Rattle.pruned.specs.Nodes.{left_bits}
 use Rattle.pruned.specs.Nodes.{all_mark_by, all_left_by, Pruning, end_after, joined_code, LeafOf, side_leaf, colour_leaf, LeafJob, LeafJudged, CodeAt, Storable}
 use Rattle.pruned.specs.Nodes.{whole_mark, most_shapes, Shelves, Pruned}
 use Rattle.pruned.proofs.Moving.{held, extreme_near}
 use Rattle.pruned.proofs.Leaves.{values_small}
-use Rattle.pruned.proofs.Memory.{code_held, stored_long, stored_below, stored_above, holds_same, holds_front, holds_more}
-use Rattle.pruned.proofs.Reading.{Reads, ended, pushed, joined, leaf_code, join_code_lem, last_first, reads_all}
+use Rattle.pruned.proofs.Memory.{stored_long, stored_below, stored_above, holds_same, holds_front, holds_more}
+use Rattle.pruned.proofs.Reading.{Reads, join_code_lem, last_first, reads_all}
 use Rattle.pruned.proofs.Nexts.{LeafNext, leaf_next, JoinNext, join_next, small_code, code_next, all_read}
 use Rattle.pruned.proofs.Stacks.{stack_of, length_stack, stack_push, stack_last, stack_two, stack_joined}
 

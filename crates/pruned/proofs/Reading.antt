@@ -1,22 +1,20 @@
 -- Nodes read in postfix order over the shapes pending: each pushes a leaf or joins the two last shapes. The nodes of one tree, or of two one after the other,
 -- lead to these trees with at most 33 shapes pending, and what is left of a tree that can be carried can be carried in its turn.
-use Prim.Native.Nat.{ℕ, zero, suc, ◌+◌, ◌*◌, ◌≤◌, ◌<◌, max}
-use mathlib.Core.Path.{◌≡◌, refl, sym, ap, ◌∙◌}
+use Prim.Native.Nat.{ℕ, ◌+◌, ◌*◌, ◌≤◌, ◌<◌}
+use mathlib.Core.Path.{◌≡◌, refl, ap, ◌∙◌}
 use mathlib.Core.Bool.{Bool, true, false}
-use mathlib.Core.List.{List, [], ◌∷◌, ◌++◌, append_assoc, append-nil}
+use mathlib.Core.List.{List, [], ◌∷◌, ◌++◌, append_assoc}
 use native.Mathlib.Omega.{arith}
 use borrow.Author.Tests.{le-leb, le-ltb}
 use lib.ListN.{length, length-append}
-use Rattle.bintree.specs.declared.Colour.{Colour}
 use Rattle.bintree.specs.declared.Colour.TheVariants.{White, Black}
-use Rattle.csg.specs.Halfspace.{Mark, decided, undecided, most_rows}
+use Rattle.csg.specs.Halfspace.{Mark, decided, undecided}
 use Rattle.csg.specs.Surfaces.{Surface, halfspace, ball, Named, IsNamed}
 use Rattle.csg.specs.Tree.{Plain, colour, side, union_of, intersection_of}
-use Rattle.csg.specs.Words.{most_pending}
 use Rattle.csg.specs.Marks.{intersection_mark}
 use Rattle.pruned.specs.Left.{Left, settled, still, as_mark, union_left, intersection_left, side_left, left_by, nodes, depth, kept, all_nodes}
-use Rattle.pruned.specs.Nodes.{Node, of_colour, of_side, joining, join_plain, join_left, postfix, left_nodes, all_postfix, bit_of, node_code, is_join, is_meet}
-use Rattle.pruned.specs.Nodes.{SidesNamed, colour_named, side_named, union_named, intersection_named, Carriable, OneOrTwo, one, two, LeafOf, colour_leaf}
+use Rattle.pruned.specs.Nodes.{Node, joining, join_plain, postfix, all_postfix, bit_of, node_code, is_join, is_meet}
+use Rattle.pruned.specs.Nodes.{SidesNamed, side_named, union_named, intersection_named, Carriable, OneOrTwo, one, two, LeafOf, colour_leaf}
 use Rattle.pruned.specs.Nodes.{side_leaf}
 use Rattle.pruned.specs.Nodes.{all_mark_by, all_left_by, most_shapes}
 use Rattle.pruned.proofs.Left.{depth_of, nodes_of, left_depth, left_nodes_lem}

@@ -1,38 +1,37 @@
 -- From a block to a half: the values of a halfspace over a block that stands in the universe are small, and those over its halves are those over it with one
 -- moved, by the law of the halves' least and greatest. So a step to either half can be taken, and the step from the whole universe to itself.
-use Prim.Native.Nat.{ℕ, zero, suc, ◌+◌, ◌*◌, ◌-◌, ◌/◌, ◌%◌, ◌≤◌, ◌<◌}
-use mathlib.Core.Path.{◌≡◌, refl, sym, ap, ◌∙◌}
+use Prim.Native.Nat.{ℕ, zero, suc, ◌+◌, ◌*◌, ◌-◌, ◌%◌, ◌≤◌, ◌<◌}
+use mathlib.Core.Path.{◌≡◌, sym, ap, ◌∙◌}
 use mathlib.Core.Bool.{Bool, true, false, ◌&&◌}
 use mathlib.Core.List.{List}
 use native.Mathlib.Omega.{arith}
 use native.Mathlib.Nat.{mul-le-mul_left}
 use borrow.Author.Tests.{leb-true}
-use lib.Dec.{eqb, leb, eqb→eq}
-use lib.IntN.{ℤ, pos, nat_abs, ◌+ℤ◌, ◌-ℤ◌, ◌*ℤ◌}
-use lib.ListN.{length, get_or}
+use lib.Dec.{eqb, leb}
+use lib.IntN.{ℤ, nat_abs, ◌-ℤ◌}
+use lib.ListN.{length}
 use Rattle.lemmas.specs.Sums.{sum, every}
 use Rattle.lemmas.proofs.Sums.{and_left, and_right}
-use Rattle.lemmas.proofs.Whole.{up, dn, one_part, Is, is_self, is_nat, is_mul, is_eq}
+use Rattle.lemmas.proofs.Whole.{one_part, Is}
 use Rattle.lemmas.proofs.Machine.{nat_abs_parts}
 use Rattle.universe.specs.declared.Universe.{Universe}
 use Rattle.universe.specs.declared.Block.{Block}
 use Rattle.universe.specs.Refusals.{bad_rows}
-use Rattle.universe.specs.Universe.{most_axes, longest_side, coefficient_limit, offset_limit, universe_refusal, levels, axis_at, block_side}
-use Rattle.universe.specs.Questions.{axes_left}
-use Rattle.universe.specs.Block.{low_along, low, high, axis_of}
+use Rattle.universe.specs.Universe.{most_axes, longest_side, coefficient_limit, levels, axis_at, block_side}
+use Rattle.universe.specs.Block.{low_along, axis_of}
 use Rattle.universe.proofs.Refusing.{unless_holds}
 use Rattle.universe.proofs.Universes.{Accepted, accepted, axis_below, side_halved}
 use Rattle.universe.proofs.Blocks.{half_length}
 use Rattle.csg.specs.Halfspace.{Halfspace, most_rows, row_length, row_at, row_count, rows_refusal, within_limits, least, greatest}
 use Rattle.csg.specs.Ball.{most_balls, ball_length, ball_count, ball_at, balls_refusal, ball_within}
 use Rattle.csg.specs.Surfaces.{Surfaces}
-use Rattle.csg.proofs.Halfspace.{axes_of, end_along, added, taken, rise, fall, least_is, greatest_is}
-use Rattle.csg.proofs.Extremes.{above_is, below_is, least_low, greatest_low, least_high, greatest_high}
+use Rattle.csg.proofs.Halfspace.{end_along, added, taken, rise, fall, least_is, greatest_is}
+use Rattle.csg.proofs.Extremes.{least_low, greatest_low, least_high, greatest_high}
 use Rattle.convert.specs.Small.{SmallHalfspace}
-use Rattle.convert.specs.Blocks.{Standing, block_left, axis_left, half_side, halved_sides, high_lows}
+use Rattle.convert.specs.Blocks.{Standing, block_left, half_side, halved_sides, high_lows}
 use Rattle.convert.proofs.Judging.{small_rows, small_balls}
-use Rattle.convert.proofs.Blocks.{axis_is, axis_few, lower_standing, upper_standing, lower_is, upper_is}
-use Rattle.pruned.specs.Nodes.{extreme_limit, rises, falls, SmallExtreme, moved_least, moved_greatest, Stepping}
+use Rattle.convert.proofs.Blocks.{axis_few, lower_standing, upper_standing, lower_is, upper_is}
+use Rattle.pruned.specs.Nodes.{SmallExtreme, moved_least, moved_greatest, Stepping}
 use Rattle.pruned.specs.Laying.{SoundScene}
 use Rattle.pruned.proofs.Moving.{less_nothing, rises_none, falls_none}
 

@@ -1,6 +1,6 @@
 -- Nodes turned over one after the other: those in front of a place are turned over and those from it on are not yet. Turned over, a node has the code of its
 -- other side, constant or operator, and the same values.
-use Prim.Native.Nat.{ℕ, zero, suc, ◌+◌, ◌*◌, ◌-◌, ◌%◌, ◌^◌, ◌≤◌, ◌<◌}
+use Prim.Native.Nat.{ℕ, suc, ◌+◌, ◌*◌, ◌-◌, ◌%◌, ◌≤◌, ◌<◌}
 use mathlib.Core.Path.{◌≡◌, refl, sym, ap, ◌∙◌}
 use mathlib.Core.Bool.{Bool, true, false, cond}
 use mathlib.Core.List.{List, [], ◌∷◌, ◌++◌, append_assoc, append-nil}
@@ -17,9 +17,9 @@ use Rattle.lemmas.proofs.Machine.{near_cast}
 use Rattle.universe.specs.declared.Block.{Block}
 use Rattle.bintree.specs.declared.Colour.TheVariants.{White, Black}
 use Rattle.csg.specs.Surfaces.{Surfaces, Surface, halfspace, ball}
-use Rattle.pruned.specs.Nodes.{Node, of_colour, of_side, joining, word_of, bit_of, node_code, least_of, greatest_of, number_at, NodeAt, Holds, nothing, node}
+use Rattle.pruned.specs.Nodes.{Node, of_colour, of_side, joining, word_of, bit_of, node_code, least_of, greatest_of, number_at, Holds, nothing, node}
 use Rattle.pruned.specs.Nodes.{CodeAt, code_limit}
-use Rattle.pruned.specs.Loading.{turn_node, turn_nodes, turned_number, SmallCodes, no_codes, code_small, Turning, Turned}
+use Rattle.pruned.specs.Loading.{turn_node, turn_nodes, turned_number, SmallCodes, code_small, Turning, Turned}
 use Rattle.pruned.proofs.Memory.{holds_same, holds_join}
 
 word_big : (s : Surface) → 256 ≤ word_of s

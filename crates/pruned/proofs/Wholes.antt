@@ -1,12 +1,12 @@
 -- A halfspace's values over the whole universe, axis by axis: by the two parts of its coefficients they are the least and the greatest over a block that begins
 -- at 0 along every axis, and they stay small on the way.
 use Prim.Native.Nat.{ℕ, zero, suc, ◌+◌, ◌*◌, ◌≤◌, ◌<◌}
-use mathlib.Core.Path.{◌≡◌, refl, sym, ap, ◌∙◌}
+use mathlib.Core.Path.{◌≡◌, refl, ap, ◌∙◌}
 use mathlib.Core.Bool.{true}
 use mathlib.Core.List.{List}
 use native.Mathlib.Omega.{arith}
 use native.Mathlib.Nat.{mul-le-mul}
-use lib.IntN.{ℤ, pos, nat_abs, ◌+ℤ◌}
+use lib.IntN.{ℤ, nat_abs, ◌+ℤ◌}
 use lib.ListN.{get_or}
 use Rattle.lemmas.specs.Sums.{sum}
 use Rattle.lemmas.proofs.Machine.{near, nat_abs_parts, size_add}
@@ -17,7 +17,7 @@ use Rattle.universe.specs.Universe.{most_axes, longest_side, coefficient_limit}
 use Rattle.universe.specs.Block.{low_along, length_along}
 use Rattle.csg.specs.Halfspace.{Halfspace, row_at, least, greatest}
 use Rattle.csg.proofs.Halfspace.{axes_of, end_along, added, taken, rise, fall, least_is, greatest_is}
-use Rattle.convert.specs.Small.{SmallCoefficient, SmallPlace, SmallHalfspace}
+use Rattle.convert.specs.Small.{SmallCoefficient, SmallPlace}
 use Rattle.pruned.specs.declared.leaf.Extremes.{Extremes}
 use Rattle.pruned.specs.Nodes.{rises, falls, moved_least, moved_greatest, extreme_limit, SmallExtreme}
 use Rattle.pruned.specs.Loading.{widened, whole_extremes, WholeReady}

@@ -1,17 +1,17 @@
 -- The whole universe written: the full trees are pruned over it in place, and what that leaves is one symbol, or both halves, which are written once or, where
 -- the room lent may not suffice, into scratch room that is as long, or measured first: the nodes of what is left stand while the halves are measured.
-use Prim.Native.Nat.{ℕ, zero, suc, ◌+◌, ◌*◌, ◌-◌, ◌/◌, ◌%◌, ◌^◌, ◌≤◌, ◌<◌}
+use Prim.Native.Nat.{ℕ, suc, ◌+◌, ◌*◌, ◌/◌, ◌%◌, ◌^◌, ◌≤◌, ◌<◌}
 use native.Mathlib.Omega.{arith}
 use native.Mathlib.Nat.{le_trans, mul-le-mul}
-use mathlib.Core.Path.{◌≡◌, refl, sym, ap, ap₂, subst, ◌∙◌}
-use mathlib.Core.Bool.{Bool, true, false, cond}
+use mathlib.Core.Path.{◌≡◌, refl, sym, ap, subst, ◌∙◌}
+use mathlib.Core.Bool.{Bool, true, false}
 use mathlib.Core.Logic.{inl}
 use mathlib.Core.List.{List, [], ◌∷◌}
 use borrow.Author.Tests.{eqb-true}
 use lib.Dec.{eqb}
 use lib.IntN.{ℤ}
 use lib.ListN.{length, get_or, set, replicate, take}
-use lib.Seq.{sets, length-sets}
+use lib.Seq.{sets}
 use lib.Pow.{pow_mono}
 use Rattle.lemmas.proofs.Stores.{sets_first, sets_front}
 use Rattle.universe.specs.declared.Universe.{Universe}
@@ -22,22 +22,21 @@ use Rattle.universe.specs.Block.{whole_block}
 use Rattle.universe.proofs.Universes.{accepted, levels_few}
 use Rattle.universe.proofs.Questions.{levels_told}
 use Rattle.universe.proofs.Lent.{untouched, written, room_enough, room_short}
-use Rattle.bintree.specs.declared.Colour.{Colour}
-use Rattle.bintree.specs.Shape.{Shape, leaf, size, symbol_of, symbols}
+use Rattle.bintree.specs.Shape.{Shape, size, symbols}
 use Rattle.bintree.specs.Walks.{noted}
 use Rattle.bintree.proofs.Shape.{length_symbols}
 use Rattle.bintree.proofs.Lays.{laid_noted}
-use Rattle.csg.specs.Surfaces.{Surfaces, named}
+use Rattle.csg.specs.Surfaces.{Surfaces}
 use Rattle.csg.specs.Tree.{Plain}
 use Rattle.convert.specs.Blocks.{Standing, block_left}
-use Rattle.convert.specs.Shapes.{shaped, symbol_of_bits, end_limit}
+use Rattle.convert.specs.Shapes.{shaped, symbol_of_bits}
 use Rattle.convert.proofs.Blocks.{whole_is}
 use Rattle.convert.proofs.Shapes.{shaped_leaf, shaped_size}
 use Rattle.pruned.specs.Told.{ConversionAnswer}
 use Rattle.pruned.specs.Left.{all_nodes}
 use Rattle.pruned.specs.Looked.{examine_all, looked_at, nodes_looked, looked_from}
-use Rattle.pruned.specs.Nodes.{all_postfix, Holds, SameBelow, Pruned}
-use Rattle.pruned.specs.Laying.{SoundScene, packed_shape, BlockJob, HalvesJob, HalvesLaid}
+use Rattle.pruned.specs.Nodes.{all_postfix, Holds, Pruned}
+use Rattle.pruned.specs.Laying.{BlockJob, HalvesJob, HalvesLaid}
 use Rattle.pruned.specs.Loading.{whole_of}
 use Rattle.pruned.specs.Answers.{short_of_symbols, done_conversion, written_conversion, written_room}
 use Rattle.pruned.specs.Whole.{halves_of, looked_in, HalvesWritten, OpenJob, Ended, WholeJob, symbols_of}
@@ -156,17 +155,13 @@ module _ {surfaces : Surfaces} {axes : ℕ} {table low side : List ℕ} {left : 
         ended_done w.long_is h (g again_exact).room (ap (λ (l : List ℕ). get_or l 0 0) w.counted)
 
     -- the scratch room is no shorter than the room lent, so it holds whatever fits there
-    module _ (f : k ≤ length out) (g : length out ≤ length scratch) where
-      pub through_within : k ≤ length scratch'
-      through_within = omega (arith, f, g, ap length w.room, length-sets scratch 0 laid_out)
-
-      pub through_copied : {out' : List ℕ} → out' ≡ sets out 0 (take k scratch') →
-          Ended out laid_out in_all (done_conversion k (get_or looked' 0 0)) out'
-      through_copied p =
-          let same : take k scratch' ≡ laid_out =
-          ap (λ (j : ℕ). take j scratch') w.long_is ∙ ap (take (length laid_out)) w.room
-          ∙ sets_front laid_out scratch (omega (arith, f, g, w.long_is)) in
-          ended_done w.long_is f (p ∙ ap (sets out 0) same) (ap (λ (l : List ℕ). get_or l 0 0) w.counted)
+    pub through_copied : k ≤ length out → length out ≤ length scratch → {out' : List ℕ} → out' ≡ sets out 0 (take k scratch') →
+        Ended out laid_out in_all (done_conversion k (get_or looked' 0 0)) out'
+    through_copied f g p =
+        let same : take k scratch' ≡ laid_out =
+        ap (λ (j : ℕ). take j scratch') w.long_is ∙ ap (take (length laid_out)) w.room
+        ∙ sets_front laid_out scratch (omega (arith, f, g, w.long_is)) in
+        ended_done w.long_is f (p ∙ ap (sets out 0) same) (ap (λ (l : List ℕ). get_or l 0 0) w.counted)
 
 -- ---- the whole universe
 module _ {u : Universe} {surfaces : Surfaces} {side : List ℕ} {work : List ℤ} {count : ℕ} {starts : List ℕ} {room : ℕ}

@@ -7,7 +7,7 @@ use Rattle.universe.specs.declared.Block.{Block}
 use Rattle.universe.specs.Universe.{most_axes, longest_side, offset_limit, coefficient_limit}
 use Rattle.bintree.specs.declared.Colour.{Colour}
 use Rattle.bintree.specs.declared.Colour.TheVariants.{White, Black}
-use Rattle.csg.specs.Halfspace.{Halfspace, Mark, decided, undecided, lesser, greater, most_rows, row_at, row_count, least}
+use Rattle.csg.specs.Halfspace.{Mark, decided, lesser, greater, most_rows, row_at, row_count, least}
 use Rattle.csg.specs.Halfspace.{greatest}
 use Rattle.csg.specs.Ball.{Ball, most_balls, ball_at, ball_count}
 use Rattle.csg.specs.Surfaces.{Surfaces, Surface, halfspace, ball, Named, named, IsNamed}

@@ -1,6 +1,6 @@
 -- How the whole universe is written from the nodes of the full trees: pruned over it in place, it is one symbol, or its
 -- halves are laid, once where the room lent suffices by the formula, else into scratch room or first for their length.
-use Rattle.std.specs.Prelude.{ℕ, suc, ◌+◌, ◌*◌, ◌-◌, ◌^◌, ◌≤◌, ◌<◌, ◌≡◌, Bool, List, [], ◌∷◌, ℤ, length, get_or, replicate}
+use Rattle.std.specs.Prelude.{ℕ, ◌+◌, ◌*◌, ◌-◌, ◌^◌, ◌≤◌, ◌<◌, ◌≡◌, Bool, List, [], ◌∷◌, ℤ, length, get_or, replicate}
 use Rattle.std.proofs.lemmas.List.Edits.{sets}
 use Rattle.universe.specs.declared.Universe.{Universe}
 use Rattle.universe.specs.Universe.{most_axes, levels}
@@ -12,7 +12,7 @@ use Rattle.csg.specs.Words.{most_words, tree_refusal}
 use Rattle.convert.specs.Blocks.{Standing, block_left}
 use Rattle.convert.specs.Shapes.{shaped}
 use Rattle.pruned.specs.Told.{ConversionAnswer}
-use Rattle.pruned.specs.Looked.{examine_all, nodes_looked}
+use Rattle.pruned.specs.Looked.{examine_all}
 use Rattle.pruned.specs.Nodes.{all_postfix, node_length, Holds, SameBelow, OneOrTwo, most_shapes}
 use Rattle.pruned.specs.Laying.{SoundScene, halves_shape, looked_in_halves, HalvesJob}
 use Rattle.pruned.specs.Loading.{whole_of}
@@ -49,13 +49,6 @@ pub record OpenJob (surfaces : Surfaces) (axes : ℕ) (table low side : List ℕ
     (work : List ℤ) (count before room : ℕ) : Type 0 where
   pub halves : HalvesJob surfaces axes table low side left work 0 count (before ∷ []) 0
   pub suffices : (merging : Bool) → length (symbols (halves_of merging halves)) ≤ room
-
--- the symbols that scratch room holds
-abbrev pub short_scratch : ℕ
-short_scratch = 768
-
-abbrev pub most_scratch : ℕ
-most_scratch = 4096
 
 pub record Ended (out written : List ℕ) (looked : ℕ) (r : ConversionAnswer) (out' : List ℕ) : Type 0 where
   pub answer : r ≡ written_conversion out written looked

@@ -35,7 +35,8 @@ use universe::Universe;
 // No expression is longer.
 const MOST_ROOM: u64 = 2 << Universe::MOST_LEVELS;
 
-// The sides of the whole universe; 0 along an axis that it lacks.
+// The sides of the whole universe; 0 along an axis that it lacks: four calls, which a public function would make no
+// plainer.
 fn whole_sides(universe: Universe) -> [u64; Universe::MOST_AXES as usize]
     ensures { result ≡ whole_sides universe }
 {

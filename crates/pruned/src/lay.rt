@@ -1,34 +1,19 @@
 // The recursion over blocks, which lays the raw or the merged expression of what is carried.
 ghost use Rattle.std.specs.Prelude.{◌≡◌, ◌+◌, ◌<◌, ◌≤◌};
 ghost use Rattle.csg.specs.Surfaces.{surfaces_of};
-ghost use Rattle.convert.specs.Shapes.{symbol_of_bits, is_one, end_limit};
+ghost use Rattle.convert.specs.Shapes.{end_limit};
 ghost use Rattle.pruned.specs.Nodes.{doubled, Shelves};
 ghost use Rattle.pruned.specs.Laying.{joined_packed, joined_out, BlockJob, BlockLaid, HalvesJob, HalvesLaid};
 
 use crate::leaf::doublings;
-use crate::marks::BLACK_BIT;
 use crate::pair::lay_pair;
 use crate::prune::{MOST_SHAPES, prune};
 use crate::single::{is_single, lay_single};
+use convert::{is_one, symbol_of};
 use universe::Universe;
 
 // What the place past a shape is multiplied by where it is packed.
 pub(crate) const HELD_UNIT: usize = 256;
-
-// The symbol of a block that is judged BLACK or WHITE.
-pub(crate) fn symbol_of(mark: u8) -> u8
-    ensures { result ≡ symbol_of_bits mark }
-{
-    if mark == BLACK_BIT { b'B' } else { b'W' }
-}
-
-// Whether two halves are held back as one: leaves of one colour, where shapes are merged.
-#[tactic(auto, unfolding(convert::specs::Shapes::is_one))]
-fn is_one(merging: bool, below: u8, above: u8) -> bool
-    ensures { result ≡ is_one merging below above }
-{
-    merging && bintree::is_alike(below, above)
-}
 
 // Joins two halves that are laid behind the place of their `(`, and packs what they come to.
 pub(crate) fn join(
@@ -54,6 +39,8 @@ pub(crate) fn join(
 
 // Lays the shape of a block, merged or as it is, from `at` on, as far as there is room; a leaf is held back. The nodes
 // that are carried into the block stand from `from` on, with their values over its parent; they are counted, and stay.
+// `merging` is an argument: of functions with a const parameter that call each other no answer to what a call asks
+// counts as a proof.
 #[cycle(lay_block_lay_halves)]
 fn lay_block(
     axes: usize,

@@ -22,7 +22,8 @@ ghost use Rattle.pruned.specs.Nodes.{
 };
 
 use crate::ball::code_of_ball;
-use crate::marks::{BLACK_BIT, WHITE_BIT, side_code, tested_code, turned_code};
+use crate::marks::{side_code, turned_code};
+use convert::{BLACK_BIT, WHITE_BIT, tested_code};
 use universe::Universe;
 
 // The least and the greatest value of a halfspace over a block.
@@ -59,14 +60,15 @@ pub(crate) fn moved_by(amount: i64, high: bool, least: i64, greatest: i64) -> Ex
 // From so many doublings on nothing is left of 1: the length of no half, as the whole universe's is.
 pub(crate) const NO_HALF: u64 = 64;
 
-// How often 1 is doubled to a length that is a power of two.
+// How often 1 is doubled to a length that is a power of two: one call of the library, which needs no public function.
 pub(crate) fn doublings(length: u64) -> u64
     ensures { result ≡ count_trailing_zeros 64 length }
 {
     u64::from(length.trailing_zeros())
 }
 
-// The amount of a coefficient and a length to which 1 is doubled so often: the coefficient, doubled so often.
+// The amount of a coefficient and a length to which 1 is doubled so often: the coefficient, doubled so often. It asks
+// that this fits, and no public function asks anything: the crate above has its own.
 pub(crate) fn amount(coefficient: i64, times: u64) -> i64
     requires small_coefficient { SmallCoefficient coefficient }
     requires times_bound { times < 64 }
@@ -139,7 +141,7 @@ fn judge_over(code: u64, least: i64, greatest: i64) -> Judged
     ensures least_value { (result.least ≡ least) × (result.greatest ≡ greatest) }
 {
     Judged {
-        code: side_code(code, 0 <= least, greatest <= 0),
+        code: side_code(is_turned(code), 0 <= least, greatest <= 0),
         least,
         greatest,
     }

@@ -19,4 +19,6 @@ mod whole;
 
 pub use answer::{Conversion, Unconverted};
 pub use conversion::{merged_of_one, merged_of_two, raw_of_one, raw_of_two};
+pub use marks::{joined_code, side_code, turned_code};
+pub use prune::{MOST_SHAPES, whole_mark};
 pub use scratch::MOST_SCRATCH;

@@ -16,10 +16,11 @@ ghost use Rattle.pruned.specs.Alone.{
   LoneLaid,
 };
 
-use crate::lay::{HELD_UNIT, join, symbol_of};
+use crate::lay::{HELD_UNIT, join};
 use crate::leaf::{FIRST_SIDE, amount, doublings, extremes_code, is_turned, moved_by};
-use crate::marks::{BLACK_BIT, WHITE_BIT, turned_code};
+use crate::marks::turned_code;
 use crate::prune::{NODE_LENGTH, code_at};
+use convert::{BLACK_BIT, WHITE_BIT, symbol_of};
 use universe::Universe;
 
 // Sets what the values of a row move by from a block to its halves: for one with n + 1 levels left at place n, from the

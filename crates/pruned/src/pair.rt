@@ -26,10 +26,10 @@ ghost use Rattle.pruned.specs.Pair.{
 };
 
 use crate::ball::code_at_voxel;
-use crate::lay::{join, symbol_of};
+use crate::lay::join;
 use crate::leaf::{FIRST_BALL_SIDE, FIRST_SIDE};
-use crate::marks::BLACK_BIT;
 use crate::prune::{INTERSECTION_NODE, MOST_SHAPES, NODE_LENGTH, code_at, is_join};
+use convert::{BLACK_BIT, symbol_of};
 use universe::Universe;
 
 // Both digits.

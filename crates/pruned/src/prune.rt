@@ -25,7 +25,7 @@ use universe::Universe;
 pub(crate) const NODE_LENGTH: usize = 3;
 
 // The most shapes that are pending while two trees are read one after the other.
-pub(crate) const MOST_SHAPES: usize = csg::MOST_PENDING + 1;
+pub const MOST_SHAPES: usize = csg::MOST_PENDING + 1;
 
 // The code of UNION's node, that of INTERSECTION's, and one past it.
 const UNION_NODE: u64 = 4;
@@ -60,7 +60,7 @@ pub(crate) fn is_join(code: u64) -> bool
 }
 
 // The mark of one tree, or of two intersected, by their codes.
-fn whole_mark(codes: &[u8; MOST_SHAPES], pending: usize) -> u8
+pub fn whole_mark(codes: &[u8; MOST_SHAPES], pending: usize) -> u8
     ensures { result ≡ whole_mark codes.now pending }
 {
     if pending == 2 {
@@ -69,7 +69,8 @@ fn whole_mark(codes: &[u8; MOST_SHAPES], pending: usize) -> u8
     codes[0]
 }
 
-// What pruning comes to: the mark's bits, and how many nodes are kept.
+// What pruning comes to: the mark's bits, and how many nodes are kept. No enum of a mark and of nodes: where the mark is
+// decided there can be nodes too, those of a tree that the other one settles.
 #[derive(Clone, Copy)]
 pub(crate) struct Kept {
     pub mark: u8,

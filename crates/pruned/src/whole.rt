@@ -18,10 +18,11 @@ ghost use Rattle.pruned.specs.Whole.{
 };
 
 use crate::answer::{Conversion, Unconverted};
-use crate::lay::{HELD_UNIT, lay_halves, symbol_of};
+use crate::lay::{HELD_UNIT, lay_halves};
 use crate::leaf::NO_HALF;
 use crate::prune::{MOST_SHAPES, prune};
-use crate::scratch;
+use crate::scratch::{MOST_SCRATCH, SHORT_SCRATCH, in_scratch, measured};
+use convert::symbol_of;
 use universe::Universe;
 
 // Writes both halves of an undecided block from the room's front on, as far as there is room: their length.
@@ -115,19 +116,19 @@ fn write_open(
             looked: looked[0],
         });
     }
-    if out.len() <= scratch::SHORT_SCRATCH {
-        return scratch::short(
+    if out.len() <= SHORT_SCRATCH {
+        return in_scratch::<SHORT_SCRATCH>(
             axes, rows, balls, table, low, side, left, merging, work, count, starts, codes, before,
             out,
         );
     }
-    if out.len() <= scratch::MOST_SCRATCH {
-        return scratch::long(
+    if out.len() <= MOST_SCRATCH {
+        return in_scratch::<MOST_SCRATCH>(
             axes, rows, balls, table, low, side, left, merging, work, count, starts, codes, before,
             out,
         );
     }
-    scratch::measured(
+    measured(
         axes, rows, balls, table, low, side, left, merging, work, count, starts, codes, before, out,
     )
 }

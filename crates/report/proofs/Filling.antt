@@ -24,8 +24,8 @@ use Rattle.bintree.proofs.Counts.{frame_most}
 use Rattle.bintree.proofs.Frames.{bits_left, bits_grow}
 use Rattle.bintree.proofs.Watches.{Carried, each_are}
 use Rattle.bintree.proofs.Windows.{none_inside, low_begins, high_begins, halves_frames}
-use Rattle.report.specs.declared.row.Window.{Window}
-use Rattle.report.specs.Filling.{length_of, Adds, Takes, Opened, black_of, Halved, Fillable, voxels_of, Filled}
+use Rattle.report.specs.declared.window.Window.{Window}
+use Rattle.report.specs.Filling.{length_of, Adds, Takes, black_of, Halved, Fillable, voxels_of, Filled}
 
 -- ---- what stands at a tree's first symbol
 pub record Opens (s : List ℕ) (left p : ℕ) (a : Shape) : Type 0 where
@@ -96,7 +96,7 @@ module _ (w : Window) (axes s row : List ℕ) (p left bits frame : ℕ) (f : Fil
   there = stands s left p f.shape f.reads
 
   some_axes : 0 < w.universe.axes
-  some_axes = (accepted w.universe f.opened.accepts).some_axes
+  some_axes = (accepted w.universe w.accepts).some_axes
 
   pub fill_place : p < length s
   fill_place = omega (arith, reading.inside there, size_positive f.shape)
@@ -105,7 +105,7 @@ module _ (w : Window) (axes s row : List ℕ) (p left bits frame : ℕ) (f : Fil
   fill_next h = omega (arith, fill_place)
 
   pub fill_frames : frame + 2 ^ bits ≤ longest_side
-  fill_frames = omega (arith, f.within, side_few w.universe (accepted w.universe f.opened.accepts) (frame_axis w.universe))
+  fill_frames = omega (arith, f.within, side_few w.universe (accepted w.universe w.accepts) (frame_axis w.universe))
 
   -- another reading is the same shape
   same_shape : (a : Shape) → read_at s left p ≡ read a → a ≡ f.shape
@@ -123,7 +123,7 @@ module _ (w : Window) (axes s row : List ℕ) (p left bits frame : ℕ) (f : Fil
     fill_less t h = omega (arith, o.some)
 
     pub fill_halved : Halved w.universe axes left bits
-    fill_halved = record { accepts = f.opened.accepts; table = f.table; some = o.some; few = f.few; wide = f.wide }
+    fill_halved = record { accepts = w.accepts; table = f.table; some = o.some; few = f.few; wide = f.wide }
 
     next_level : levels w.universe - (left - 1) ≡ suc level
     next_level = omega (arith, f.few, o.some)
@@ -140,12 +140,11 @@ module _ (w : Window) (axes s row : List ℕ) (p left bits frame : ℕ) (f : Fil
       pub fill_below : below ≤ bits
       fill_below =
           let again : suc (left - 1) ≡ left = omega (arith, o.some) in
-          rw (b, f.wide) (rw again at (bits_grow w.universe f.opened.accepts (left - 1) (omega (arith, f.few, o.some))))
+          rw (b, f.wide) (rw again at (bits_grow w.universe w.accepts (left - 1) (omega (arith, f.few, o.some))))
 
       pub fill_low : Fillable w axes s row (p + 1) (left - 1) below frame
       fill_low =
           record {
-            opened = f.opened;
             table = f.table;
             few = omega (arith, f.few);
             wide = b;
@@ -170,13 +169,12 @@ module _ (w : Window) (axes s row : List ℕ) (p left bits frame : ℕ) (f : Fil
 
         low_most : (c : ℕ) → voxels_of w (left - 1) frame o.low c ≤ 2 ^ (left - 1)
         low_most c =
-            voxels_most w (left - 1) frame o.low c f.opened.accepts (omega (arith, f.few))
+            voxels_most w (left - 1) frame o.low c w.accepts (omega (arith, f.few))
             (depth_stands (stands s (left - 1) (p + 1) o.low o.reads_low))
 
         pub fill_high : Fillable w axes s row₁ middle (left - 1) below later
         fill_high =
             record {
-              opened = f.opened;
               table = f.table;
               few = omega (arith, f.few);
               wide = b;
@@ -226,23 +224,20 @@ module _ (w : Window) (axes s row : List ℕ) (p left bits frame : ℕ) (f : Fil
       }
 
   pub fill_bits : bits ≤ left
-  fill_bits = rw f.wide (bits_left w.universe f.opened.accepts left f.few)
+  fill_bits = rw f.wide (bits_left w.universe w.accepts left f.few)
 
   pub fill_rest : left - bits ≤ most_levels
-  fill_rest = omega (arith, f.few, levels_few w.universe (accepted w.universe f.opened.accepts))
+  fill_rest = omega (arith, f.few, levels_few w.universe (accepted w.universe w.accepts))
 
   pub fill_takes : Takes w (2 ^ (left - bits)) row
   fill_takes =
       let less : left - bits ≤ left = omega arith in
       record { long = f.takes.long; under = λ c h. omega (arith, f.takes.under c h, pow_mono less) }
 
-  pub fill_opened : Opened w
-  fill_opened = f.opened
-
   carried : Carried w.universe left frame 0
   carried =
       record {
-        accepts = f.opened.accepts;
+        accepts = w.accepts;
         few = f.few;
         inside = rw f.wide at f.within;
         most = omega (arith, pow_mono f.few);
@@ -276,6 +271,5 @@ pub ruleset fill_laws = (
   fill_bits,
   fill_rest,
   fill_takes,
-  fill_opened,
   fill_black,
 )

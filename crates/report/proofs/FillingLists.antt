@@ -19,10 +19,10 @@ use Rattle.bintree.proofs.Shape.{size_positive}
 use Rattle.bintree.proofs.Reading.{stands, depth_stands}
 use Rattle.bintree.proofs.Frames.{bits_first}
 use Rattle.bintree.proofs.Windows.{inside_at}
-use Rattle.report.specs.declared.row.Window.{Window}
+use Rattle.report.specs.declared.window.Window.{Window}
 use Rattle.report.specs.Lists.{most_expressions, list_of, list_refusal, shapes_of, sum_over}
 use Rattle.report.specs.Reports.{frame_voxels, frame_counts}
-use Rattle.report.specs.Filling.{most_total, length_of, Cleared, Opened, Fillable, voxels_over, voxels_of, Filled, Listed}
+use Rattle.report.specs.Filling.{most_total, length_of, Cleared, Fillable, voxels_over, voxels_of, Filled, Listed}
 use Rattle.report.proofs.Lists.{Follow, Onward, onward, no_more, whole_list, follow_fit}
 use Rattle.report.proofs.Sums.{over_colours}
 use Rattle.report.proofs.Rows.{in_universe}
@@ -30,7 +30,6 @@ use Rattle.report.proofs.Filling.{voxels_most}
 
 -- the invariant of `fill_list`
 pub record Going (w : Window) (axes s before : List ℕ) (left bits p : ℕ) (row : List ℕ) : Type 0 where
-  pub opened : Opened w
   pub table : axes ≡ axes_left w.universe
   pub all : left ≡ levels w.universe
   pub wide : bits ≡ frame_bits w.universe (levels w.universe)
@@ -48,17 +47,16 @@ pub record Going (w : Window) (axes s before : List ℕ) (left bits p : ℕ) (ro
 
 module _ (w : Window) (s before : List ℕ) (l : Listed w s before) where
   pub list_axes : 1 ≤ w.universe.axes
-  list_axes = (accepted w.universe l.opened.accepts).some_axes
+  list_axes = (accepted w.universe w.accepts).some_axes
 
   pub list_first :
       (axes row : List ℕ) (left bits n : ℕ) → axes ≡ axes_left w.universe → left ≡ levels_answer w.universe →
       bits ≡ bits_answer w.universe (w.universe.axes - 1) → n ≡ length_of w → Cleared n before row → Going w axes s row left bits 0 row
   list_first axes row left bits n t c b e x =
       let u = w.universe in
-      let ok = l.opened.accepts in
+      let ok = w.accepts in
       let z = rw e at x in
       record {
-        opened = l.opened;
         table = t;
         all = levels_told u refl ok c;
         wide = b ∙ bits_are u refl ok (u.axes - 1) (omega (arith, list_axes)) ∙ sym (bits_first u ok);
@@ -88,7 +86,7 @@ module _ (w : Window) (axes s before : List ℕ) (left bits p : ℕ) (row : List
           arith,
           g.counts c k,
           ap (λ list. voxels_over u list (w.first + c)) none_left,
-          over_colours u g.opened.accepts fit (w.first + c),
+          over_colours u w.accepts fit (w.first + c),
         ) in
         let behind : drop (length_of w) row ≡ drop (length_of w) entry = g.behind ∙ (rw e at x).behind in
         sym (listed_own (length_of w) (λ c. get_or row c 0) row 0 (λ c. refl) (omega (arith, g.fits, g.long)))
@@ -102,18 +100,17 @@ module _ (w : Window) (axes s before : List ℕ) (left bits p : ℕ) (row : List
     some_more = omega (arith, ap (λ (x : ℕ). x * 2 ^ most_levels) here.some)
 
     few_voxels : 2 ^ levels w.universe ≤ 2 ^ most_levels
-    few_voxels = pow_mono (levels_few w.universe (accepted w.universe g.opened.accepts))
+    few_voxels = pow_mono (levels_few w.universe (accepted w.universe w.accepts))
 
     pub list_tree : Fillable w axes s row p left bits 0
     unfolding block_side
     list_tree =
         let u = w.universe in
         record {
-          opened = g.opened;
           table = g.table;
           few = omega (arith, g.all);
           wide = rw g.all g.wide;
-          within = rw (g.wide, bits_first u g.opened.accepts) (omega arith);
+          within = rw (g.wide, bits_first u w.accepts) (omega arith);
           begins = (0, omega arith);
           shape = here.shape;
           reads = ap (λ (n : ℕ). read_at s n p) g.all ∙ here.reads;
@@ -128,7 +125,7 @@ module _ (w : Window) (axes s before : List ℕ) (left bits p : ℕ) (row : List
     tree_voxels : (c : ℕ) → c < length_of w → voxels_of w left 0 here.shape c ≡ voxels_at w.universe here.shape (w.first + c)
     tree_voxels c k =
         let u = w.universe in
-        let i = in_universe w g.opened in
+        let i = in_universe w in
         let whole : levels u - left ≡ 0 = omega (arith, g.all) in
         ap (λ (l : ℕ). inside 0 (frames u l) (voxels_from u l here.shape) (w.first + c)) whole
         ∙ inside_at 0 (frames u 0) (voxels_from u 0 here.shape) (w.first + c) (omega arith)
@@ -149,9 +146,8 @@ module _ (w : Window) (axes s before : List ℕ) (left bits p : ℕ) (row : List
       list_next =
           let u = w.universe in
           let y = x.adds here.shape reads_here in
-          let ok = g.opened.accepts in
+          let ok = w.accepts in
           record {
-            opened = g.opened;
             table = g.table;
             all = g.all;
             wide = g.wide;

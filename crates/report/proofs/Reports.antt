@@ -31,7 +31,7 @@ use Rattle.report.specs.Told.{ReportAnswer}
 use Rattle.report.specs.Lists.{list_of, shapes_of, list_refusal, sum_over}
 use Rattle.report.specs.Reports.{frame_voxels, frame_counts, total_voxels, refused_report, short_report, done_report}
 use Rattle.report.specs.Reports.{report_refusal, report_answer, report_row}
-use Rattle.report.specs.Filling.{most_total, Opened, Listed}
+use Rattle.report.specs.Filling.{most_total, Listed}
 use Rattle.report.proofs.Rows.{sum_taken}
 use Rattle.report.proofs.Lists.{whole_list, follow_few, follow_fit}
 use Rattle.report.proofs.Sums.{sum_over_lem, over_most, over_colours}
@@ -156,11 +156,8 @@ module _ (u : Universe) (s : List ℕ) (first last : ℕ) (row : List ℕ) (numb
   report_refused answer n f = let x = refused_is u s first last row number e n in (f ∙ x, row_kept u s first last row number e x n)
 
   module _ (z : number ≡ 0) where
-    accepts : Taken u s first last
-    accepts = taken u s first last (sym e ∙ z)
-
-    pub report_opened : Opened (record { universe = u; first = first; last = last })
-    report_opened = record { accepts = accepts.universe; window = accepts.window }
+    pub report_takes : Taken u s first last
+    report_takes = taken u s first last (sym e ∙ z)
 
     module _ (frames : ℕ) (g : frames ≡ window_length first last) where
       pub report_short :
@@ -171,8 +168,9 @@ module _ (u : Universe) (s : List ℕ) (first last : ℕ) (row : List ℕ) (numb
           (f ∙ rw g x, row_kept u s first last row number e x (λ y. omega arith))
 
       module _ (h : frames ≤ length row) where
-        pub report_listed : Listed (record { universe = u; first = first; last = last }) s row
-        report_listed = record { opened = report_opened; list = accepts.list; long = omega arith }
+        pub report_listed : {a : universe_refusal u ≡ 0} {b : window_refusal u first last ≡ 0} →
+            Listed (record { universe = u; first = first; last = last; accepts = a; within = b }) s row
+        report_listed = record { list = report_takes.list; long = omega arith }
 
         module _ (after : List ℕ) (x : after ≡ frame_counts u s first last ++ drop (window_length first last) row) where
           sum_is : list-sum (take frames after) ≡ total_voxels u s first last
@@ -186,7 +184,7 @@ module _ (u : Universe) (s : List ℕ) (first last : ℕ) (row : List ℕ) (numb
               ∙ rw g (front_sum u s first last after (drop (window_length first last) row) x)
 
           pub report_fits : list-sum (take frames after) < 2 ^ 64
-          report_fits = omega (arith, sum_is, total_most u s first last accepts.universe accepts.list accepts.window)
+          report_fits = omega (arith, sum_is, total_most u s first last report_takes.universe report_takes.list report_takes.window)
 
           pub report_done :
               (answer : ReportAnswer) (total : ℕ) → total ≡ list-sum (take frames after) → answer ≡ done_report frames total →

@@ -22,18 +22,18 @@ use Rattle.bintree.proofs.Owed.{bit_under}
 use Rattle.bintree.proofs.Frames.{bits_across, bits_along_lem}
 use Rattle.bintree.proofs.Windows.{inside_at, outside_at}
 use Rattle.bintree.proofs.WindowAnswers.{InUniverse, window_accepted}
-use Rattle.report.specs.declared.row.Window.{Window}
-use Rattle.report.specs.Filling.{length_of, places_before, Adds, Roomy, AddsEach, Takes, Opened, black_of, Halved}
+use Rattle.report.specs.declared.window.Window.{Window}
+use Rattle.report.specs.Filling.{length_of, places_before, Adds, Roomy, AddsEach, Takes, black_of, Halved}
 
--- ---- a window that is accepted: its ends are in order, and it is no longer than the longest side
-module _ (w : Window) (o : Opened w) where
+-- ---- a window: its ends are in order, and it is no longer than the longest side
+module _ (w : Window) where
   pub in_universe : InUniverse w.universe w.first w.last
-  in_universe = window_accepted w.universe w.first w.last o.window
+  in_universe = window_accepted w.universe w.first w.last w.within
 
   frames_few : frame_count w.universe ≤ longest_side
-  frames_few = side_few w.universe (accepted w.universe o.accepts) (frame_axis w.universe)
+  frames_few = side_few w.universe (accepted w.universe w.accepts) (frame_axis w.universe)
 
-  -- the laws of `frames_in`
+  -- the laws of `frames`
   pub ends_order : w.first ≤ w.last
   ends_order = in_universe.order
 
@@ -42,8 +42,6 @@ module _ (w : Window) (o : Opened w) where
 
   pub frames_are : w.last - w.first + 1 ≡ length_of w
   frames_are = omega (arith, in_universe.order)
-
-pub ruleset frames_laws = (rules, ends_order, ends_fit, frames_are)
 
 -- ---- the laws of `add_block`: places of the row and frames of the block are the same run
 few_bits : (frame bits : ℕ) → frame + 2 ^ bits ≤ longest_side → bits ≤ most_frame_bits

@@ -4,13 +4,12 @@ use Rattle.std.specs.Prelude.{ℕ, ◌+◌, ◌-◌, ◌*◌, ◌^◌, ◌≤◌
 use Rattle.universe.specs.declared.Universe.{Universe}
 use Rattle.universe.specs.Questions.{axes_left}
 use Rattle.universe.specs.Universe.{universe_refusal, levels, most_levels, frame_count}
-use Rattle.universe.specs.Voxel.{window_refusal}
 use Rattle.bintree.specs.Shape.{Shape, size}
 use Rattle.bintree.specs.Reading.{read, read_at}
 use Rattle.bintree.specs.Counts.{frames, voxels_from, voxels_at, inside}
 use Rattle.bintree.specs.Verdicts.{window_length}
 use Rattle.bintree.specs.Windows.{frame_bits}
-use Rattle.report.specs.declared.row.Window.{Window}
+use Rattle.report.specs.declared.window.Window.{Window}
 use Rattle.report.specs.Lists.{most_expressions, list_refusal, sum_over}
 
 -- no list has more voxels: those of the largest universe, as often as there may be expressions
@@ -50,11 +49,6 @@ pub record Takes (w : Window) (most : ℕ) (row : List ℕ) : Type 0 where
   pub long : length_of w ≤ length row
   pub under : (c : ℕ) → c < length_of w → get_or row c 0 + most ≤ most_total
 
--- a window that is accepted
-pub record Opened (w : Window) : Type 0 where
-  pub accepts : universe_refusal w.universe ≡ 0
-  pub window : window_refusal w.universe w.first w.last ≡ 0
-
 -- what a black block with 2^bits frames from `frame` on and 2^rest voxels in each has at place c
 abbrev pub black_of : Window → ℕ → ℕ → ℕ → ℕ → ℕ
 black_of w frame bits rest c = inside frame (2 ^ bits) (λ e. 2 ^ rest) (w.first + c)
@@ -69,7 +63,6 @@ pub record Halved (u : Universe) (axes : List ℕ) (left bits : ℕ) : Type 0 wh
 
 -- what stands before the tree of a block is filled in: its levels left, the bits of its frames and the first of them
 pub record Fillable (w : Window) (axes s row : List ℕ) (at left bits frame : ℕ) : Type 0 where
-  pub opened : Opened w
   pub table : axes ≡ axes_left w.universe
   pub few : left ≤ levels w.universe
   pub wide : bits ≡ frame_bits w.universe left
@@ -96,6 +89,5 @@ pub record Filled (w : Window) (s : List ℕ) (at left frame end : ℕ) (before 
 
 -- before the whole list is filled in
 pub record Listed (w : Window) (s row : List ℕ) : Type 0 where
-  pub opened : Opened w
   pub list : list_refusal w.universe s ≡ 0
   pub long : length_of w ≤ length row

@@ -6,7 +6,8 @@ ghost use Rattle.report.specs.Told.{report_told};
 
 use crate::Report;
 use crate::list::check_list;
-use crate::row::{Window, fill_list, frames_in};
+use crate::row::fill_list;
+use crate::window::Window;
 use universe::{Refusal, Universe, Unwritten};
 
 // Refused by the first of 2, 7 and 9.
@@ -39,7 +40,7 @@ pub fn report_of(
         first,
         last,
     };
-    let frames = frames_in(window);
+    let frames = window.frames();
     if counts.len() < frames {
         return Err(Unwritten::NoRoom(frames as u64));
     }

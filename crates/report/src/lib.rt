@@ -4,6 +4,7 @@
 mod answer;
 mod list;
 mod row;
+mod window;
 
 pub use answer::report_of;
 pub use list::MOST_EXPRESSIONS;

@@ -12,46 +12,38 @@ ghost use Rattle.report.specs.Filling.{
   AddsEach,
   Takes,
   black_of,
-  Opened,
   Halved,
   Fillable,
   Filled,
   Listed,
 };
 
+use crate::window::Window;
 use universe::Universe;
 
-// A window of a universe's frames, both ends in.
-#[derive(Clone, Copy)]
-pub(crate) struct Window {
-    pub(crate) universe: Universe,
-    pub(crate) first: u64,
-    pub(crate) last: u64,
+impl Window {
+    // How many frames a window has.
+    pub(crate) fn frames(self) -> usize
+        ensures { result ≡ length_of self }
+    {
+        (self.last - self.first + 1) as usize
+    }
+
+    // How many places of the row are of frames before this one.
+    fn places_before(self, frame: u64) -> usize
+        ensures { result ≡ places_before self frame }
+    {
+        let places = frame.saturating_sub(self.first) as usize;
+        places.min(self.frames())
+    }
 }
 
-// How many frames a window has.
-pub(crate) fn frames_in(window: Window) -> usize
-    requires { Opened window }
-    ensures { result ≡ length_of window }
-{
-    (window.last - window.first + 1) as usize
-}
-
-// Sets the first places of a row to 0.
+// Sets the first places of a row to 0. It stands by itself, so that what it leaves is one fact.
 fn clear(counts: &mut [u64], frames: usize)
     requires { frames ≤ length counts.old }
     ensures { Cleared frames counts.old counts.new }
 {
     counts[..frames].fill(0);
-}
-
-// How many places of the row are of frames before this one.
-fn places_before(window: Window, frame: u64) -> usize
-    requires { Opened window }
-    ensures { result ≡ places_before window frame }
-{
-    let places = frame.saturating_sub(window.first) as usize;
-    places.min(frames_in(window))
 }
 
 // Adds as much at each place from `from` on before `to`.
@@ -67,15 +59,14 @@ fn add_each(counts: &mut [u64], from: usize, to: usize, each: u64)
 
 // Adds a black block's voxels at its frames in the window: 2^bits frames from `frame` on, with 2^rest voxels in each.
 fn add_block(window: Window, frame: u64, bits: u64, rest: u64, counts: &mut [u64])
-    requires opened { Opened window }
     requires bits_bound { frame + 2 ^ bits ≤ longest_side }
     requires rest_le_most_levels { rest ≤ most_levels }
     requires takes { Takes window (2 ^ rest) counts.old }
     ensures { let more = black_of window frame bits rest in
         Adds (length_of window) more counts.old counts.new }
 {
-    let from = places_before(window, frame);
-    let to = places_before(window, frame + (1 << bits));
+    let from = window.places_before(frame);
+    let to = window.places_before(frame + (1 << bits));
     add_each(counts, from, to, 1 << rest);
 }
 
@@ -164,7 +155,7 @@ pub(crate) fn fill_list(window: Window, expressions: &[u8], counts: &mut [u64])
     let axes = window.universe.axes_left();
     let levels = window.universe.levels();
     let bits = window.universe.bits_along(window.universe.axes - 1);
-    clear(counts, frames_in(window));
+    clear(counts, window.frames());
     let mut at = 0;
     // By no range: a turn goes on where the expression before ends.
     while at < expressions.len() {

@@ -1,10 +1,11 @@
 -- What the code holds between its two steps keeps the limits, so no sum or product of the second step overflows, and is the proxy's numbers in
 -- sixteenths.
-use Rattle.std.proofs.Common.{Option, Some, None, ◌≡◌, ℕ, ◌*◌, ◌^◌, ◌≤◌, Bool, true, false, cond, ◌&&◌, T, ltb, ℤ, pos, negsuc, ◌+ℤ◌, ◌-ℤ◌, ◌*ℤ◌, neg_ℤ, nat_abs, sym, refl, ap, ◌∙◌, subst, true≢false, zero-le, le_trans, le_refl, arith, lt→ltb, leb→le, w64, SFits, to_z, of_z}
+use Rattle.std.proofs.Common.{Option, Some, None, ◌≡◌, ℕ, ◌*◌, ◌^◌, ◌≤◌, Bool, true, false, cond, ◌&&◌, T, ltb, ℤ, pos, negsuc, ◌+ℤ◌, ◌-ℤ◌, ◌*ℤ◌, neg_ℤ, nat_abs, sym, refl, ap, ◌∙◌, subst, true≢false, zero-le, le_trans, le_refl, arith, lt→ltb, leb, leb→le, max, w64, SFits, to_z, of_z}
 use Rattle.std.specs.Bool.{then_some}
 use lib.IntN.{+ℤ_idl}
 use lib.Signed.{le_z}
 use lib.Ieee.{Float, nan, inf, fin, up, down}
+use borrow.Author.Tests.{le-leb}
 use mir.ValLaws.{to_z-of_z}
 use Rattle.lemmas.proofs.Whole.{ι, ν, ⊝, le_by, le_le_z}
 use Rattle.lemmas.proofs.Machine.{nat_abs_parts, Near, near, range, near_neg, near_nat, near_mul, near_add, near_fits, near_back, near_call}
@@ -16,7 +17,7 @@ use Rattle.standin.specs.declared.ScaledBox.{ScaledBox}
 use Rattle.standin.specs.declared.ScaledCut.{ScaledCut}
 use Rattle.standin.specs.Sixteenths.{sixteenths, is_taken, corner_limit, normal_limit}
 use Rattle.standin.specs.Rows.{numbers_of, alike, scaled_triple, at_most, takes_triple, takes_box, takes_cut, in_order, is_limited, dot}
-use Rattle.standin.specs.Held.{is_limit, held, scaled_of, scaled_box, scaled_cut, Limited, negated_numbers}
+use Rattle.standin.specs.Held.{is_limit, held, scaled_of, scaled_box, scaled_cut, Limited}
 use Rattle.standin.proofs.Sixteenths.{test_le, size_with_sign}
 use Rattle.standin.proofs.Parts.{both, parts, order_parts, box_parts, cut_parts}
 
@@ -59,6 +60,23 @@ is_limited_lem limit n h = rw (low n.x h.x, low n.y h.y, low n.z h.z, high n.x h
     high : (z : ℤ) → nat_abs z ≤ limit → le_z z (pos limit) ≡ true
     high z k = le_le_z (le_by (ι z) (ν limit) (omega (arith, nat_abs_parts z)))
 
+-- so the largest of them decides
+pub largest_decides : (limit : ℕ) (n : Numbers) → leb (max (max (nat_abs n.x) (nat_abs n.y)) (nat_abs n.z)) limit ≡ is_limited limit n
+largest_decides limit n = go (leb largest limit) refl (is_limited limit n) refl
+  where
+    largest : ℕ
+    largest = max (max (nat_abs n.x) (nat_abs n.y)) (nat_abs n.z)
+
+    go : (b : Bool) → leb largest limit ≡ b → (c : Bool) → is_limited limit n ≡ c → leb largest limit ≡ is_limited limit n
+    go true e true f = e ∙ sym f
+    go false e false f = e ∙ sym f
+    go true e false f =
+        let h : largest ≤ limit = leb→le largest limit (subst T (sym e) tt) in
+        absurd (true≢false (sym (is_limited_lem limit n (record { x = omega arith; y = omega arith; z = omega arith })) ∙ f))
+    go false e true f =
+        let l = limited_is limit n f in
+        absurd (true≢false (sym (le-leb largest limit (omega (arith, l.x, l.y, l.z))) ∙ e))
+
 -- numbers within a limit, as the machine reads them, and what it makes of them
 abbrev pub back : ℤ → ℤ
 back z = to_z w64 (of_z w64 z)
@@ -80,18 +98,6 @@ number n h = near (record { most = h }) tt
 
 pub negated : {m n : ℤ} {b : ℕ} → Near m n b → Near (pos 0 -ℤ m) (neg_ℤ n) b
 negated {m} {n} {b} h = record { same = +ℤ_idl (neg_ℤ m) ∙ ap neg_ℤ h.same; size = (near_neg h).size }
-
--- what a call of `negate` gave
-pub record Negation (r a : Numbers) : Type 0 where
-  pub x : back r.x ≡ neg_ℤ a.x
-  pub y : back r.y ≡ neg_ℤ a.y
-  pub z : back r.z ≡ neg_ℤ a.z
-
-pub negation : {r a : Numbers} {limit : ℕ} → r ≡ negated_numbers a → Limited limit a → T (ltb limit (2 ^ 63)) → Negation r a
-negation {r} {a} {limit} e w t =
-    let h = reads w t in
-    let n = reads {a = negated_numbers a} (record { x = (near_neg h.x).size; y = (near_neg h.y).size; z = (near_neg h.z).size }) t in
-    rw e (record { x = n.x.same; y = n.y.same; z = n.z.same })
 
 -- a·b, in the order of the code: an operation's result is read back from its bits before the next
 module _ {a b : Numbers} (h : Reads normal_limit a) (k : Reads normal_limit b) where
@@ -122,16 +128,6 @@ lower_fits (negsuc n) f t = absurd t
 
 pub lower_is : (l : ℤ) → SFits w64 l → T (le_z (pos 0) l) → back (pos 0 -ℤ back l) ≡ neg_ℤ l
 lower_is l f t = ap (λ (z : ℤ). back (pos 0 -ℤ z)) (to_z-of_z w64 l f) ∙ to_z-of_z w64 (pos 0 -ℤ l) (lower_fits l f t) ∙ +ℤ_idl (neg_ℤ l)
-
-itself : (l : ℤ) → T (le_z (pos 0) l) → pos (nat_abs l) ≡ l
-itself (pos n) t = refl
-itself (negsuc n) t = absurd t
-
--- what `is_limited` makes of two orders
-pub limited_test : (n : Numbers) (l : ℤ) {least most : Numbers} {a b : Bool} → SFits w64 l → T (le_z (pos 0) l)
-    → least ≡ alike (back (pos 0 -ℤ back l)) → most ≡ alike (back l) → a ≡ at_most least n → b ≡ at_most n most → a && b ≡ is_limited (nat_abs l) n
-unfolding is_limited
-limited_test n l f t h k i j = rw (i, j, h, k, lower_is l f t, to_z-of_z w64 l f, itself l t)
 
 -- a triple that is taken is held as its numbers
 pub numbers_are : (limit : ℕ) (p : Triple) → takes_triple limit p ≡ true → scaled_triple limit p ≡ Some (numbers_of p)

@@ -1,6 +1,7 @@
 -- How the code holds the numbers of rule 6.2, Boxes and Cuts between its two steps: in sixteenths, where all of them
 -- are taken. So what is held always keeps the limits.
-use Rattle.std.specs.Prelude.{ℕ, ◌≤◌, Bool, false, cond, Option, Some, None, ℤ, pos, negsuc, neg_ℤ, nat_le, unsigned_abs, Float}
+use Rattle.std.specs.Prelude.{ℕ, ◌≤◌, Bool, false, cond, Option, Some, None, ℤ, pos, negsuc, nat_le, unsigned_abs, Float}
+use Rattle.std.specs.Option.{option_map}
 use Rattle.standin.specs.declared.Triple.{Triple}
 use Rattle.standin.specs.declared.Corners.{Corners}
 use Rattle.standin.specs.declared.Plane.{Plane}
@@ -10,6 +11,8 @@ use Rattle.standin.specs.declared.Proxy.{Proxy}
 use Rattle.standin.specs.declared.Numbers.{Numbers}
 use Rattle.standin.specs.declared.ScaledBox.{ScaledBox}
 use Rattle.standin.specs.declared.ScaledCut.{ScaledCut}
+use Rattle.standin.specs.declared.Scaled.{Scaled}
+use Rattle.standin.specs.declared.Scaled.TheVariants as scaled
 use Rattle.standin.specs.Sixteenths.{sixteenths, is_taken, corner_limit}
 use Rattle.standin.specs.Rows.{numbers_of, takes_box, takes_cut}
 
@@ -38,27 +41,16 @@ scaled_cut p v =
     (Some (record { normal = numbers_of p.normal; offset = sixteenths p.offset; displacement = numbers_of v }))
     None
 
--- what a proxy holds of a Box, and of a Cut: nothing where it is the other
-abbrev pub solid_box : Solid → Triple → Option ScaledBox
-solid_box (Box c) v = scaled_box c v
-solid_box (Cut p) v = None
+-- a proxy that is taken
+abbrev pub scaled_solid : Solid → Triple → Option Scaled
+scaled_solid (Box c) v = option_map scaled.Box (scaled_box c v)
+scaled_solid (Cut p) v = option_map scaled.Cut (scaled_cut p v)
 
-unfoldable pub held_box : Proxy → Option ScaledBox
-held_box p = solid_box p.solid p.displacement
-
-abbrev pub solid_cut : Solid → Triple → Option ScaledCut
-solid_cut (Box c) v = None
-solid_cut (Cut p) v = scaled_cut p v
-
-unfoldable pub held_cut : Proxy → Option ScaledCut
-held_cut p = solid_cut p.solid p.displacement
+unfoldable pub scaled_proxy : Proxy → Option Scaled
+scaled_proxy p = scaled_solid p.solid p.displacement
 
 -- each number is at most the limit in size
 pub record Limited (limit : ℕ) (a : Numbers) : Type 0 where
   pub x : unsigned_abs a.x ≤ limit
   pub y : unsigned_abs a.y ≤ limit
   pub z : unsigned_abs a.z ≤ limit
-
--- −a
-abbrev pub negated_numbers : Numbers → Numbers
-negated_numbers a = record { x = neg_ℤ a.x; y = neg_ℤ a.y; z = neg_ℤ a.z }

@@ -1,15 +1,14 @@
 // Stand-in proxies in floats become rows, in two steps: floats to sixteenths, sixteenths to rows.
 #![tactic(auto)]
 
-ghost use Rattle.std.specs.Prelude.{◌≡◌, ◌≤◌, T, pos, int_le, unsigned_abs};
+ghost use Rattle.std.specs.Prelude.{◌≡◌, ◌≤◌, T, unsigned_abs};
 ghost use Rattle.universe.specs.Universe.{offset_limit, coefficient_limit};
 ghost use Rattle.universe.specs.Told.{number_told};
 ghost use Rattle.standin.specs.Sixteenths.{corner_limit, normal_limit};
-ghost use Rattle.standin.specs.Rows.{alike, at_most, dot, row_across, rows_between, is_limited, rows_within};
+ghost use Rattle.standin.specs.Rows.{at_most, dot, row_across, rows_between, is_limited, rows_within};
 ghost use Rattle.standin.specs.Rows.{scaled_triple, corner_sixteenths};
 ghost use Rattle.standin.specs.Rows.{proxy_refusal, box_row_count, box_rows, cut_row_count, cut_row};
-ghost use Rattle.standin.specs.Held.{is_limit, scaled_of, scaled_box, scaled_cut, held_box, held_cut};
-ghost use Rattle.standin.specs.Held.{Limited, negated_numbers};
+ghost use Rattle.standin.specs.Held.{is_limit, scaled_of, scaled_box, scaled_cut, scaled_proxy, Limited};
 
 use universe::{Refusal, Universe};
 
@@ -57,7 +56,8 @@ impl Proxy {
     pub const NORMAL_LIMIT: i64 = 1_024;
 }
 
-// Three numbers in sixteenths.
+// Three numbers in sixteenths. It and `Triple` stay two structs: both names are public, and only whole numbers have
+// `Eq`. It has no operators: a public `-` or `*` would have to ask that its numbers keep limits.
 #[derive(Clone, Copy, Debug, PartialEq, Eq)]
 pub struct Numbers {
     pub x: i64,
@@ -65,7 +65,8 @@ pub struct Numbers {
     pub z: i64,
 }
 
-// A Box and a Cut in sixteenths, each with its displacement.
+// A Box and a Cut in sixteenths, each with its displacement. The limits stay with the functions that ask for them: as
+// an invariant here, each definition that builds one would carry their proofs.
 #[derive(Clone, Copy)]
 struct ScaledBox {
     near: Numbers,
@@ -78,6 +79,13 @@ struct ScaledCut {
     normal: Numbers,
     offset: i64,
     displacement: Numbers,
+}
+
+// A proxy in sixteenths: what a Box holds, or what a Cut holds.
+#[derive(Clone, Copy)]
+enum Scaled {
+    Box(ScaledBox),
+    Cut(ScaledCut),
 }
 
 // The first step. 16·x is cut to a whole number, which is taken if it is within the limit and over 16 gives x back.
@@ -141,55 +149,30 @@ fn scale_cut(plane: Plane, displacement: Triple) -> Option<ScaledCut>
     })
 }
 
-// What a proxy holds of a Box: nothing of a Cut.
-#[tactic(auto, unfolding(crate::specs::Held::held_box))]
-fn held_box(proxy: Proxy) -> Option<ScaledBox>
-    ensures { result ≡ held_box proxy }
+// A proxy in sixteenths, where its numbers are taken and near does not exceed far.
+#[tactic(auto, unfolding(crate::specs::Held::scaled_proxy))]
+fn scale_proxy(proxy: Proxy) -> Option<Scaled>
+    ensures { result ≡ scaled_proxy proxy }
 {
     match proxy.solid {
-        Solid::Box(corners) => scale_box(corners, proxy.displacement),
-        Solid::Cut(_) => None,
+        Solid::Box(corners) => scale_box(corners, proxy.displacement).map(Scaled::Box),
+        Solid::Cut(plane) => scale_cut(plane, proxy.displacement).map(Scaled::Cut),
     }
 }
 
-// What a proxy holds of a Cut: nothing of a Box.
-#[tactic(auto, unfolding(crate::specs::Held::held_cut))]
-fn held_cut(proxy: Proxy) -> Option<ScaledCut>
-    ensures { result ≡ held_cut proxy }
-{
-    match proxy.solid {
-        Solid::Box(_) => None,
-        Solid::Cut(plane) => scale_cut(plane, proxy.displacement),
-    }
-}
-
-// The second step. Three numbers negated.
-fn negate(a: Numbers) -> Numbers
-    requires { Limited offset_limit a }
-    ensures { result ≡ negated_numbers a }
-{
-    Numbers {
-        x: -a.x,
-        y: -a.y,
-        z: -a.z,
-    }
-}
-
-// The six rows of a Box.
+// The second step. The six rows of a Box.
 fn six_rows(near: Numbers, far: Numbers, step: Numbers) -> [[i64; 5]; 6]
     requires limited { Limited offset_limit near }
     requires limited_2 { Limited offset_limit far }
     requires limited_3 { Limited coefficient_limit step }
     ensures { result ≡ rows_between near far step }
 {
-    let less = negate(near);
-    let back = negate(step);
     [
-        [less.x, 16, 0, 0, back.x],
+        [-near.x, 16, 0, 0, -step.x],
         [far.x, -16, 0, 0, step.x],
-        [less.y, 0, 16, 0, back.y],
+        [-near.y, 0, 16, 0, -step.y],
         [far.y, 0, -16, 0, step.y],
-        [less.z, 0, 0, 16, back.z],
+        [-near.z, 0, 0, 16, -step.z],
         [far.z, 0, 0, -16, step.z],
     ]
 }
@@ -219,19 +202,13 @@ fn one_row(normal: Numbers, offset: i64, step: Numbers) -> [i64; 5]
     ]
 }
 
-// One number three times.
-fn alike(n: i64) -> Numbers
-    ensures { result ≡ alike n }
-{
-    Numbers { x: n, y: n, z: n }
-}
-
 // Whether each number is from −limit to limit.
 fn is_limited(numbers: Numbers, limit: i64) -> bool
-    requires { T (int_le (pos 0) limit) }
     ensures { result ≡ is_limited (unsigned_abs limit) numbers }
 {
-    in_order(alike(-limit), numbers) && in_order(numbers, alike(limit))
+    let Numbers { x, y, z } = numbers;
+    let largest = x.unsigned_abs().max(y.unsigned_abs()).max(z.unsigned_abs());
+    largest <= limit.unsigned_abs()
 }
 
 // Refused where a number is not taken (rule 6.2), or near exceeds far.
@@ -239,18 +216,22 @@ fn is_limited(numbers: Numbers, limit: i64) -> bool
 pub fn check(proxy: Proxy) -> Result<(), Refusal>
     ensures { number_told result ≡ proxy_refusal proxy }
 {
-    if held_box(proxy).is_none() && held_cut(proxy).is_none() {
-        return Err(Refusal::BadProxy);
+    match scale_proxy(proxy) {
+        Some(_) => Ok(()),
+        None => Err(Refusal::BadProxy),
     }
-    Ok(())
 }
 
+// The four calls below stay apart: they are public, and docs/FUNCTIONS.md names each.
 // How many rows `box_rows` gives: 6 for a Box that is not refused, else 0.
 #[tactic(auto, using(crate::proofs::Rows::box_laws))]
 pub fn box_row_count(proxy: Proxy) -> u64
     ensures { result ≡ box_row_count proxy }
 {
-    if held_box(proxy).is_some() { 6 } else { 0 }
+    match scale_proxy(proxy) {
+        Some(Scaled::Box(_)) => 6,
+        _ => 0,
+    }
 }
 
 // The six rows of a Box, near and far of each axis in turn (rule 6.3). Zeros where `box_row_count` is 0.
@@ -258,9 +239,9 @@ pub fn box_row_count(proxy: Proxy) -> u64
 pub fn box_rows(proxy: Proxy) -> [[i64; 5]; 6]
     ensures { result ≡ box_rows proxy }
 {
-    match held_box(proxy) {
-        Some(held) => six_rows(held.near, held.far, held.displacement),
-        None => [[0i64; 5]; 6],
+    match scale_proxy(proxy) {
+        Some(Scaled::Box(held)) => six_rows(held.near, held.far, held.displacement),
+        _ => [[0; 5]; 6],
     }
 }
 
@@ -269,7 +250,10 @@ pub fn box_rows(proxy: Proxy) -> [[i64; 5]; 6]
 pub fn cut_row_count(proxy: Proxy) -> u64
     ensures { result ≡ cut_row_count proxy }
 {
-    if held_cut(proxy).is_some() { 1 } else { 0 }
+    match scale_proxy(proxy) {
+        Some(Scaled::Cut(_)) => 1,
+        _ => 0,
+    }
 }
 
 // The one row of a Cut (rule 6.4). Zeros where `cut_row_count` is 0.
@@ -277,9 +261,9 @@ pub fn cut_row_count(proxy: Proxy) -> u64
 pub fn cut_row(proxy: Proxy) -> [i64; 5]
     ensures { result ≡ cut_row proxy }
 {
-    match held_cut(proxy) {
-        Some(held) => one_row(held.normal, held.offset, held.displacement),
-        None => [0i64; 5],
+    match scale_proxy(proxy) {
+        Some(Scaled::Cut(held)) => one_row(held.normal, held.offset, held.displacement),
+        _ => [0; 5],
     }
 }
 
@@ -300,8 +284,7 @@ pub fn rows_between(near: Numbers, far: Numbers, displacement: Numbers) -> [[i64
         && is_limited(far, Universe::OFFSET_LIMIT)
         && is_limited(displacement, Universe::COEFFICIENT_LIMIT)
     {
-        six_rows(near, far, displacement)
-    } else {
-        [[0i64; 5]; 6]
+        return six_rows(near, far, displacement);
     }
+    [[0; 5]; 6]
 }

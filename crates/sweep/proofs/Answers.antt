@@ -2,13 +2,14 @@
 -- no longer than the expression. Each law takes its premises in the form that code leaves them.
 use mathlib.Core.Path.{◌≡◌, refl, sym, ap, ap₂, subst, ◌∙◌}
 use mathlib.Core.List.{List, [], ◌∷◌}
-use Prim.Native.Nat.{ℕ, ◌-◌, ◌≤◌, ◌<◌}
+use Prim.Native.Nat.{ℕ, ◌-◌, ◌≤◌}
 use native.Mathlib.Omega.{arith}
-use lib.ListN.{length, set, length-set}
+use lib.ListN.{length, take, replicate}
+use Rattle.std.proofs.lemmas.List.{take-replicate}
 use lib.Seq.{sets}
 use borrow.Author.Rules.{rules}
 use borrow.Author.Tests.{ne_eqb}
-use Rattle.std.specs.Prelude.{Ok, Err}
+use Rattle.std.specs.Prelude.{Ok, Err, unwrap_or}
 use Rattle.universe.specs.declared.Universe.{Universe}
 use Rattle.universe.specs.declared.refusal.Unwritten.{Unwritten}
 use Rattle.universe.specs.Told.{number_unwritten}
@@ -28,17 +29,18 @@ use Rattle.bintree.proofs.Reading.{expression_at_lem, accepted_shape}
 use Rattle.bintree.proofs.Lays.{laid_noted}
 use Rattle.sweep.specs.Told.{swept_told}
 use Rattle.sweep.specs.declared.block.Piece.{Piece}
+use Rattle.sweep.specs.declared.block.Sweep.{Sweep}
 use Rattle.sweep.specs.Sweeping.{swept}
-use Rattle.sweep.specs.Places.{most_places, total, swept_trees, Begins, Stand, more, slots, slots_for, order_left, Sweeping, swept_block, piece_of}
+use Rattle.sweep.specs.Places.{most_places, total, swept_trees, Begins, Stand, more, slots_for, order_left, Sweeping, swept_block, piece_of}
 use Rattle.sweep.specs.Places as places
 use Rattle.sweep.specs.Answers.{Ready, swept_refusal, swept_shape, swept_symbols, of_universe, swept_answer}
 use Rattle.sweep.proofs.Sweeping.{merged_swept_size}
 use Rattle.sweep.proofs.Trees.{stand_trees, unions_one}
+use Rattle.sweep.proofs.Lists.{held_written}
 use Rattle.sweep.proofs.Suffices.{suffices, order_left_lem}
 
-first_slot : (work : List ℕ) → 1 ≤ length work → slots (set work 0 0) 0 1 ≡ 0 ∷ []
-first_slot [] h = absurd (omega arith)
-first_slot (x ∷ work) h = refl
+pub zeros_first : (n : ℕ) → 1 ≤ n → take {A = ℕ} 1 (replicate n 0) ≡ 0 ∷ []
+zeros_first n h = take-replicate 1 n 0 h
 
 -- ---- an expression that can be swept
 
@@ -60,28 +62,24 @@ module _ {u : Universe} {s : List ℕ} {axis : ℕ} (r : Ready u s axis) where
   no_longer =
       omega (arith, written_length, merged_swept_size (order u) (axis - 1) r.shape, (expression_at_lem u s r.shape r.reads).1)
 
-  -- ---- `write_in`: the expression is the one tree over the whole universe
+  -- ---- `write_swept`: the expression is the one tree over the whole universe
 
-  module _ (work : List ℕ) {axes : List ℕ} {count : ℕ} (long : most_places ≤ length work) (e : axes ≡ axes_left u) (f : count ≡ levels_answer u) where
+  module _ (work : List ℕ) (sweep : Sweep) {count : ℕ} (long : most_places ≤ length work) (b : take 1 work ≡ 0 ∷ [])
+      (a : sweep.expression.now ≡ s) (e : sweep.axes.now ≡ axes_left u)
+      (d : sweep.axis ≡ axis - 1) (f : count ≡ levels_answer u) where
     all_levels : count ≡ levels u
     all_levels = levels_told u refl one.fine f
 
-    begins : Begins s count 0 r.shape
-    begins = record { is = ap (λ n. read_at s n 0) all_levels ∙ (expression_at_lem u s r.shape r.reads).0 }
+    begins : Begins sweep.expression.now count 0 r.shape
+    begins = record { is = ap₂ (λ l n. read_at l n 0) a all_levels ∙ (expression_at_lem u s r.shape r.reads).0 }
 
-    slot : slots (set work 0 0) 0 1 ≡ 0 ∷ []
-    slot = first_slot work (omega arith)
+    stand : Stand sweep.expression.now count (take 1 work) (r.shape ∷ [])
+    stand = subst (λ l. Stand sweep.expression.now count l (r.shape ∷ [])) (sym b) (more begins places.none)
 
-    stand : Stand s count (slots (set work 0 0) 0 1) (r.shape ∷ [])
-    stand = subst (λ l. Stand s count l (r.shape ∷ [])) (sym slot) (more begins places.none)
-
-    whole_order : order_left axes count ≡ order u
+    whole_order : order_left sweep.axes.now count ≡ order u
     whole_order = ap₂ order_left e all_levels ∙ order_left_lem u one.fine
 
-    pub whole_first : 0 < length work
-    whole_first = omega arith
-
-    pub whole_asks : Sweeping s axes (axis - 1) count (set work 0 0) 0 1 0
+    pub whole_asks : Sweeping sweep count work 1 0
     unfolding total
     whole_asks = record {
       few = omega (arith, all_levels, levels_few u (accepted u one.fine));
@@ -90,25 +88,26 @@ module _ {u : Universe} {s : List ℕ} {axis : ℕ} (r : Ready u s axis) where
       stand = stand;
       fits =
           let room = suffices u one.fine (axis - 1) (omega (arith, one.some, one.few)) in
-          omega (arith, ap (λ o. slots_for o (axis - 1) 1) whole_order, length-set work 0 0);
-      short = omega (arith, (expression_at_lem u s r.shape r.reads).1);
+          omega (arith, room, ap₂ (λ o k. slots_for o k 1) whole_order d);
+      short = omega (arith, (expression_at_lem u s r.shape r.reads).1, ap length a);
     }
 
-    whole_shape_lem : swept_block s axes (axis - 1) count (set work 0 0) 0 1 ≡ swept_shape u axis r.shape
+    whole_shape_lem : swept_block sweep count work 1 ≡ swept_shape u axis r.shape
     whole_shape_lem =
-        ap₂ (λ o ts. swept_trees o (axis - 1) ts) whole_order (stand_trees stand)
-        ∙ ap (λ t. merged (swept (order u) (axis - 1) t)) (unions_one r.shape)
+        ap₂ (λ o ts. swept_trees o sweep.axis ts) whole_order (stand_trees stand)
+        ∙ ap₂ (λ k t. merged (swept (order u) k t)) d (unions_one r.shape)
 
-    module _ {piece : Piece} (p : piece ≡ piece_of 0 (swept_block s axes (axis - 1) count (set work 0 0) 0 1)) where
+    module _ {piece : Piece} (p : piece ≡ piece_of 0 (swept_block sweep count work 1)) where
       pub whole_length : piece.end ≡ length (swept_symbols u s axis)
       whole_length = omega (arith, ap (λ (x : Piece). x.end) p, ap size whole_shape_lem, written_length)
 
-      pub whole_written : (out first second : List ℕ) → first ≡ laid out 0 (swept_block s axes (axis - 1) count (set work 0 0) 0 1) → second ≡ noted first 0 piece.held →
-          second ≡ sets out 0 (swept_symbols u s axis)
-      whole_written out first second a b =
-          b
-          ∙ ap₂ (λ l h. noted l 0 h) a (ap (λ (x : Piece). x.held) p)
-          ∙ laid_noted out 0 (swept_block s axes (axis - 1) count (set work 0 0) 0 1)
+      pub whole_written : (out first second : List ℕ) {symbol : ℕ} → symbol ≡ unwrap_or piece.held 0 →
+          first ≡ laid out 0 (swept_block sweep count work 1) → second ≡ noted first 0 symbol → second ≡ sets out 0 (swept_symbols u s axis)
+      whole_written out first second x y z =
+          z
+          ∙ ap₂ (λ l h. noted l 0 h) y
+          (x ∙ ap (λ (q : Piece). unwrap_or q.held 0) p ∙ held_written (swept_block sweep count work 1))
+          ∙ laid_noted out 0 (swept_block sweep count work 1)
           ∙ ap (λ t. sets out 0 (symbols t)) whole_shape_lem
           ∙ ap (sets out 0) (sym written_is)
 
@@ -138,4 +137,4 @@ module _ (u : Universe) (s : List ℕ) (axis : ℕ) (out : List ℕ) where
   unfolding swept_answer
   along_done f e = ap₂ of_universe f e
 
-pub ruleset write_laws = (rules, ready_some, whole_first, whole_asks, whole_length, whole_written)
+pub ruleset write_laws = (rules, ready_some, zeros_first, whole_asks, whole_length, whole_written)

@@ -1,92 +1,96 @@
--- Laws of `pull_back`: what is still to be written of the slots still to come, with the ends that are left, is what was asked.
-use mathlib.Core.Path.{◌≡◌, sym, ap, ap₂, ◌∙◌}
-use mathlib.Core.Bool.{cond}
-use mathlib.Core.List.{List, ◌∷◌}
-use Prim.Native.Nat.{ℕ, suc, ◌+◌, ◌-◌, ◌≤◌, ◌<◌}
+-- Laws of `pull_back`: what is still to be written of the places still to come, with the ends that are left, is what was asked.
+use mathlib.Core.Path.{◌≡◌, refl, sym, ap, ap₂, ◌∙◌}
+use mathlib.Core.Bool.{Bool, true, false, cond}
+use mathlib.Core.List.{List, [], ◌∷◌}
+use Prim.Native.Nat.{ℕ, suc, ◌+◌, ◌≤◌, ◌<◌}
 use native.Mathlib.Omega.{arith}
-use lib.ListN.{length, get_or, drop, set}
-use lib.Seq.{drop-cons, get_or-set_other, sets}
+use lib.ListN.{length, get_or, drop, set, drop_of_length-le}
+use lib.Seq.{sets}
 use borrow.Author.Tests.{eq-eqb, ne_eqb}
 use Rattle.bintree.specs.Shape.{open_symbol}
-use Rattle.sweep.specs.Places.{is_symbol, pulled, slots}
-use Rattle.sweep.proofs.Slots.{no_slots, Writing, writing_begins, writing_next}
+use Rattle.sweep.specs.Places.{is_symbol, pulled}
+use Rattle.sweep.proofs.Slots.{next_place, Writing, writing_begins, writing_next, sets_all}
 
-pub record Pulling (s before : List ℕ) (from n at : ℕ) (work : List ℕ) (next i : ℕ) : Type 0 where
-  pub still : Writing s before from n work i
-  pub past : from + n ≤ at
-  pub room : at + n ≤ length before
-  pub least : at ≤ next
-  pub most : next ≤ at + i
-  -- what stands behind the slots is as it was
-  pub behind : (k : ℕ) → from + n ≤ k → get_or work k 0 ≡ get_or before k 0
-  pub tells : sets work (from + i) (pulled s (slots before (from + i) (n - i)) (drop next before)) ≡ sets before from (pulled s (slots before from n)
-      (drop at before))
+pulled_length : (s ps ends : List ℕ) → length (pulled s ps ends) ≡ length ps
+unfolding pulled
+pulled_length s [] ends = refl
+pulled_length s (p ∷ ps) [] = ap suc (pulled_length s ps [])
+pulled_length s (p ∷ ps) (e ∷ ends) = go (is_symbol s open_symbol p) (pulled_length s ps ends) (pulled_length s ps (e ∷ ends))
+  where
+    go : (t : Bool) → length (pulled s ps ends) ≡ length ps → length (pulled s ps (e ∷ ends)) ≡ length ps →
+        length (cond t (e ∷ pulled s ps ends) (suc p ∷ pulled s ps (e ∷ ends))) ≡ suc (length ps)
+    go true f g = ap suc f
+    go false f g = ap suc g
 
-module _ {s before : List ℕ} {from n at : ℕ} {work : List ℕ} {next i : ℕ} (g : Pulling s before from n at work next i) where
-  pub pulling_written : n ≤ i → work ≡ sets before from (pulled s (slots before from n) (drop at before))
+pub record Pulling (s ends before now : List ℕ) (next i : ℕ) : Type 0 where
+  pub still : Writing before now i
+  pub room : length before ≤ length ends
+  pub most : next ≤ i
+  pub tells : sets now i (pulled s (drop i before) (drop next ends)) ≡ pulled s before ends
+
+pub pulling_first : (s ends before : List ℕ) → length before ≤ length ends → Pulling s ends before before 0 0
+pulling_first s ends before h = record {
+  still = record { long = refl; same = λ k l. refl };
+  room = h;
+  most = omega arith;
+  tells = sets_all (pulled s before ends) before (pulled_length s before ends);
+}
+
+module _ {s ends before now : List ℕ} {next i : ℕ} (g : Pulling s ends before now next i) where
+  pub pulling_written : length before ≤ i → now ≡ pulled s before ends
   unfolding pulled
-  pulling_written h = sym (ap (λ l. sets work (from + i) (pulled s l (drop next before))) (no_slots before from n i h)) ∙ g.tells
+  pulling_written h = sym (ap (λ l. sets now i (pulled s l (drop next ends))) (drop_of_length-le before h)) ∙ g.tells
 
-  module _ (h : i < n) where
-    pub pulling_end : next < length work
-    pulling_end = omega (arith, g.still.long, g.most, g.room)
+  module _ (h : i < length before) where
+    pub pulling_end : next < length ends
+    pulling_end = omega (arith, g.most, g.room)
 
     abbrev place : ℕ
-    place = get_or work (from + i) 0
+    place = get_or now i 0
 
     abbrev end : ℕ
-    end = get_or work next 0
+    end = get_or ends next 0
 
     rest : List ℕ
-    rest = slots before (from + (i + 1)) (n - (i + 1))
+    rest = drop (i + 1) before
 
-    ends : drop next before ≡ end ∷ drop (suc next) before
-    ends =
-        drop-cons before next 0 (omega (arith, g.still.long, pulling_end))
-        ∙ ap (λ p. p ∷ drop (suc next) before) (sym (g.behind next (omega (arith, g.past, g.least))))
+    begins : drop next ends ≡ end ∷ drop (next + 1) ends
+    begins = next_place ends next pulling_end
 
-    both : pulled s (slots before (from + i) (n - i)) (drop next before)
-        ≡ cond (is_symbol s open_symbol place) (end ∷ pulled s rest (drop (suc next) before)) (suc place ∷ pulled s rest (end ∷ drop (suc next) before))
+    both : pulled s (drop i before) (drop next ends)
+        ≡ cond (is_symbol s open_symbol place) (end ∷ pulled s rest (drop (next + 1) ends)) (suc place ∷ pulled s rest (end ∷ drop (next + 1) ends))
     unfolding pulled rest
-    both = ap₂ (pulled s) (writing_begins g.still h) ends
+    both = ap₂ (pulled s) (writing_begins g.still h) begins
 
-    pulled_open : get_or s place 0 ≡ open_symbol → pulled s (slots before (from + i) (n - i)) (drop next before) ≡ end ∷ pulled s rest (drop (next + 1) before)
+    pulled_open : get_or s place 0 ≡ open_symbol → pulled s (drop i before) (drop next ends) ≡ end ∷ pulled s rest (drop (next + 1) ends)
     pulled_open e =
-        let q : suc next ≡ next + 1 = omega arith in
         both
-        ∙ ap (λ t. cond t (end ∷ pulled s rest (drop (suc next) before)) (suc place ∷ pulled s rest (end ∷ drop (suc next) before)))
+        ∙ ap (λ t. cond t (end ∷ pulled s rest (drop (next + 1) ends)) (suc place ∷ pulled s rest (end ∷ drop (next + 1) ends)))
         (eq-eqb (get_or s place 0) open_symbol e)
-        ∙ ap (λ m. end ∷ pulled s rest (drop m before)) q
 
-    pulled_leaf : (get_or s place 0 ≡ open_symbol → ⊥) → pulled s (slots before (from + i) (n - i))
-        (drop next before) ≡ (place + 1) ∷ pulled s rest (drop next before)
+    pulled_leaf : (get_or s place 0 ≡ open_symbol → ⊥) → pulled s (drop i before) (drop next ends) ≡ (place + 1) ∷ pulled s rest (drop next ends)
     pulled_leaf e =
         let q : suc place ≡ place + 1 = omega arith in
         both
-        ∙ ap (λ t. cond t (end ∷ pulled s rest (drop (suc next) before)) (suc place ∷ pulled s rest (end ∷ drop (suc next) before)))
+        ∙ ap (λ t. cond t (end ∷ pulled s rest (drop (next + 1) ends)) (suc place ∷ pulled s rest (end ∷ drop (next + 1) ends)))
         (ne_eqb (get_or s place 0) open_symbol e)
-        ∙ ap₂ (λ m l. m ∷ pulled s rest l) q (sym ends)
+        ∙ ap₂ (λ m l. m ∷ pulled s rest l) q (sym begins)
 
-    -- a slot that is written, by what is still to be written behind it
-    next_pulling : (x next' : ℕ) → at ≤ next' → next' ≤ at + (i + 1) →
-        pulled s (slots before (from + i) (n - i)) (drop next before) ≡ x ∷ pulled s rest (drop next' before) →
-        Pulling s before from n at (set work (from + i) x) next' (i + 1)
+    -- a place that is written, by what is still to be written behind it
+    next_pulling : (x next' : ℕ) → next' ≤ i + 1 → pulled s (drop i before) (drop next ends) ≡ x ∷ pulled s rest (drop next' ends) →
+        Pulling s ends before (set now i x) next' (i + 1)
     unfolding rest
-    next_pulling x next' l m e =
-        let q : from + (i + 1) ≡ suc (from + i) = omega arith in
+    next_pulling x next' m e =
+        let q : i + 1 ≡ suc i = omega arith in
         record {
-          still = writing_next g.still h (from + i) x (λ k a b z. omega arith);
-          past = g.past;
+          still = writing_next g.still x;
           room = g.room;
-          least = l;
           most = m;
-          behind = λ k a. get_or-set_other work (from + i) k x 0 (λ z. omega arith) ∙ g.behind k a;
-          tells = ap (λ p. sets (set work (from + i) x) p (pulled s rest (drop next' before))) q ∙ sym (ap (sets work (from + i)) e) ∙ g.tells;
+          tells = ap (λ p. sets (set now i x) p (pulled s rest (drop next' ends))) q ∙ sym (ap (sets now i) e) ∙ g.tells;
         }
 
-    pub pulling_open : get_or s (get_or work (from + i) 0) 0 ≡ open_symbol → Pulling s before from n at (set work (from + i) (get_or work next 0)) (next + 1) (i + 1)
-    pulling_open e = next_pulling end (next + 1) (omega (arith, g.least)) (omega (arith, g.most)) (pulled_open e)
+    pub pulling_open : get_or s (get_or now i 0) 0 ≡ open_symbol → Pulling s ends before (set now i (get_or ends next 0)) (next + 1) (i + 1)
+    pulling_open e = next_pulling end (next + 1) (omega (arith, g.most)) (pulled_open e)
 
-    pub pulling_leaf : (get_or s (get_or work (from + i) 0) 0 ≡ open_symbol → ⊥) →
-        Pulling s before from n at (set work (from + i) (get_or work (from + i) 0 + 1)) next (i + 1)
-    pulling_leaf e = next_pulling (place + 1) next g.least (omega (arith, g.most)) (pulled_leaf e)
+    pub pulling_leaf : (get_or s (get_or now i 0) 0 ≡ open_symbol → ⊥) → Pulling s ends before (set now i (get_or now i 0 + 1)) next (i + 1)
+    pulling_leaf e = next_pulling (place + 1) next (omega (arith, g.most)) (pulled_leaf e)

@@ -1,30 +1,19 @@
--- Laws of the functions of src/places.rt that read slots (those that write them: Pushes, Pulls). The slots that are still to come begin with their first, so
--- that what is asked of all of them is asked of those
--- still to come, from what has been written on: each loop keeps that.
+-- Laws of the functions of src/places.rt that read places (those that write them: Pushes, Pulls). The places that are still to come begin with their first, so
+-- that what is asked of all of them is asked of those still to come, from what has been written on: each loop keeps that.
 use mathlib.Core.Path.{◌≡◌, refl, sym, ap, ◌∙◌}
 use mathlib.Core.Bool.{Bool, true, false, cond}
-use mathlib.Core.List.{List, [], ◌∷◌}
+use mathlib.Core.List.{List, [], ◌∷◌, ◌++◌, append-nil}
+use Rattle.std.specs.Prelude.{Option, Some, None}
 use Prim.Native.Nat.{ℕ, suc, ◌+◌, ◌-◌, ◌≤◌, ◌<◌}
 use native.Mathlib.Omega.{arith}
 use Rattle.std.proofs.Common.{add-one}
 use lib.Dec.{eqb}
 use lib.ListN.{length, get_or, drop, set, length-set, drop_of_length-le}
-use lib.Seq.{drop-cons, get_or-set_other}
+use lib.Seq.{drop-cons, get_or-set_other, sets, sets-eq}
 use borrow.Author.Tests.{eq-eqb, ne_eqb}
 use Rattle.bintree.specs.declared.Colour.TheVariants.{Black}
 use Rattle.bintree.specs.Shape.{open_symbol, symbol_of}
-use Rattle.sweep.specs.Places.{any_symbol, settled, passed, past_at, slots, Inside}
-
--- the slots that are still to come begin with the next one
-pub next_slot : (work : List ℕ) (from n i : ℕ) → from + n ≤ length work → i < n →
-    slots work (from + i) (n - i) ≡ get_or work (from + i) 0 ∷ slots work (from + (i + 1)) (n - (i + 1))
-next_slot work from n i h k =
-    let m : n - i ≡ suc (n - (i + 1)) = omega arith in
-    let q : suc (from + i) ≡ from + (i + 1) = omega arith in
-    rw (m, drop-cons work (from + i) 0 (omega arith), q)
-
-pub no_slots : (work : List ℕ) (from n i : ℕ) → n ≤ i → slots work (from + i) (n - i) ≡ []
-no_slots work from n i h = rw (let z : n - i ≡ 0 = omega arith in z)
+use Rattle.sweep.specs.Places.{any_symbol, settled, passed, past_at}
 
 pub passed_none : (s : List ℕ) → passed s 0 ≡ 0
 unfolding passed
@@ -76,9 +65,13 @@ module _ (s : List ℕ) (at : ℕ) where
           let step = leaf_step ∙ ap (λ m. suc (passed (drop (suc place) s) m)) z in
           omega (arith, g.tells, passed_none (drop (suc place) s))
 
+-- the places from the one at hand on begin with it
+pub next_place : (places : List ℕ) (i : ℕ) → i < length places → drop i places ≡ get_or places i 0 ∷ drop (i + 1) places
+next_place places i h = rw add-one (drop-cons places i 0 h)
+
 -- ---- `settle`: what the places from the one at hand on come to, from what was found before them
 
-module _ (s places : List ℕ) (found i : ℕ) where
+module _ (s places : List ℕ) (found : Option ℕ) (i : ℕ) where
   pub settled_end : length places ≤ i → settled s found (drop i places) ≡ found
   unfolding settled any_symbol
   settled_end h = rw (drop_of_length-le places h)
@@ -87,50 +80,43 @@ module _ (s places : List ℕ) (found i : ℕ) where
     abbrev symbol : ℕ
     symbol = get_or s (get_or places i 0) 0
 
-    first : drop i places ≡ get_or places i 0 ∷ drop (i + 1) places
-    first = rw add-one (drop-cons places i 0 h)
-
-    pub settled_black : symbol ≡ symbol_of Black → settled s found (drop i places) ≡ symbol
+    pub settled_black : symbol ≡ symbol_of Black → settled s found (drop i places) ≡ Some symbol
     unfolding settled any_symbol
-    settled_black e = rw (first, eq-eqb symbol (symbol_of Black) e) (sym e)
+    settled_black e = rw (next_place places i h, eq-eqb symbol (symbol_of Black) e) (ap Some (sym e))
 
     module _ (n : symbol ≡ symbol_of Black → ⊥) where
-      pub settled_open : symbol ≡ open_symbol → settled s found (drop i places) ≡ settled s symbol (drop (i + 1) places)
+      pub settled_open : symbol ≡ open_symbol → settled s found (drop i places) ≡ settled s None (drop (i + 1) places)
       unfolding settled any_symbol
-      settled_open e = rw (first, ne_eqb symbol (symbol_of Black) n, eq-eqb symbol open_symbol e, e) (same (any_symbol s open_symbol (drop (i + 1) places)))
+      settled_open e =
+          rw (next_place places i h, ne_eqb symbol (symbol_of Black) n, eq-eqb symbol open_symbol e) (same (any_symbol s open_symbol (drop (i + 1) places)))
         where
-          same : (t : Bool) → cond (any_symbol s (symbol_of Black) (drop (i + 1) places)) (symbol_of Black) open_symbol
-              ≡ cond (any_symbol s (symbol_of Black) (drop (i + 1) places)) (symbol_of Black) (cond t open_symbol open_symbol)
+          same : (t : Bool) → cond (any_symbol s (symbol_of Black) (drop (i + 1) places)) (Some (symbol_of Black)) None
+              ≡ cond (any_symbol s (symbol_of Black) (drop (i + 1) places)) (Some (symbol_of Black)) (cond t None None)
           same true = refl
           same false = refl
 
       pub settled_other : (symbol ≡ open_symbol → ⊥) → settled s found (drop i places) ≡ settled s found (drop (i + 1) places)
       unfolding settled any_symbol
-      settled_other k = rw (first, ne_eqb symbol (symbol_of Black) n, ne_eqb symbol open_symbol k)
+      settled_other k = rw (next_place places i h, ne_eqb symbol (symbol_of Black) n, ne_eqb symbol open_symbol k)
 
--- ---- loops that write slots: i of n are done, and the others hold what they held, places inside the text
+-- ---- loops that write places: those before i are done, and the others are as they were
 
-pub record Writing (s before : List ℕ) (from n : ℕ) (work : List ℕ) (i : ℕ) : Type 0 where
-  pub asks : Inside s before from n
-  pub few : i ≤ n
-  pub long : length work ≡ length before
-  pub same : (k : ℕ) → i ≤ k → k < n → get_or work (from + k) 0 ≡ get_or before (from + k) 0
+pub record Writing (before now : List ℕ) (i : ℕ) : Type 0 where
+  pub long : length now ≡ length before
+  pub same : (k : ℕ) → i ≤ k → get_or now k 0 ≡ get_or before k 0
 
-module _ {s before : List ℕ} {from n : ℕ} {work : List ℕ} {i : ℕ} (g : Writing s before from n work i) where
-  module _ (h : i < n) where
-    -- the slots still to come begin with the one at hand
-    pub writing_begins : slots before (from + i) (n - i) ≡ get_or work (from + i) 0 ∷ slots before (from + (i + 1)) (n - (i + 1))
-    writing_begins =
-        next_slot before from n i g.asks.slots_fit h ∙ ap (λ p. p ∷ slots before (from + (i + 1)) (n - (i + 1))) (sym (g.same i (omega arith) h))
+module _ {before now : List ℕ} {i : ℕ} (g : Writing before now i) where
+  -- the places still to come begin with the one at hand
+  pub writing_begins : i < length before → drop i before ≡ get_or now i 0 ∷ drop (i + 1) before
+  writing_begins h = next_place before i h ∙ ap (λ p. p ∷ drop (i + 1) before) (sym (g.same i (omega arith)))
 
-    -- a turn that writes another slot, or one that is done with, or none
-    pub writing_next : (at x : ℕ) → ((k : ℕ) → i + 1 ≤ k → k < n → from + k ≡ at → ⊥) → Writing s before from n (set work at x) (i + 1)
-    writing_next at x other = record {
-      asks = g.asks;
-      few = omega arith;
-      long = length-set work at x ∙ g.long;
-      same = λ k l m. get_or-set_other work at (from + k) x 0 (other k l m) ∙ g.same k (omega arith) m;
-    }
+  pub writing_next : (x : ℕ) → Writing before (set now i x) (i + 1)
+  writing_next x = record {
+    long = length-set now i x ∙ g.long;
+    same = λ k l. get_or-set_other now i k x 0 (λ z. omega arith) ∙ g.same k (omega arith);
+  }
 
-    pub writing_on : Writing s before from n work (i + 1)
-    writing_on = record { asks = g.asks; few = omega arith; long = g.long; same = λ k l m. g.same k (omega arith) m }
+-- all of some values are written in place of as many
+pub sets_all : (vs before : List ℕ) → length vs ≡ length before → sets before 0 vs ≡ vs
+sets_all vs before e =
+    sets-eq vs before 0 (omega arith) ∙ ap (λ l. vs ++ l) (drop_of_length-le before (omega arith)) ∙ append-nil vs

@@ -2,6 +2,7 @@
 -- ones, and past those the trees end. What is swept of a list goes level by level: at a level of axis j both halves come into one list.
 use mathlib.Core.Path.{◌≡◌, refl, sym, ap, ap₂, ◌∙◌}
 use mathlib.Core.Bool.{Bool, true, false, cond}
+use Rattle.std.specs.Prelude.{Option, Some, is_some}
 use mathlib.Core.List.{List, [], ◌∷◌, ◌++◌, append_assoc}
 use Prim.Native.Nat.{ℕ, zero, suc, ◌+◌, ◌*◌, ◌≤◌, ◌<◌}
 use native.Mathlib.Omega.{arith}
@@ -160,9 +161,9 @@ some_low (more {t = leaf c} r w) e = some_low w (rw (leaf_closed r) at e)
 some_low (more {t = halved a b} r w) e = omega arith
 
 -- by what is settled
-pub record Closed (ts : List Shape) (symbol : ℕ) : Type 0 where
+pub record Closed (ts : List Shape) (held : Option ℕ) : Type 0 where
   pub colour : Colour
-  pub held : symbol ≡ symbol_of colour
+  pub symbol : held ≡ Some (symbol_of colour)
   pub is : unions ts ≡ leaf colour
 
 pub record Open (ts : List Shape) : Type 0 where
@@ -170,23 +171,26 @@ pub record Open (ts : List Shape) : Type 0 where
   pub some : 0 < length (lows ts)
 
 module _ {s : List ℕ} {n : ℕ} {ps : List ℕ} {ts : List Shape} (w : Stand s n ps ts) where
-  pub closed : (settled s (symbol_of White) ps ≡ open_symbol → ⊥) → Closed ts (settled s (symbol_of White) ps)
+  abbrev held : Option ℕ
+  held = settled s (Some (symbol_of White)) ps
+
+  pub closed : is_some held ≡ true → Closed ts held
   unfolding settled
   closed k = go (any_symbol s (symbol_of Black) ps) (any_symbol s open_symbol ps) refl refl
     where
-      go : (b o : Bool) → any_symbol s (symbol_of Black) ps ≡ b → any_symbol s open_symbol ps ≡ o → Closed ts (settled s (symbol_of White) ps)
-      go true o e f = record { colour = Black; held = rw e; is = black_list w e }
-      go false true e f = absurd (k (rw (e, f)))
-      go false false e f = record { colour = White; held = rw (e, f); is = open_list w e ∙ rw f }
+      go : (b o : Bool) → any_symbol s (symbol_of Black) ps ≡ b → any_symbol s open_symbol ps ≡ o → Closed ts held
+      go true o e f = record { colour = Black; symbol = rw e; is = black_list w e }
+      go false true e f = let z : false ≡ true = rw (e, f) at k in cc
+      go false false e f = record { colour = White; symbol = rw (e, f); is = open_list w e ∙ rw f }
 
-  pub opened : settled s (symbol_of White) ps ≡ open_symbol → Open ts
+  pub opened : is_some held ≡ false → Open ts
   unfolding settled
   opened k = go (any_symbol s (symbol_of Black) ps) (any_symbol s open_symbol ps) refl refl
     where
       go : (b o : Bool) → any_symbol s (symbol_of Black) ps ≡ b → any_symbol s open_symbol ps ≡ o → Open ts
-      go true o e f = let z : symbol_of Black ≡ open_symbol = rw e at k in absurd (omega arith)
+      go true o e f = let z : true ≡ false = rw e at k in cc
       go false true e f = record { halves = open_list w e ∙ rw f; some = some_low w f }
-      go false false e f = let z : symbol_of White ≡ open_symbol = rw (e, f) at k in absurd (omega arith)
+      go false false e f = let z : true ≡ false = rw (e, f) at k in cc
 
 -- with no level left no tree is halved
 flat_lows : {s ps : List ℕ} {ts : List Shape} → Stand s 0 ps ts → lows ts ≡ []
@@ -195,7 +199,7 @@ flat_lows none = refl
 flat_lows (more {t = leaf c} r w) = flat_lows w
 flat_lows (more {t = halved a b} r w) = absurd (never_halved r)
 
-pub never_open : {s : List ℕ} {n : ℕ} {ps : List ℕ} {ts : List Shape} → Stand s n ps ts → settled s (symbol_of White) ps ≡ open_symbol → 1 ≤ n
+pub never_open : {s : List ℕ} {n : ℕ} {ps : List ℕ} {ts : List Shape} → Stand s n ps ts → is_some (settled s (Some (symbol_of White)) ps) ≡ false → 1 ≤ n
 never_open {n = zero} w e = absurd (omega (arith, (opened w e).some, ap length (flat_lows w)))
 never_open {n = suc n} w e = omega arith
 
@@ -264,12 +268,6 @@ pub total_append : (ts us : List Shape) → total (ts ++ us) ≡ total ts + tota
 unfolding total
 total_append [] us = omega arith
 total_append (t ∷ ts) us = omega (arith, total_append ts us)
-
-pub lows_highs : (ts : List Shape) → length (lows ts) ≡ length (highs ts)
-unfolding lows highs
-lows_highs [] = refl
-lows_highs (leaf c ∷ ts) = lows_highs ts
-lows_highs (halved a b ∷ ts) = ap suc (lows_highs ts)
 
 unions_size : (ts : List Shape) → 0 < length ts → size (unions ts) ≤ total ts
 unfolding unions total

@@ -1,15 +1,15 @@
 -- How one recursion over the blocks of the result meets rule 12.2: over a block stand several trees of the expression,
--- known by their places. A list of places is kept in slots of one array; after its block is swept each slot of the list
--- holds the place past its tree, where a high half begins.
-use Rattle.std.specs.Prelude.{ℕ, zero, suc, ◌+◌, ◌-◌, ◌*◌, ◌^◌, ◌≤◌, ◌<◌, ◌≡◌, Bool, true, false, cond, List, [], ◌∷◌, ◌++◌, map, ◌⊎◌, eqb, length, get_or, take, drop}
+-- known by their places. A list of places is kept in the first of the slots that are lent; after its block is swept
+-- each of these holds the place past its tree, where a high half begins.
+use Rattle.std.specs.Prelude.{ℕ, zero, suc, ◌+◌, ◌-◌, ◌*◌, ◌^◌, ◌≤◌, ◌<◌, ◌≡◌, Bool, true, false, cond, List, [], ◌∷◌, ◌++◌, map, eqb, length, get_or, take, drop, Option, Some, None}
 use Rattle.universe.specs.Universe.{most_axes, most_bits, most_levels, longest_side}
 use Rattle.bintree.specs.declared.Colour.TheVariants.{White, Black}
 use Rattle.bintree.specs.Shape.{Shape, leaf, halved, open_symbol, symbol_of, size}
 use Rattle.bintree.specs.Reading.{read, read_at}
 use Rattle.bintree.specs.Merging.{merged}
 use Rattle.bintree.specs.Answers.{of_shape}
-use Rattle.bintree.specs.Walks.{leaf_symbol}
 use Rattle.sweep.specs.declared.block.Piece.{Piece}
+use Rattle.sweep.specs.declared.block.Sweep.{Sweep}
 use Rattle.sweep.specs.Sweeping.{over, swept}
 
 -- ---- trees
@@ -66,10 +66,10 @@ unfoldable pub any_symbol : List ℕ → ℕ → List ℕ → Bool
 any_symbol s x [] = false
 any_symbol s x (p ∷ ps) = cond (is_symbol s x p) true (any_symbol s x ps)
 
--- what some places come to: `B` where one holds it, else `(` where one holds that, else what was found before them
-unfoldable pub settled : List ℕ → ℕ → List ℕ → ℕ
+-- what some places come to: `B` where one holds it, else none where one holds `(`, else what was found before them
+unfoldable pub settled : List ℕ → Option ℕ → List ℕ → Option ℕ
 settled s found ps =
-    cond (any_symbol s (symbol_of Black) ps) (symbol_of Black) (cond (any_symbol s open_symbol ps) open_symbol found)
+    cond (any_symbol s (symbol_of Black) ps) (Some (symbol_of Black)) (cond (any_symbol s open_symbol ps) None found)
 
 -- how many symbols the first n trees of a text take, and the place past the tree that begins at p
 unfoldable pub passed : List ℕ → ℕ → ℕ
@@ -95,25 +95,9 @@ pulled s (p ∷ ps) [] = suc p ∷ pulled s ps []
 pulled s (p ∷ ps) (e ∷ ends) =
     cond (is_symbol s open_symbol p) (e ∷ pulled s ps ends) (suc p ∷ pulled s ps (e ∷ ends))
 
--- ---- slots
-
--- the n slots from a place on
-abbrev pub slots : List ℕ → ℕ → ℕ → List ℕ
-slots work from n = take n (drop from work)
-
--- they hold places inside the text
-pub record Inside (s work : List ℕ) (from n : ℕ) : Type 0 where
-  pub slots_fit : from + n ≤ length work
-  pub inside : (i : ℕ) → i < n → get_or work (from + i) 0 < length s
-
--- n slots from `from` on are those from `to` on, or end before them
-pub record Apart (from n to : ℕ) : Type 0 where
-  pub same_or_past : (to ≡ from) ⊎ (from + n ≤ to)
-
--- the slots from `at` on hold these places, and what stood before `from` is as it was
-pub record Moved (work : List ℕ) (from at : ℕ) (ends left : List ℕ) : Type 0 where
-  pub kept : take from left ≡ take from work
-  pub ended : slots left at (length ends) ≡ ends
+-- they are places inside the text
+pub record Inside (s ps : List ℕ) : Type 0 where
+  pub inside : (i : ℕ) → i < length ps → get_or ps i 0 < length s
 
 -- ---- blocks
 
@@ -131,50 +115,64 @@ slots_for (x ∷ order) j n = n + slots_for order j (cond (eqb x j) (2 * n) n)
 abbrev pub most_places : ℕ
 most_places = (most_axes - 1) * 2 ^ most_bits + 2 * longest_side
 
--- n trees stand over a block with so many levels left, and their places in slots; the rest of the array suffices, and
--- what is written or held back for them ends no later than they do
-pub record Sweeping (s axes : List ℕ) (j left : ℕ) (work : List ℕ) (from n at : ℕ) : Type 0 where
+-- n trees stand over a block with so many levels left, and their places in the first slots; there are as many slots
+-- as suffice, and what is written or held back for the trees ends no later than they do
+pub record Sweeping (w : Sweep) (left : ℕ) (work : List ℕ) (n at : ℕ) : Type 0 where
   pub few : left ≤ most_levels
   pub some : 0 < n
   pub trees : List Shape
-  pub stand : Stand s left (slots work from n) trees
-  pub fits : from + slots_for (order_left axes left) j n ≤ length work
-  pub short : at + total trees ≤ length s
+  pub stand : Stand w.expression.now left (take n work) trees
+  pub fits : slots_for (order_left w.axes.now left) w.axis n ≤ length work
+  pub short : at + total trees ≤ length w.expression.now
 
 -- n halved trees over a block, known by the places of their low halves: past these stand the high halves. The halves
--- have so many levels left; the rest of the array suffices for `most` of them
-pub record Halving (s axes : List ℕ) (j left : ℕ) (work : List ℕ) (from n most at : ℕ) : Type 0 where
+-- have so many levels left; there are as many slots as suffice for `most` of them
+pub record Halving (w : Sweep) (left : ℕ) (work : List ℕ) (n most at : ℕ) : Type 0 where
   pub few : left ≤ most_levels
   pub some : 0 < n
   pub low_trees : List Shape
   pub high_trees : List Shape
-  pub low_stand : Stand s left (slots work from n) low_trees
-  pub high_stand : Stand s left (past_all s (slots work from n)) high_trees
-  pub fits : from + slots_for (order_left axes left) j most ≤ length work
-  pub short : suc (at + (total low_trees + total high_trees)) ≤ length s
+  pub low_stand : Stand w.expression.now left (take n work) low_trees
+  pub high_stand : Stand w.expression.now left (past_all w.expression.now (take n work)) high_trees
+  pub fits : slots_for (order_left w.axes.now left) w.axis most ≤ length work
+  pub short : suc (at + (total low_trees + total high_trees)) ≤ length w.expression.now
 
 -- their low halves and their high halves
-abbrev pub lows_at : List ℕ → ℕ → List ℕ → ℕ → ℕ → List Shape
-lows_at s left work from n = trees_at s left (slots work from n)
+abbrev pub lows_at : List ℕ → ℕ → List ℕ → ℕ → List Shape
+lows_at s left work n = trees_at s left (take n work)
 
-abbrev pub highs_at : List ℕ → ℕ → List ℕ → ℕ → ℕ → List Shape
-highs_at s left work from n = trees_at s left (past_all s (slots work from n))
+abbrev pub highs_at : List ℕ → ℕ → List ℕ → ℕ → List Shape
+highs_at s left work n = trees_at s left (past_all s (take n work))
 
 -- where both halves of each come into one list, and where the low halves and the high halves are swept by themselves
-abbrev pub swept_across : List ℕ → List ℕ → ℕ → ℕ → List ℕ → ℕ → ℕ → Shape
-swept_across s axes j left work from n =
-    swept_trees (order_left axes left) j (lows_at s left work from n ++ highs_at s left work from n)
+abbrev pub swept_across : Sweep → ℕ → List ℕ → ℕ → Shape
+swept_across w left work n =
+    let s = w.expression.now in
+    swept_trees (order_left w.axes.now left) w.axis (lows_at s left work n ++ highs_at s left work n)
 
-abbrev pub swept_halves : List ℕ → List ℕ → ℕ → ℕ → List ℕ → ℕ → ℕ → Shape
-swept_halves s axes j left work from n =
-    let low = swept (order_left axes left) j (unions (lows_at s left work from n)) in
-    let high = swept (order_left axes left) j (unions (highs_at s left work from n)) in
+abbrev pub swept_halves : Sweep → ℕ → List ℕ → ℕ → Shape
+swept_halves w left work n =
+    let s = w.expression.now in
+    let low = swept (order_left w.axes.now left) w.axis (unions (lows_at s left work n)) in
+    let high = swept (order_left w.axes.now left) w.axis (unions (highs_at s left work n)) in
     merged (halved low high)
 
 -- what is swept of a block
-abbrev pub swept_block : List ℕ → List ℕ → ℕ → ℕ → List ℕ → ℕ → ℕ → Shape
-swept_block s axes j left work from n = swept_trees (order_left axes left) j (trees_at s left (slots work from n))
+abbrev pub swept_block : Sweep → ℕ → List ℕ → ℕ → Shape
+swept_block w left work n =
+    swept_trees (order_left w.axes.now left) w.axis (trees_at w.expression.now left (take n work))
+
+-- the symbol that is held back of a merged shape: that of one leaf
+unfoldable pub held_leaf : Shape → Option ℕ
+held_leaf (leaf c) = Some (symbol_of c)
+held_leaf (halved a b) = None
+
+-- whether two shapes hold back the same symbol
+unfoldable pub is_same : Option ℕ → Option ℕ → Bool
+is_same None high = false
+is_same (Some low) None = false
+is_same (Some low) (Some high) = eqb low high
 
 -- what laying a shape from a place on comes to: what is held back of it, and the place past it
 abbrev pub piece_of : ℕ → Shape → Piece
-piece_of at s = record { held = leaf_symbol s; end = at + size s }
+piece_of at s = record { held = held_leaf s; end = at + size s }

@@ -4,15 +4,14 @@
 mod block;
 mod places;
 
-ghost use Rattle.std.specs.Prelude.{◌≡◌, ◌≤◌, length};
+ghost use Rattle.std.specs.Prelude.{◌≡◌, length};
 ghost use Rattle.std.proofs.lemmas.List.Edits.{sets};
 ghost use Rattle.bintree.specs.Answers.{written_answer, written_buffer};
 ghost use Rattle.bintree.specs.Told.{writing_told};
-ghost use Rattle.sweep.specs.Places.{most_places};
 ghost use Rattle.sweep.specs.Answers.{Ready, swept_symbols, swept_answer, swept_buffer};
 ghost use Rattle.sweep.specs.Told.{swept_told};
 
-use block::sweep_block;
+use block::{Sweep, sweep_block};
 use universe::{Universe, Unwritten};
 
 // Places that suffice for every universe and every axis.
@@ -26,17 +25,10 @@ pub struct Swept {
     pub length: u64,
 }
 
-// Writes the merged sweep of an expression along an axis, as far as there is room, and gives its length. `work` is for
-// places.
-fn write_in(
-    universe: Universe,
-    expression: &[u8],
-    axis: u64,
-    work: &mut [usize],
-    out: &mut [u8],
-) -> usize
-    requires ready { Ready universe expression.now axis }
-    requires most_places_in_bounds { most_places ≤ length work.old }
+// Writes the merged sweep of an expression along an axis, as far as there is room, and gives its length. The expression
+// is one tree over the whole universe, which begins at place 0.
+fn write_swept(universe: Universe, expression: &[u8], axis: u64, out: &mut [u8]) -> usize
+    requires { Ready universe expression.now axis }
     ensures value { result ≡ length (swept_symbols universe expression.now axis) }
     ensures out_after { let symbols = swept_symbols universe expression.now axis in
         out.new ≡ sets out.old 0 symbols }
@@ -44,25 +36,20 @@ fn write_in(
     let axes = universe.axes_left();
     let levels = universe.levels();
     let dropped = (axis - 1) as usize;
-    work[0] = 0;
-    let piece = sweep_block(expression, &axes, dropped, levels, work, 0, 1, out, 0);
-    bintree::note(out, 0, piece.held);
+    let sweep = Sweep {
+        expression,
+        axes: &axes,
+        axis: dropped,
+    };
+    let mut work = [0usize; MOST_PLACES];
+    let piece = sweep_block(sweep, levels, &mut work, 1, out, 0);
+    bintree::note(out, 0, piece.held.unwrap_or(0));
     piece.end
 }
 
-// The same with places of its own.
-fn write_swept(universe: Universe, expression: &[u8], axis: u64, out: &mut [u8]) -> usize
-    requires { Ready universe expression.now axis }
-    ensures value { result ≡ length (swept_symbols universe expression.now axis) }
-    ensures out_after { let symbols = swept_symbols universe expression.now axis in
-        out.new ≡ sets out.old 0 symbols }
-{
-    let mut work = [0usize; MOST_PLACES];
-    write_in(universe, expression, axis, &mut work, out)
-}
-
 // The same, or nothing where it does not fit. It is no longer than the expression, so that it is measured only where
-// less room is lent.
+// less room is lent. The crate `octree` has one function of this for both its passes; one for it and this one would be
+// a new public name.
 fn write_fitting(
     universe: Universe,
     expression: &[u8],

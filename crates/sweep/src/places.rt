@@ -1,10 +1,10 @@
-// Lists of places in an expression, in slots of one array: what the trees there come to, the places of their low
-// halves, and the places past them.
-ghost use Rattle.std.specs.Prelude.{◌≡◌, ◌+◌, ◌≤◌, length, drop};
+// Lists of places in an expression: what the trees there come to, the places of their low halves, and the places past
+// them.
+ghost use Rattle.std.specs.Prelude.{◌≡◌, ◌≤◌, Some, length};
 ghost use Rattle.std.proofs.lemmas.List.Edits.{sets};
 ghost use Rattle.bintree.specs.declared.Colour.TheVariants.{White};
 ghost use Rattle.bintree.specs.Shape.{symbol_of};
-ghost use Rattle.sweep.specs.Places.{settled, past_at, past_all, low_places, pulled, slots, Inside, Apart};
+ghost use Rattle.sweep.specs.Places.{settled, past_at, past_all, low_places, pulled, Inside};
 
 // The place past the tree that begins at `at`.
 fn past(expression: &[u8], at: usize) -> usize
@@ -23,83 +23,66 @@ fn past(expression: &[u8], at: usize) -> usize
     at.max(expression.len())
 }
 
-// What the trees come to whose places are in `count` slots from `from` on: `B` where one is that leaf, else `(` where
-// one is halved, else `W`.
-pub(crate) fn settle(expression: &[u8], work: &[usize], from: usize, count: usize) -> u8
-    requires { Inside expression.now work.now from count }
-    ensures { let places = slots work.now from count in
-        result ≡ settled expression.now (symbol_of White) places }
+// What the trees come to that stand at some places: the symbol of a leaf, `B` where one is that, or none where none is
+// that and one is halved.
+pub(crate) fn settle(expression: &[u8], places: &[usize]) -> Option<u8>
+    requires { Inside expression.now places.now }
+    ensures { result ≡ settled expression.now (Some (symbol_of White)) places.now }
 {
-    let mut found = b'W';
-    for place in &work[from..from + count] {
+    let mut found = Some(b'W');
+    for place in places {
         let symbol = expression[*place];
         if symbol == b'B' {
-            return symbol;
+            return Some(symbol);
         }
         if symbol == b'(' {
-            found = symbol;
+            found = None;
         }
     }
     found
 }
 
-// Writes the places of the low halves of those that are halved into the slots from `to` on, and gives their number.
-pub(crate) fn push_lows(
-    expression: &[u8],
-    work: &mut [usize],
-    from: usize,
-    count: usize,
-    to: usize,
-) -> usize
-    requires inside { Inside expression.now work.old from count }
-    requires count_bound { from + count ≤ to }
-    requires count_in_bounds { to + count ≤ length work.old }
-    ensures value { result ≡ length (low_places expression.now (slots work.old from count)) }
-    ensures work_after { let places = slots work.old from count in
-        work.new ≡ sets work.old to (low_places expression.now places) }
+// Writes the places of the low halves of those that are halved, and gives their number. `next` is counted by hand, here
+// and in `pull_back`, since only halved trees have one.
+pub(crate) fn push_lows(expression: &[u8], places: &[usize], lows: &mut [usize]) -> usize
+    requires inside { Inside expression.now places.now }
+    requires lows_fit { length places.now ≤ length lows.old }
+    ensures value { result ≡ length (low_places expression.now places.now) }
+    ensures lows_after { lows.new ≡ sets lows.old 0 (low_places expression.now places.now) }
 {
-    let mut next = to;
-    for i in 0..count {
-        let place = work[from + i];
-        if expression[place] == b'(' {
-            work[next] = place + 1;
+    let mut next = 0;
+    for place in places {
+        if expression[*place] == b'(' {
+            lows[next] = *place + 1;
             next += 1;
         }
     }
-    next - to
+    next
 }
 
-// Writes the places past the trees into the slots from `to` on, which are theirs or behind them.
-pub(crate) fn push_past(expression: &[u8], work: &mut [usize], from: usize, count: usize, to: usize)
-    requires inside { Inside expression.now work.old from count }
-    requires apart { Apart from count to }
-    requires count_in_bounds { to + count ≤ length work.old }
-    ensures { let places = slots work.old from count in
-        work.new ≡ sets work.old to (past_all expression.now places) }
+// Past the trees: each place becomes that past its tree.
+pub(crate) fn push_past(expression: &[u8], places: &mut [usize])
+    ensures { places.new ≡ past_all expression.now places.old }
 {
-    for i in 0..count {
-        work[to + i] = past(expression, work[from + i]);
+    for place in places.iter_mut() {
+        *place = past(expression, *place);
     }
 }
 
-// Back from the halves: a slot of a halved tree takes the next of the places from `at` on, which are past the high
-// halves, and that of a leaf the place behind it.
-pub(crate) fn pull_back(expression: &[u8], work: &mut [usize], from: usize, count: usize, at: usize)
-    requires inside { Inside expression.now work.old from count }
-    requires count_bound { from + count ≤ at }
-    requires count_in_bounds { at + count ≤ length work.old }
-    ensures { let places = slots work.old from count in
-        let ends = drop at work.old in
-        work.new ≡ sets work.old from (pulled expression.now places ends) }
+// Back from the halves: the place of a halved tree becomes the next of the ends, which are past the high halves, and
+// that of a leaf the place behind it.
+pub(crate) fn pull_back(expression: &[u8], places: &mut [usize], ends: &[usize])
+    requires inside { Inside expression.now places.old }
+    requires ends_suffice { length places.old ≤ length ends.now }
+    ensures { places.new ≡ pulled expression.now places.old ends.now }
 {
-    let mut next = at;
-    for i in 0..count {
-        let place = work[from + i];
-        if expression[place] == b'(' {
-            work[from + i] = work[next];
+    let mut next = 0;
+    for place in places.iter_mut() {
+        if expression[*place] == b'(' {
+            *place = ends[next];
             next += 1;
         } else {
-            work[from + i] = place + 1;
+            *place += 1;
         }
     }
 }

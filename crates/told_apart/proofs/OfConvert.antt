@@ -10,6 +10,15 @@ use Rattle.told_apart.proofs.Told.{clearance-read, writing-read}
 pub convert_check_scene : (w : World) → TellsApart w convert.check_scene.ended convert.check_scene.clauses
 convert_check_scene w _ _ = ((tt, refl), λ _ _ _ _ _. one w (λ p q. (told-injective _ _ (same p q), refl)))
 
+pub convert_tested_code : (w : World) → TellsApart w convert.tested_code.ended convert.tested_code.clauses
+convert_tested_code w _ _ = ((tt, refl), λ _ _ _ _ _. one w (λ p q. (same p q, refl)))
+
+pub convert_symbol_of : (w : World) → TellsApart w convert.symbol_of.ended convert.symbol_of.clauses
+convert_symbol_of w _ _ = ((tt, refl), λ _ _ _ _ _. one w (λ p q. (same p q, refl)))
+
+pub convert_is_one : (w : World) → TellsApart w convert.is_one.ended convert.is_one.clauses
+convert_is_one w _ _ = ((tt, refl), λ _ _ _ _ _. one w (λ p q. (same p q, refl)))
+
 pub convert_raw_of_one : (w : World) → TellsApart w convert.raw_of_one.ended convert.raw_of_one.clauses
 convert_raw_of_one w _ _ = ((tt, refl), λ _ _ _ _ _. two w (λ p q. (writing-read _ _ (same p.0 q.0), λ i. behind 4 (same p.1 q.1 i, tt))))
 

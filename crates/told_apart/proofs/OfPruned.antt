@@ -39,6 +39,18 @@ pub pruned_merged_of_two : (w : World) →
 pruned_merged_of_two w _ _ =
     ((tt, refl), λ _ _ _ _ _. three w (λ p q. (conversion-read _ _ (same p.0 q.0), (λ i. (same p.1 q.1 i, tt), λ n. same (p.2 n) (q.2 n)))))
 
+pub pruned_turned_code : (w : World) → TellsApart w pruned.turned_code.ended pruned.turned_code.clauses
+pruned_turned_code w _ _ = ((tt, refl), λ _ _ _ _ _. one w (λ p q. (same p q, refl)))
+
+pub pruned_side_code : (w : World) → TellsApart w pruned.side_code.ended pruned.side_code.clauses
+pruned_side_code w _ _ = ((tt, refl), λ _ _ _ _ _. one w (λ p q. (same p q, refl)))
+
+pub pruned_joined_code : (w : World) → TellsApart w pruned.joined_code.ended pruned.joined_code.clauses
+pruned_joined_code w _ _ = ((tt, refl), λ _ _ _ _ _. one w (λ p q. (same p q, refl)))
+
+pub pruned_whole_mark : (w : World) → TellsApart w pruned.whole_mark.ended pruned.whole_mark.clauses
+pruned_whole_mark w _ _ = ((tt, refl), λ _ _ _ _ _. one w (λ p q. (same p q, refl)))
+
 pub unconverted_number : (w : World) → TellsApart w pruned.answer.Unconverted.number.ended pruned.answer.Unconverted.number.clauses
 unconverted_number w _ _ = ((tt, refl), λ _ _ _ _ _. one w (λ p q. (same p q, refl)))
 

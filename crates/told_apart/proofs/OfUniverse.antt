@@ -5,6 +5,7 @@ use Rattle.universe.specs.contracts as universe
 use Rattle.told_apart.specs.Answers.{TellsApart}
 use Rattle.told_apart.proofs.Alike.{same, one}
 use Rattle.universe.proofs.Telling.{told-injective}
+use Rattle.universe.proofs.Acceptance.{accepted-injective}
 use Rattle.told_apart.proofs.Told.{room-read}
 
 pub universe_check : (w : World) → TellsApart w universe.Universe.check.ended universe.Universe.check.clauses
@@ -39,6 +40,27 @@ universe_voxels_left w _ _ = ((tt, refl), λ _ _ _ _ _. one w (λ p q. (same p q
 
 pub universe_without_axis : (w : World) → TellsApart w universe.Universe.without_axis.ended universe.Universe.without_axis.clauses
 universe_without_axis w _ _ = ((tt, refl), λ _ _ _ _ _. one w (λ p q. (same p q, refl)))
+
+pub universe_accepted : (w : World) → TellsApart w universe.Universe.accepted.ended universe.Universe.accepted.clauses
+universe_accepted w _ _ = ((tt, refl), λ _ _ _ _ _. one w (λ p q. (accepted-injective _ _ (same p q), refl)))
+
+pub accepted_levels : (w : World) → TellsApart w universe.accepted.Accepted.levels.ended universe.accepted.Accepted.levels.clauses
+accepted_levels w _ _ = ((tt, refl), λ _ _ _ _ _. one w (λ p q. (same p q, refl)))
+
+pub accepted_frame_axis : (w : World) → TellsApart w universe.accepted.Accepted.frame_axis.ended universe.accepted.Accepted.frame_axis.clauses
+accepted_frame_axis w _ _ = ((tt, refl), λ _ _ _ _ _. one w (λ p q. (same p q, refl)))
+
+pub accepted_frames : (w : World) → TellsApart w universe.accepted.Accepted.frames.ended universe.accepted.Accepted.frames.clauses
+accepted_frames w _ _ = ((tt, refl), λ _ _ _ _ _. one w (λ p q. (same p q, refl)))
+
+pub accepted_side : (w : World) → TellsApart w universe.accepted.Accepted.side.ended universe.accepted.Accepted.side.clauses
+accepted_side w _ _ = ((tt, refl), λ _ _ _ _ _. one w (λ p q. (same p q, refl)))
+
+pub accepted_axes_left : (w : World) → TellsApart w universe.accepted.Accepted.axes_left.ended universe.accepted.Accepted.axes_left.clauses
+accepted_axes_left w _ _ = ((tt, refl), λ _ _ _ _ _. one w (λ p q. (same p q, refl)))
+
+pub accepted_room : (w : World) → TellsApart w universe.accepted.Accepted.room.ended universe.accepted.Accepted.room.clauses
+accepted_room w _ _ = ((tt, refl), λ _ _ _ _ _. one w (λ p q. (same p q, refl)))
 
 pub block_low_half : (w : World) → TellsApart w universe.Block.low_half.ended universe.Block.low_half.clauses
 block_low_half w _ _ = ((tt, refl), λ _ _ _ _ _. one w (λ p q. (same p q, refl)))

@@ -13,10 +13,9 @@ use Rattle.lemmas.proofs.Grid.{listed_length, listed_at, listed_same, listed_con
 use Rattle.universe.specs.declared.Universe.{Universe}
 use Rattle.universe.specs.Rounds.{round, rounds}
 use Rattle.universe.specs.Universe.{most_levels, universe_refusal, bits_along, levels, order, axis_at}
-use Rattle.universe.specs.Questions.{levels_answer, axes_left}
+use Rattle.universe.specs.Questions.{axes_left}
 use Rattle.universe.proofs.Orders.{round_behind, round_passed, laid_before, Begins, rounds_begin, rounds_alike, order_long}
 use Rattle.universe.proofs.Universes.{accepted, bits_most, bits_within, levels_few}
-use Rattle.universe.proofs.Checked.{err_refuses}
 use Rattle.universe.proofs.Questions.{levels_refused, levels_told}
 use Rattle.universe.proofs.Blocks.{zero_low}
 
@@ -60,14 +59,14 @@ entry_behind (y ∷ front) rest x = entry_behind front rest x
 
 -- ---- the table
 
-pub laying_first : (u : Universe) {left : ℕ} → universe_refusal u ≡ 0 → left ≡ levels_answer u → Laying u (replicate most_levels 0) left 0 0
+pub laying_first : (u : Universe) {left : ℕ} → universe_refusal u ≡ 0 → left ≡ levels u → Laying u (replicate most_levels 0) left 0 0
 unfolding rounds round
 laying_first u z f = record {
   good = z;
   axis_in = omega arith;
   long = refl;
-  laid = omega (arith, levels_told u refl z f);
-  stands = λ n h k. absurd (omega (arith, levels_told u refl z f));
+  laid = omega arith;
+  stands = λ n h k. absurd (omega arith);
   beyond = λ n h. zero_low most_levels n;
 }
 
@@ -172,4 +171,4 @@ laying_refused u n =
     sym (listed_same most_levels 0)
     ∙ listed_cong most_levels _ _ (λ k h. rw (← levels_refused u refl n, le-ltb k 0 (omega arith)))
 
-pub ruleset laying = (laying_refused, place_few, err_refuses)
+pub ruleset laying = (place_few, laying_refused)

@@ -18,11 +18,11 @@ use Rattle.lemmas.specs.Sums.{sum, product}
 use Rattle.lemmas.proofs.Sums.{top, product_cong, product_mono, product_positive, product_power}
 use Rattle.universe.specs.declared.Universe.{Universe}
 use Rattle.universe.specs.Universe.{most_axes, most_frame_bits, most_levels, longest_side, universe_refusal, levels, axis_at, halvings, blocks_along}
-use Rattle.universe.specs.Questions.{levels_answer, axes_left}
+use Rattle.universe.specs.Questions.{axes_left}
 use Rattle.universe.specs.Room.{blocks_at, inner_blocks_at, count_of, level_count, room, FewBlocks}
 use Rattle.universe.proofs.Universes.{accepted, levels_few, bits_few, axis_below, halvings_most, sum_longer}
 use Rattle.universe.proofs.Universes.{blocks_positive, blocks_first, blocks_doubled, blocks_kept}
-use Rattle.universe.proofs.Questions.{levels_told, axes_left_at}
+use Rattle.universe.proofs.Questions.{axes_left_at}
 use Rattle.universe.proofs.Rooms.{room_small}
 
 -- ---- products
@@ -73,11 +73,10 @@ pub record Counted (u : Universe) (leaves balls : ℕ) (axes blocks : List ℕ) 
   pub along : (i : ℕ) → i < u.axes → get_or blocks i 0 ≡ blocks_along u (levels u - left) i
   pub so_far : found ≡ sum (levels u - left) (level_count u leaves balls)
 
-pub counted_first : (u : Universe) (leaves balls : ℕ) {axes : List ℕ} {left : ℕ} → universe_refusal u ≡ 0 → axes ≡ axes_left u → left ≡ levels_answer u
+pub counted_first : (u : Universe) (leaves balls : ℕ) {axes : List ℕ} {left : ℕ} → universe_refusal u ≡ 0 → axes ≡ axes_left u → left ≡ levels u
     → Counted u leaves balls axes (replicate most_axes 1) 0 left
 unfolding sum
-counted_first u leaves balls {axes} {left} e f g =
-    let all : left ≡ levels u = levels_told u refl e g in
+counted_first u leaves balls {axes} {left} e f all =
     let none : levels u - left ≡ 0 = omega arith in
     record {
       good = e;
@@ -198,7 +197,7 @@ module _ {u : Universe} {leaves balls : ℕ} {axes blocks : List ℕ} {found lef
     pub more_fits : {count : ℕ} → count ≡ count_of leaves balls all inner → 0 < left → Fits w64 (found + count)
     more_fits c h = omega (arith, found_few (counted_next c h))
 
--- all that `room_accepted` asks
+-- all that `Accepted::room` asks
 pub ruleset counting = (
   rules,
   counted_first,

@@ -11,6 +11,7 @@ pub mod EqualBits
 pub mod Without
 pub mod Questions
 pub mod Laying
+pub mod Acceptance
 pub mod Multiples
 pub mod Blocks
 pub mod Voxel

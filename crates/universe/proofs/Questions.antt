@@ -1,7 +1,7 @@
 -- What the universe's questions answer, by whether the universe is accepted and the axis or level is there; and that each answer is as small as the
 -- limits say.
 use Prim.Native.Nat.{ℕ, suc, ◌-◌, ◌^◌, ◌≤◌, ◌<◌}
-use mathlib.Core.Path.{◌≡◌, refl, sym, ◌∙◌}
+use mathlib.Core.Path.{◌≡◌, refl, ◌∙◌}
 use mathlib.Core.Bool.{Bool, true, false, cond, ◌&&◌}
 use native.Mathlib.Omega.{arith}
 use native.Mathlib.Decide.{ℕ_discrete}
@@ -30,6 +30,10 @@ module _ (u : Universe) {number : ℕ} (e : number ≡ universe_refusal u) where
     pub levels_refused : 0 ≡ levels_answer u
     unfolding levels_answer
     levels_refused = rw refused
+
+    pub side_refused : (i : ℕ) → 0 ≡ side_answer u i
+    unfolding side_answer
+    side_refused i = rw refused
 
   -- an accepted one
   module _ (z : number ≡ 0) where
@@ -63,14 +67,11 @@ levels_answered u = go (ℕ_discrete (universe_refusal u) 0)
     go (no n) = rw (ne_eqb (universe_refusal u) 0 n) (omega arith)
 
 -- what the code of the questions asks: what a check told, the bits of the axes added up, and a shift by few bits
-pub levels_summed : (u : Universe) {found : ℕ} → found ≡ sum u.axes (bits_along u) → universe_refusal u ≡ 0 → found ≡ levels_answer u
+pub levels_summed : (u : Universe) {found : ℕ} → found ≡ sum u.axes (bits_along u) → found ≡ levels u
 unfolding levels
-levels_summed u e z = e ∙ sym (levels_are u refl z)
+levels_summed u e = e
 
-pub levels_none : (u : Universe) → (universe_refusal u ≡ 0 → ⊥) → 0 ≡ levels_answer u
-levels_none u n = levels_refused u refl n
-
-pub ruleset asked = (err_accepts, err_refuses, levels_summed, levels_none, levels_fit, shifts_by, shifted_one)
+pub ruleset asked = (err_accepts, err_refuses, levels_summed, levels_fit, shifts_by, shifted_one)
 
 -- ---- the axes by levels left
 

@@ -5,6 +5,7 @@ pub mod Lent
 pub mod Rounds
 pub mod Universe
 pub mod Questions
+pub mod Accepting
 pub mod Block
 pub mod Voxel
 pub mod Room

@@ -1,6 +1,7 @@
 // The universe of space and time, and its blocks.
 #![tactic(auto)]
 
+mod accepted;
 mod order;
 mod refusal;
 mod room;
@@ -11,6 +12,7 @@ ghost use Rattle.universe.specs.Told.{number_told};
 ghost use Rattle.universe.specs.Voxel.{window_refusal};
 ghost use Rattle.universe.specs.Block.{whole_block, axis_of, placed_along, is_given, low_half, high_half, both_halves};
 
+pub use accepted::Accepted;
 pub use refusal::{Refusal, Unwritten};
 
 // Axes, the bits of each but the last, and those of the last, which counts frames: any numbers; `check` says whether
@@ -117,6 +119,8 @@ impl Universe {
     }
 
     // The length of a block of a level along an axis: twice as long for each halving of the axis that is still to come.
+    // Like a block it has any universe and asks that it is accepted: a block's fields are public (what may not change),
+    // and an `Accepted` beside the block would have to be shown to be its own.
     fn block_side(self, level: u64, axis: u64) -> u64
         requires self_value { universe_refusal self ≡ 0 }
         requires level_bound { level ≤ levels self }

@@ -1,13 +1,75 @@
 // The universe's shape, asked: how many levels, how long a side is, the axis of each level, the voxels of a block, the
-// universe without an axis. Where there is nothing to tell the answer is 0, and no `None`: rule 1.8 says so, and C asks
-// the same.
+// universe without an axis. An accepted universe is asked with no check. Where any other has nothing to tell the answer
+// is 0, and no `None`: rule 1.8 says so, and C asks the same.
 ghost use Rattle.std.specs.Prelude.{◌≡◌, true, cond, ◌-◌, ◌<◌, leb};
 ghost use Rattle.universe.specs.Rounds.{axis_before};
-ghost use Rattle.universe.specs.Universe.{bits_along};
+ghost use Rattle.universe.specs.Universe.{bits_along, levels, frame_axis, frame_count};
 ghost use Rattle.universe.specs.Questions.{levels_answer, bits_answer, side_answer, axes_left, voxels_left};
 ghost use Rattle.universe.specs.Questions.{is_one_of, without_answer};
+ghost use Rattle.universe.specs.Accepting.{side_or_none};
 
-use crate::Universe;
+use crate::{Accepted, Universe};
+
+impl Accepted {
+    // How many levels of halving there are.
+    #[tactic(auto, using(crate::proofs::Questions::asked), unfolding(lemmas::specs::Sums::sum))]
+    pub fn levels(self) -> u64
+        ensures { result ≡ levels self.universe }
+    {
+        let mut levels = 0;
+        for axis in 0..self.universe.axes {
+            levels += self.universe.axis_bits(axis);
+        }
+        levels
+    }
+
+    // The axis that counts frames, which is the last.
+    #[tactic(auto, using(crate::proofs::Acceptance::accepting))]
+    pub fn frame_axis(self) -> u64
+        ensures { result ≡ frame_axis self.universe }
+    {
+        self.universe.axes - 1
+    }
+
+    // How many frames there are.
+    #[tactic(auto, using(crate::proofs::Acceptance::accepting))]
+    pub fn frames(self) -> u64
+        ensures { result ≡ frame_count self.universe }
+    {
+        1 << self.universe.frame_bits
+    }
+
+    // How long it is along an axis, where it has such an axis.
+    #[tactic(auto, using(crate::proofs::Questions::asked))]
+    pub fn side(self, axis: u64) -> Option<u64>
+        ensures { result ≡ side_or_none self.universe axis }
+    {
+        if self.universe.axes <= axis {
+            return None;
+        }
+        Some(1 << self.universe.axis_bits(axis))
+    }
+
+    // The axes that the levels halve, the last level first: at place n that of a block with n + 1 levels left. Past the
+    // levels stand zeros. Each round goes over the axes with bits left.
+    #[tactic(auto, using(crate::proofs::Laying::laying))]
+    pub fn axes_left(self) -> [usize; Universe::MOST_LEVELS as usize]
+        ensures { result ≡ axes_left self.universe }
+    {
+        let universe = self.universe;
+        let mut axes = [0usize; Universe::MOST_LEVELS as usize];
+        let mut left = self.levels() as usize;
+        for round in 0..universe.bits.max(universe.frame_bits) {
+            for axis in 0..universe.axes {
+                if round < universe.axis_bits(axis) {
+                    left -= 1;
+                    axes[left] = axis as usize;
+                }
+            }
+        }
+        axes
+    }
+}
 
 impl Universe {
     // The bits of an axis, below the universe's axes: no other code says how many an axis has.
@@ -24,18 +86,13 @@ impl Universe {
     }
 
     // How many levels of halving there are; 0 where the universe is refused.
-    #[tactic(auto, using(crate::proofs::Questions::asked), unfolding(lemmas::specs::Sums::sum))]
     pub fn levels(self) -> u64
         ensures { result ≡ levels_answer self }
     {
-        if self.check().is_err() {
-            return 0;
+        match self.accepted() {
+            Ok(accepted) => accepted.levels(),
+            Err(_) => 0,
         }
-        let mut levels = 0;
-        for axis in 0..self.axes {
-            levels += self.axis_bits(axis);
-        }
-        levels
     }
 
     // How many bits an axis has; 0 where the universe is refused or has no such axis.
@@ -50,36 +107,24 @@ impl Universe {
     }
 
     // How long the universe is along an axis; 0 where it is refused or has no such axis.
-    #[tactic(auto, using(crate::proofs::Questions::asked), unfolding(crate::specs::Questions::side_answer))]
     pub fn side(self, axis: u64) -> u64
         ensures { result ≡ side_answer self axis }
     {
-        if self.check().is_err() || self.axes <= axis {
-            return 0;
+        match self.accepted() {
+            Ok(accepted) => accepted.side(axis).unwrap_or(0),
+            Err(_) => 0,
         }
-        1u64 << self.axis_bits(axis)
     }
 
-    // The axes that the levels halve, the last level first: at place n that of a block with n + 1 levels left. Past the
-    // levels stand zeros, and nothing else where the universe is refused. Each round goes over the axes with bits left.
-    #[tactic(auto, using(crate::proofs::Laying::laying))]
+    // The axes that the levels halve, the last level first, as an accepted universe has them; where it is refused,
+    // zeros.
     pub fn axes_left(self) -> [usize; Universe::MOST_LEVELS as usize]
         ensures { result ≡ axes_left self }
     {
-        let mut axes = [0usize; Universe::MOST_LEVELS as usize];
-        if self.check().is_err() {
-            return axes;
+        match self.accepted() {
+            Ok(accepted) => accepted.axes_left(),
+            Err(_) => [0; Universe::MOST_LEVELS as usize],
         }
-        let mut left = self.levels() as usize;
-        for round in 0..self.bits.max(self.frame_bits) {
-            for axis in 0..self.axes {
-                if round < self.axis_bits(axis) {
-                    left -= 1;
-                    axes[left] = axis as usize;
-                }
-            }
-        }
-        axes
     }
 
     // How many voxels a block with so many levels left has; 0 past the most levels.

@@ -1,11 +1,10 @@
 // The room question: how many symbols an expression takes at the most.
 ghost use Rattle.std.specs.Prelude.{◌≡◌, ◌-◌, ◌≤◌, ◌<◌, get_or};
 ghost use Rattle.lemmas.specs.Sums.{product};
-ghost use Rattle.universe.specs.Universe.{universe_refusal};
 ghost use Rattle.universe.specs.Told.{room_told};
 ghost use Rattle.universe.specs.Room.{count_of, room, room_answer, FewBlocks};
 
-use crate::{Refusal, Universe};
+use crate::{Accepted, Refusal, Universe};
 
 // The product over the axes of the blocks along each, less 0 or 1.
 #[tactic(auto, unfolding(lemmas::specs::Sums::product))]
@@ -36,31 +35,30 @@ fn level_count(leaves: u64, balls: u64, all: u64, inner: u64) -> u64
     }
 }
 
-// Room in a universe that is not refused, level by level: the blocks along each axis are doubled in turn.
-fn room_accepted(universe: Universe, leaves: u64, balls: u64) -> u64
-    requires { universe_refusal universe ≡ 0 }
-    ensures { result ≡ room universe leaves balls }
-{
-    let axes = universe.axes_left();
-    let mut blocks = [1u64; Universe::MOST_AXES as usize];
-    let mut sum: u64 = 0;
-    for left in (0..universe.levels() as usize).rev() {
-        let all = product_less(universe.axes as usize, blocks, 0);
-        let inner = product_less(universe.axes as usize, blocks, 1);
-        sum += level_count(leaves, balls, all, inner);
-        blocks[axes[left]] *= 2;
+impl Accepted {
+    // How many symbols an expression takes at the most, for so many words that name a halfspace and so many that name a
+    // ball (rules 4.7 and 4.14): level by level, the blocks along each axis doubled in turn.
+    pub fn room(self, leaves: u64, balls: u64) -> u64
+        ensures { result ≡ room self.universe leaves balls }
+    {
+        let axes = self.axes_left();
+        let mut blocks = [1u64; Universe::MOST_AXES as usize];
+        let mut sum: u64 = 0;
+        for left in (0..self.levels() as usize).rev() {
+            let all = product_less(self.universe.axes as usize, blocks, 0);
+            let inner = product_less(self.universe.axes as usize, blocks, 1);
+            sum += level_count(leaves, balls, all, inner);
+            blocks[axes[left]] *= 2;
+        }
+        1 + 2 * sum
     }
-    1 + 2 * sum
 }
 
 impl Universe {
-    // How many symbols an expression takes at the most, for so many words that name a halfspace and so many that name a
-    // ball (rules 4.7 and 4.14).
-    #[tactic(auto, unfolding(crate::specs::Room::room_answer))]
+    // Room in an accepted universe; refused where it is refused.
     pub fn room(self, leaves: u64, balls: u64) -> Result<u64, Refusal>
         ensures { room_told result ≡ room_answer self leaves balls }
     {
-        self.check()?;
-        Ok(room_accepted(self, leaves, balls))
+        Ok(self.accepted()?.room(leaves, balls))
     }
 }

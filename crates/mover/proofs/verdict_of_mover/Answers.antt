@@ -6,19 +6,16 @@ use Rattle.mover.proofs.Answers.{room_asks, room_enough, room_needed, ends_fitti
 use Rattle.mover.proofs.verdict_of_mover.Goals as goal
 use Rattle.mover.proofs.verdict_of_mover.Goals.{Joined-not-has_room, then-not-has_room+else-out-need, else-not-has_room}
 
-pub has_room-requires-clause-universe_value : goal.has_room-requires-clause-universe_value
-has_room-requires-clause-universe_value c = (room_asks c.in_ok-check.ensures.ready).0
-
-pub has_room-requires-clause-words_len_bound : goal.has_room-requires-clause-words_len_bound
-has_room-requires-clause-words_len_bound c = (room_asks c.in_ok-check.ensures.ready).1
+pub has_room-requires : goal.has_room-requires
+has_room-requires c = room_asks c.in_ok-accepted.ensures.ready
 
 fits : (c : Joined-not-has_room) → Fits c.args.universe (mover_of c.args.size c.args.moments.now c.args.corners.now)
     (surfaces_of c.args.rows.now c.args.balls.now) c.args.words.now c.args.out.now
 fits c =
-    let ready = c.in_ok-check.ensures.ready in
+    let ready = c.in_ok-accepted.ensures.ready in
     elim c.if-not-has_room.branch [
       | then-not-has_room+else-out-need w ↦ room_needed ready w.largest_need-need.ensures w.if-out-need.false
-      | else-not-has_room w ↦ room_enough ready c.has_room.ensures w.if-not-has_room.false
+      | else-not-has_room w ↦ room_enough ready c.in_ok-accepted.ensures.same c.has_room.ensures w.if-not-has_room.false
     ]
 
 pub judge_all-requires : goal.judge_all-requires

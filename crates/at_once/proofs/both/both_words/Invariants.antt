@@ -1,5 +1,4 @@
 -- `both_words` reads node by node over the words pending of both halves (`Going`, twice): an operator joins the two last, a leaf is pushed.
-use Prim.Native.Nat.{◌≤◌}
 use Rattle.csg.specs.Surfaces.{surfaces_of}
 use Rattle.at_once.specs.Words.{TreesWord}
 use Rattle.at_once.specs.Both.{places_along}

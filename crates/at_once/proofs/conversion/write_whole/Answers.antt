@@ -4,10 +4,10 @@ use Rattle.at_once.proofs.Conversions.{both_job, whole_place, whole_values, whol
 use Rattle.at_once.proofs.conversion.write_whole.Goals as goal
 
 pub load_both-requires : goal.load_both-requires
-load_both-requires c = both_job c.requires shelf_long
+load_both-requires g c = both_job c.requires shelf_long
 
 pub write_block-requires : goal.write_block-requires
-write_block-requires c =
+write_block-requires g c =
     let loaded = c.load_both.ensures (both_job c.requires shelf_long) in
     record {
       fact = whole_job c.requires c.levels.ensures shelf_long c.lengths_of-lengths.ensures c.whole_sides-side.ensures loaded;
@@ -17,7 +17,7 @@ write_block-requires c =
     }
 
 pub returns : goal.returns
-returns c =
+returns g c =
     let loaded = c.load_both.ensures (both_job c.requires shelf_long) in
     let job = whole_job c.requires c.levels.ensures shelf_long c.lengths_of-lengths.ensures c.whole_sides-side.ensures loaded in
     let w = whole_written c.requires c.levels.ensures shelf_long c.lengths_of-lengths.ensures c.whole_sides-side.ensures loaded _ (c.write_block.ensures job) in

@@ -15,7 +15,8 @@ extremes_of_row-ends-requires c =
 pub returns-then-is_row_side : goal.returns-then-is_row_side
 returns-then-is_row_side c =
     let e = sym c.is_row_side.ensures ∙ c.if-is_row_side.true in
-    λ j. row_judged j e c.row_of.ensures c.requires.value_of c.requires.times_value c.extremes_of_row-ends.ensures c.side_code.ensures
+    let s = rw c.is_turned.ensures at c.side_code.ensures in
+    λ j. row_judged j e c.row_of.ensures c.requires.value_of c.requires.times_value c.extremes_of_row-ends.ensures s
 
 pub returns-then-code-eq0 : goal.returns-then-code-eq0
 returns-then-code-eq0 c = λ j. white_judged j c.if-code-eq0.true

@@ -1,8 +1,6 @@
 -- `begin` goes code by code: the rows that the codes so far name have their offsets.
-use Prim.Native.Nat.{ℕ}
-use mathlib.Core.Path.{◌≡◌, sym, ◌∙◌, subst}
+use mathlib.Core.Path.{◌≡◌, sym, ◌∙◌}
 use native.Mathlib.Omega.{arith}
-use Rattle.at_once.specs.Moves.{Begun}
 use Rattle.at_once.proofs.Rounds.{none_begun, still_begun, row_here, row_below, more_begun}
 use Rattle.at_once.proofs.moves.begin.Lts.{then-is_row_side, else-is_row_side}
 use Rattle.at_once.proofs.moves.begin.Goals as goal

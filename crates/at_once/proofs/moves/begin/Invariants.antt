@@ -1,5 +1,4 @@
 -- `begin` goes code by code: the rows that the codes so far name have their offsets.
-use Prim.Native.Nat.{◌≤◌}
 use Rattle.at_once.specs.Moves.{Begun}
 use Rattle.at_once.proofs.moves.begin.Given as goal
 

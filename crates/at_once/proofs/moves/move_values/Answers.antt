@@ -1,8 +1,7 @@
 -- `move_values` goes code by code: exactly the rows that the codes so far name have moved.
-use Prim.Native.Nat.{ℕ, ◌-◌}
-use mathlib.Core.Path.{◌≡◌, sym, ◌∙◌, subst}
+use Prim.Native.Nat.{◌-◌}
+use mathlib.Core.Path.{◌≡◌, sym, ◌∙◌}
 use native.Mathlib.Omega.{arith}
-use Rattle.at_once.specs.Moves.{Moved}
 use Rattle.at_once.proofs.Rounds.{none_moved, no_side_more, side_job, side_more}
 use Rattle.at_once.proofs.moves.move_values.Lts.{then-is_row_side, else-is_row_side}
 use Rattle.at_once.proofs.moves.move_values.Goals as goal

@@ -1,5 +1,5 @@
 -- `move_values` goes code by code: exactly the rows that the codes so far name have moved.
-use Prim.Native.Nat.{◌+◌, ◌-◌, ◌≤◌}
+use Prim.Native.Nat.{◌-◌}
 use Rattle.at_once.specs.Moves.{Moved}
 use Rattle.at_once.proofs.moves.move_values.Given as goal
 

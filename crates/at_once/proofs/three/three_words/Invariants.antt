@@ -1,5 +1,4 @@
 -- `three_words` reads node by node over the words pending (`GoingThree`): an operator joins the two last, a leaf is pushed.
-use Prim.Native.Nat.{◌≤◌}
 use Rattle.csg.specs.Surfaces.{surfaces_of}
 use Rattle.at_once.specs.Words.{TreesWord}
 use Rattle.at_once.proofs.OwnLeaves.{GoingThree}

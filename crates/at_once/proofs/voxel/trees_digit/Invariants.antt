@@ -1,5 +1,4 @@
 -- `trees_digit` reads node by node over the digits pending (`Going`): an operator joins the two last, a leaf is pushed.
-use Prim.Native.Nat.{◌≤◌}
 use Rattle.csg.specs.Surfaces.{surfaces_of}
 use Rattle.at_once.specs.Voxel.{VoxelTrees}
 use Rattle.at_once.proofs.TreeWords.{tree_word, Going}

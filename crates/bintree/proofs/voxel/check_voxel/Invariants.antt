@@ -6,4 +6,4 @@ use Rattle.bintree.proofs.Voxels.{inside_along}
 use Rattle.bintree.proofs.voxel.check_voxel.Given as goal
 
 abbrev pub invariant-loop-axis : goal.invariant-loop-axis
-invariant-loop-axis l = (i : ℕ) → i < l.axis → inside_along l.universe l.fn.voxel i ≡ true
+invariant-loop-axis l = (i : ℕ) → i < l.axis → inside_along l.accepted.universe l.fn.voxel i ≡ true

@@ -3,4 +3,4 @@ use Rattle.bintree.proofs.Frames.{Tabled}
 use Rattle.bintree.proofs.window.frame_bits.Given as goal
 
 abbrev pub invariant-loop-left : goal.invariant-loop-left
-invariant-loop-left l = Tabled l.universe l.table l.left
+invariant-loop-left l = Tabled l.accepted.universe l.table l.left

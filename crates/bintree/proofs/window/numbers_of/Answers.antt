@@ -10,31 +10,28 @@ use Rattle.bintree.specs.Told.{numbers_told}
 use Rattle.bintree.proofs.WindowAnswers.{numbers_refused, numbers_nothing, numbers_rest, numbers_outside, numbers_found}
 use Rattle.bintree.proofs.window.numbers_of.Goals as goal
 
-pub returns-in_err-check : goal.returns-in_err-check
-returns-in_err-check c =
-    let g : ◌≡◌ {A = Result Numbers Refusal} c.from_residual.result (Err c.in_err-check.field-0.0) = search rules in
-    ap numbers_told g ∙ numbers_refused _ _ _ _ _ c.in_err-check.ensures (number-not_zero _)
-
-pub watch-requires : goal.watch-requires
-watch-requires c = sym c.in_ok-check.ensures
+pub returns-in_err-accepted : goal.returns-in_err-accepted
+returns-in_err-accepted c =
+    let g : ◌≡◌ {A = Result Numbers Refusal} c.from_residual.result (Err c.in_err-accepted.field-0.0) = search rules in
+    ap numbers_told g ∙ numbers_refused _ _ _ _ c.in_err-accepted.ensures (number-not_zero _)
 
 pub returns-in_err-seen : goal.returns-in_err-seen
 returns-in_err-seen c =
     let g : ◌≡◌ {A = Result Numbers Refusal} c.from_residual-in_err-seen.result (Err BadExpression) = search rules in
-    ap numbers_told g ∙ numbers_nothing _ _ _ _ _ c.in_ok-check.ensures refl (sym c.in_err-seen.ensures.ok_part ∙ c.watch.ensures)
+    ap numbers_told g ∙ numbers_nothing _ c.in_ok-accepted.accepted _ _ _ c.in_ok-accepted.ensures (sym c.in_err-seen.ensures.ok_part ∙ c.watch.ensures)
 
 pub returns-then-seen-expression : goal.returns-then-seen-expression
 returns-then-seen-expression c =
-    numbers_rest _ _ _ _ _ c.in_ok-check.ensures refl _ (sym c.in_ok-seen.ensures.ok_part ∙ c.watch.ensures) c.if-seen-expression.true
+    numbers_rest _ c.in_ok-accepted.accepted _ _ _ c.in_ok-accepted.ensures _ (sym c.in_ok-seen.ensures.ok_part ∙ c.watch.ensures) c.if-seen-expression.true
 
 pub returns-in_err-check_window : goal.returns-in_err-check_window
 returns-in_err-check_window c =
     let g : ◌≡◌ {A = Result Numbers Refusal} c.from_residual-in_err-check_window.result (Err c.in_err-check_window.field-0.0) = search rules in
     ap numbers_told g
-    ∙ numbers_outside _ _ _ _ _ c.in_ok-check.ensures refl _ (sym c.in_ok-seen.ensures.ok_part ∙ c.watch.ensures) c.if-seen-expression.false _
-    c.in_err-check_window.ensures (number-not_zero _)
+    ∙ numbers_outside _ c.in_ok-accepted.accepted _ _ _ c.in_ok-accepted.ensures _ (sym c.in_ok-seen.ensures.ok_part ∙ c.watch.ensures)
+    c.if-seen-expression.false _ c.in_err-check_window.ensures (number-not_zero _)
 
 pub returns : goal.returns
 returns c =
-    numbers_found _ _ _ _ _ c.in_ok-check.ensures refl _ (sym c.in_ok-seen.ensures.ok_part ∙ c.watch.ensures) c.if-seen-expression.false _
+    numbers_found _ c.in_ok-accepted.accepted _ _ _ c.in_ok-accepted.ensures _ (sym c.in_ok-seen.ensures.ok_part ∙ c.watch.ensures) c.if-seen-expression.false _
     c.in_ok-check_window.ensures refl _ c.verdict_from.ensures

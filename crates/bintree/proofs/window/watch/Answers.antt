@@ -11,7 +11,7 @@ use Rattle.bintree.proofs.window.watch.Goals as goal
 
 pub loop-place-init : goal.loop-place-init
 loop-place-init c =
-    watching_start _ _ _ _ _ _ _ c.requires c.frame_bits-bits.ensures c.later_frames-later.ensures refl c.levels-levels.ensures
+    watching_start _ _ _ _ _ _ _ c.frame_bits-bits.ensures c.later_frames-later.ensures refl c.levels-levels.ensures
     c.no_contact-found.ensures
 
 pub returns-then-levels-eq0 : goal.returns-then-levels-eq0

@@ -7,5 +7,5 @@ use Rattle.bintree.proofs.window.watch.Given as goal
 
 abbrev pub invariant-loop-place : goal.invariant-loop-place
 invariant-loop-place l =
-    Watching l.window l.expression (watched l.window (read_at l.expression (levels l.window.universe) 0)) l.bits l.later l.first_frames l.place
+    Watching l.window l.expression (watched l.window (read_at l.expression (levels l.window.accepted.universe) 0)) l.bits l.later l.first_frames l.place
     l.levels l.from l.owed l.volume l.found

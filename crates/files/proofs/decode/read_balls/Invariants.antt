@@ -1,9 +1,6 @@
--- After i turns the first i places hold the numbers of the balls.
-use Rattle.std.proofs.Common.{◌*◌}
-use Rattle.csg.specs.Ball.{ball_length}
+-- Each place holds the number of a ball.
 use Rattle.files.specs.Numbers.{ball_number}
-use Rattle.files.proofs.Numbers.{Filling}
 use Rattle.files.proofs.decode.read_balls.Given as goal
 
-abbrev pub invariant-loop-i : goal.invariant-loop-i
-invariant-loop-i l = Filling (ball_length * l.count) (ball_number l.bytes l.at) l.initial.number-items l.i l.number-items
+abbrev pub ghost-fill : goal.ghost-fill
+ghost-fill a = ball_number a.read.0.now a.read.1.now

@@ -11,8 +11,8 @@ lay_rows-end-requires-clause-row_length_in_bounds c = stretch_room c.requires.fa
 pub box_words-own-requires : goal.box_words-own-requires
 box_words-own-requires c = stretch_few c.requires.fact
 
-pub overflow_sub-moments : goal.overflow_sub-moments
-overflow_sub-moments c = stretch_later c.requires.fact
+pub overflow_sub-mover : goal.overflow_sub-mover
+overflow_sub-mover c = stretch_later c.requires.fact
 
 pub returns-clause-result_value : goal.returns-clause-result_value
 returns-clause-result_value c =

@@ -16,9 +16,3 @@ lay_sons-sons-requires t c = search sons_laws
 
 pub lay_sons-high-requires : goal.lay_sons-high-requires
 lay_sons-high-requires t c = search sons_laws
-
-pub fill-requires : goal.fill-requires
-fill-requires t c = search sons_laws
-
-pub fill-requires-2 : goal.fill-requires-2
-fill-requires-2 t c = search sons_laws

@@ -7,7 +7,7 @@ overflow_sub-window c = list_axes _ _ _ c.requires
 
 pub loop-at-init : goal.loop-at-init
 loop-at-init c =
-    list_first _ _ _ c.requires _ _ _ _ _ c.axes_left-axes.ensures c.levels-levels.ensures c.bits_along-bits.ensures c.frames_in.ensures c.clear.ensures
+    list_first _ _ _ c.requires _ _ _ _ _ c.axes_left-axes.ensures c.levels-levels.ensures c.bits_along-bits.ensures c.frames.ensures c.clear.ensures
 
 pub fill-at-requires : goal.fill-at-requires
 fill-at-requires c = list_tree _ _ _ _ _ _ _ _ c.loop-at.invariant c.loop-at-test.true
@@ -19,4 +19,4 @@ pub loop-at-preserved : goal.loop-at-preserved
 loop-at-preserved c = list_next _ _ _ _ _ _ _ _ c.loop-at.invariant c.loop-at-test.true _ _ c.fill-at.ensures
 
 pub returns : goal.returns
-returns c = list_done _ _ _ _ _ _ _ _ c.loop-at.invariant _ _ c.frames_in.ensures c.clear.ensures c.loop-at-test.false
+returns c = list_done _ _ _ _ _ _ _ _ c.loop-at.invariant _ _ c.frames.ensures c.clear.ensures c.loop-at-test.false

@@ -2,5 +2,5 @@
 use Rattle.sweep.proofs.Pulls.{Pulling}
 use Rattle.sweep.proofs.places.pull_back.Given as goal
 
-abbrev pub invariant-loop-i : goal.invariant-loop-i
-invariant-loop-i l = Pulling l.expression l.initial.work l.from l.count l.at l.work l.next l.i
+abbrev pub invariant-loop-place : goal.invariant-loop-place
+invariant-loop-place l = Pulling l.expression l.ends l.initial.places l.places l.next l.place-index

@@ -2,5 +2,5 @@
 use Rattle.sweep.proofs.Pushes.{Pushing}
 use Rattle.sweep.proofs.places.push_lows.Given as goal
 
-abbrev pub invariant-loop-i : goal.invariant-loop-i
-invariant-loop-i l = Pushing l.expression l.initial.work l.from l.count l.to l.work l.next l.i
+abbrev pub invariant-loop-place : goal.invariant-loop-place
+invariant-loop-place l = Pushing l.expression l.places l.initial.lows l.lows l.next l.place-index

@@ -1,13 +1,12 @@
 -- `settle` gives what the places come to: one place more at each turn.
-use Rattle.std.proofs.Common.{◌≡◌, ◌+◌, ◌-◌, arith, sym, ◌∙◌}
+use Rattle.std.proofs.Common.{sym, ◌∙◌}
 use Rattle.sweep.proofs.Slots.{settled_end, settled_black, settled_open, settled_other}
 use Rattle.sweep.proofs.places.settle.Goals.{then-symbol-eq40, else-symbol-eq40}
 use Rattle.sweep.proofs.places.settle.Goals as goal
 
 pub returns-then-symbol-eq66 : goal.returns-then-symbol-eq66
 returns-then-symbol-eq66 c =
-    let all : c.args.from + c.args.count - c.args.from ≡ c.args.count = omega arith in
-    rw all (rw all at (sym (settled_black _ _ _ _ c.loop-place-test.true c.if-symbol-eq66.true) ∙ c.loop-place.invariant))
+    sym (settled_black _ _ _ _ c.loop-place-test.true c.if-symbol-eq66.true) ∙ c.loop-place.invariant
 
 pub loop-place-preserved : goal.loop-place-preserved
 loop-place-preserved c =
@@ -19,6 +18,4 @@ loop-place-preserved c =
     ]
 
 pub returns : goal.returns
-returns c =
-    let all : c.args.from + c.args.count - c.args.from ≡ c.args.count = omega arith in
-    rw all at (sym (settled_end _ _ _ _ c.loop-place-test.false) ∙ c.loop-place.invariant)
+returns c = sym (settled_end _ _ _ _ c.loop-place-test.false) ∙ c.loop-place.invariant

@@ -1,7 +1,0 @@
--- Each stretch so far has a step.
-use Rattle.std.proofs.Common.{◌≡◌, ℕ, ◌<◌, true}
-use Rattle.mover.specs.Stretches.{has_step}
-use Rattle.mover.proofs.step.check_steps.Given as goal
-
-abbrev pub invariant-loop-i : goal.invariant-loop-i
-invariant-loop-i l = (k : ℕ) → k < l.i → has_step l.moments l.corners k ≡ true
