@@ -3,15 +3,14 @@
 use mathlib.Core.Logic.{◌⊎◌}
 use mathlib.Core.Path.{◌≡◌, refl, sym, ap, ◌∙◌}
 use mathlib.Core.Bool.{Bool, true, false}
-use mathlib.Core.List.{List, append_assoc}
-use Prim.Native.Nat.{ℕ, suc, ◌+◌, ◌-◌, ◌≤◌, ◌<◌, min}
+use mathlib.Core.List.{List}
+use Prim.Native.Nat.{ℕ, suc, ◌+◌, ◌-◌, ◌≤◌, ◌<◌}
 use native.Mathlib.Decide.{ℕ_discrete}
 use native.Mathlib.Omega.{arith}
 use borrow.Author.Rules.{rules}
 use borrow.Author.Tests.{eq-eqb, ne_eqb}
-use borrow.Rule.Slice.PartMut.{put_mid}
-use lib.ListN.{length, get_or, set, take}
-use lib.Seq.{sets, set_out, sets-eq, length-sets, length-take-le, drop-drop}
+use lib.ListN.{length, get_or, set}
+use lib.Seq.{sets, set_out}
 use Rattle.std.specs.Prelude.{Some, None}
 use Rattle.bintree.specs.declared.Colour.{Colour}
 use Rattle.bintree.specs.declared.Colour.TheVariants.{White, Black}
@@ -23,7 +22,7 @@ use Rattle.bintree.specs.Walks.{leaf_symbol, is_alike, noted, joined_halves, lai
 use Rattle.bintree.proofs.Shape.{length_symbols, size_positive, symbol_not_zero}
 use Rattle.bintree.proofs.Reading.{either_colour, leaf_at, other_at, end_at, deep_at, low_missing, high_missing, both_read}
 use Rattle.bintree.proofs.Merging.{Joined, one, two, joined, join_apart, merged_size}
-use Rattle.lemmas.proofs.Stores.{set_sets, sets_append, copying_end}
+use Rattle.lemmas.proofs.Stores.{set_sets, sets_append}
 
 -- ---- `is_alike`, `note` and `join_halves`
 
@@ -50,28 +49,6 @@ unfolding joined_halves
 halves_joined o o₁ o₂ o₃ t x d y e f g = rw (g, f, e)
 
 pub ruleset note_laws = (rules, noted_none, noted_some, noted_past, noted_beyond, halves_joined)
-
--- ---- `copy`
-
--- as many as there is room for, put in at once
-pub copied :
-    (from before now : List ℕ) (at count : ℕ) → at < length before → count ≡ min (length from) (length before - at) → now ≡ take count from →
-    put_mid at (at + count - at) before now ≡ sets before at from
-copied from before now at count h e f =
-    let d : at + count - at ≡ count = omega arith in
-    let l : length (take count from) ≡ count = length-take-le count from (omega arith) in
-    let put : put_mid at count before (take count from) ≡ sets before at (take count from) =
-    rw (drop-drop count at before, ← append_assoc) (rw l at (sym (sets-eq (take count from) before at (omega arith)))) in
-    let same : put_mid at (at + count - at) before now ≡ sets before at (take count from) = rw (d, f) put in
-    copying_end from before at count count _
-    (record {
-      start = h;
-      fitting = e;
-      few = omega arith;
-      same = same;
-      long = ap length same ∙ length-sets before at (take count from);
-    })
-    (omega arith)
 
 -- ---- a leaf's symbol, and the merged shape of two parts by theirs
 

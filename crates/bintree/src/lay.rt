@@ -59,13 +59,16 @@ pub fn join_halves(out: &mut [u8], to: usize, low: u8, middle: usize, high: u8)
     note(out, middle, high);
 }
 
-// Copies symbols to a place, as far as there is room.
+// Copies symbols to a place, as far as there is room: one by one, since `copy_from_slice` would have the archive for C
+// need `memmove` of its host.
 pub fn copy(symbols: &[u8], out: &mut [u8], at: usize)
     ensures { out.new ≡ sets out.old at symbols.now }
 {
     if at < out.len() {
         let count = symbols.len().min(out.len() - at);
-        out[at..at + count].copy_from_slice(&symbols[..count]);
+        for i in 0..count {
+            out[at + i] = symbols[i];
+        }
     }
 }
 

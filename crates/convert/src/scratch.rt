@@ -16,8 +16,7 @@ pub(crate) const SHORT: usize = 4096;
 // Scratch room for where more is lent; a longer expression is laid twice.
 pub const MOST_SCRATCH: usize = 32_768;
 
-// The expression is written into scratch room of so many symbols first, and again only where it is longer. Each size has
-// a function of its own, since a function pays at entry for the size of its locals.
+// The expression is written into scratch room of so many symbols first, and again only where it is longer.
 pub(crate) fn in_scratch<const ROOM: usize>(
     universe: Universe,
     rows: &[i64],

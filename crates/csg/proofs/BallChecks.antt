@@ -1,20 +1,24 @@
 -- What the check of balls cites: a ball is within its limits where its radius is and then each number of its centre; so is the k-th of the balls where its
 -- chunk is.
-use Prim.Native.Nat.{ℕ, ◌+◌, ◌*◌, ◌%◌, ◌<◌}
+use Prim.Native.Nat.{ℕ, ◌+◌, ◌*◌, ◌%◌, ◌≤◌, ◌<◌}
 use native.Mathlib.Omega.{arith}
 use mathlib.Core.Path.{◌≡◌, refl, ap, ap₂, ◌∙◌}
 use mathlib.Core.Bool.{Bool, true, false, ◌&&◌}
 use mathlib.Core.List.{List}
 use lib.ListN.{length, get_or}
-use lib.Dec.{leb}
+use lib.Dec.{leb, ltb}
 use lib.IntN.{ℤ, pos, nat_abs}
-use borrow.Author.Tests.{lt-leb}
+use borrow.Author.Tests.{lt-leb, le-ltb}
 use Rattle.lemmas.specs.Sums.{every}
 use Rattle.lemmas.proofs.Chains.{chunk, every_cong}
 use Rattle.universe.specs.declared.Universe.{Universe}
 use Rattle.universe.specs.Refusals.{bad_rows}
-use Rattle.csg.specs.Ball.{most_places, most_balls, ball_length, ball_count, ball_at, centre_limit_along, radius_within, ball_within, balls_refusal}
+use Rattle.csg.specs.Ball.{place_axes, most_places, most_balls, ball_length, ball_count, ball_at, centre_limit_along, radius_within, ball_within, balls_refusal}
 use Rattle.csg.proofs.Limits.{number_at}
+
+-- the last axis is no place axis: a ball's centre has no number along it
+pub no_place : (u : Universe) (axis : ℕ) → u.axes ≤ axis + 1 → ltb axis (place_axes u) ≡ false
+no_place u axis h = le-ltb axis (place_axes u) (omega arith)
 
 -- whether an axis's number of the centre is within its limit, of a ball that is there alone
 abbrev pub centre_within : Universe → List ℤ → ℕ → Bool

@@ -4,11 +4,9 @@ use Prim.Native.Nat.{ℕ, zero, suc, ◌+◌, ◌-◌, ◌≤◌, ◌<◌}
 use native.Mathlib.Omega.{arith}
 use native.Mathlib.Numerals.{add-one, sub-one}
 use mathlib.Core.Path.{◌≡◌, refl, sym, ap, ◌∙◌}
-use mathlib.Core.Bool.{true, false, cond}
+use mathlib.Core.Bool.{true, false}
 use mathlib.Core.List.{List, [], ◌∷◌}
 use lib.ListN.{length, get_or, drop, replicate, length-replicate, drop_of_length-le}
-use Rattle.std.specs.List.{count_by}
-use Rattle.std.proofs.lemmas.List.Sums.{sum_by-cons}
 use borrow.Author.Tests.{le-ltb}
 use Rattle.universe.specs.Refusals.{bad_tree, overfull_tree}
 use Rattle.csg.specs.Surfaces.{Named}
@@ -97,9 +95,29 @@ module _ {names : Named} {ws : List ℕ} {n i : ℕ} (m : Counting names ws n i)
         by (suc zero) f = absurd (omega arith)
         by (suc (suc k)) f = rw sub-one (ap outcome_refusal (on_operator blank_leaf blank_node names _ _ (tt {0}) (tt {0}) (blanks k) o))
 
--- the count of the words among those
-pub count_told : (first most : ℕ) (ws : List ℕ) → count_by (λ w. is_among first most w) ws ≡ count_words first most ws
-unfolding count_words
-count_told first most [] = refl
-count_told first most (w ∷ ws) =
-    sum_by-cons (λ x. cond (is_among first most x) 1 0) w ws ∙ ap (λ n. cond (is_among first most w) 1 0 + n) (count_told first most ws)
+-- the count of the words among those: i words are read, and n of them were
+pub record NamesSofar (first most : ℕ) (ws : List ℕ) (n i : ℕ) : Type 0 where
+  pub read : i ≤ length ws
+  pub few : n ≤ i
+  pub same : count_words first most ws ≡ n + count_words first most (drop i ws)
+
+pub names_start : (first most : ℕ) (ws : List ℕ) → NamesSofar first most ws 0 0
+names_start first most ws = record { read = omega arith; few = omega arith; same = omega arith }
+
+module _ {first most : ℕ} {ws : List ℕ} {n i : ℕ} (m : NamesSofar first most ws n i) where
+  pub names_end : length ws ≤ i → n ≡ count_words first most ws
+  unfolding count_words
+  names_end h = omega (arith, m.same, ap (count_words first most) (drop_of_length-le ws {i = i} h))
+
+  module _ (h : i < length ws) where
+    pub names_more : is_among first most (get_or ws i 0) ≡ true → NamesSofar first most ws (n + 1) (i + 1)
+    unfolding count_words
+    names_more t =
+        let e = rw (ap (count_words first most) (next ws i h), t) at m.same in
+        record { read = omega arith; few = omega (arith, m.few); same = omega arith }
+
+    pub names_same : is_among first most (get_or ws i 0) ≡ false → NamesSofar first most ws n (i + 1)
+    unfolding count_words
+    names_same t =
+        let e = rw (ap (count_words first most) (next ws i h), t) at m.same in
+        record { read = omega arith; few = omega (arith, m.few); same = omega arith }

@@ -158,14 +158,16 @@ pub fn check_tree(rows: u64, balls: u64, words: &[u16]) -> Result<(), Refusal>
 }
 
 // How many of the words are among so many from the first on.
-#[tactic(auto, using(crate::proofs::Checking::count_told))]
 fn count_words(first: u16, most: usize, words: &[u16]) -> u64
     ensures { result ≡ count_words first most words.now }
 {
-    words
-        .iter()
-        .filter(|word| is_among(first, most, **word))
-        .count() as u64
+    let mut count = 0;
+    for word in words {
+        if is_among(first, most, *word) {
+            count += 1;
+        }
+    }
+    count
 }
 
 // How many of the words name a halfspace.

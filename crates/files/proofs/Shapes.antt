@@ -6,12 +6,11 @@ use mathlib.Core.Path.{◌≡◌, refl, sym, ap, ◌∙◌}
 use mathlib.Core.Bool.{Bool, true, false, cond, ◌&&◌}
 use mathlib.Core.List.{List, ◌++◌}
 use lib.Dec.{eqb}
-use lib.ListN.{length, take, drop, length-append, length-drop}
-use lib.Seq.{length-take-le, take_at, drop_at}
-use borrow.Rule.Slice.PartMut.{put_mid}
-use Rattle.std.proofs.lemmas.List.{append_assoc, drop-drop}
+use lib.ListN.{length, drop, length-append, length-drop}
+use lib.Seq.{sets, length-take-le}
 use borrow.Author.Tests.{le-leb, lt-leb, ne_eqb, eqb-true}
 use Rattle.lemmas.proofs.Sums.{and_left, and_right}
+use Rattle.lemmas.proofs.Stores.{sets_first, sets_append}
 use Rattle.universe.specs.declared.Universe.{Universe}
 use Rattle.universe.specs.Refusals.{first_refusal, no_room}
 use Rattle.universe.specs.Lent.{room_refusal}
@@ -109,17 +108,6 @@ pub ruleset header_laws = (axes_small, bits_small, frame_bits_small)
 
 -- ---- writing: what it answers, and what the room holds afterwards
 
--- a header of twelve bytes that is copied to the front, and what is copied behind it
-stored : (header s out : List ℕ) → length header ≡ 12 →
-    put_mid 12 (12 + length s - 12) (header ++ drop 12 out) s ≡ header ++ s ++ drop (12 + length s) out
-stored header s out e =
-    let k : 12 + length s - 12 ≡ length s = omega arith in
-    rw (k, take_at header (drop 12 out) 12 e, drop_at header (drop 12 out) 12 e, drop-drop) (sym (append_assoc header s (drop (12 + length s) out)))
-
-pub header_room : (out : List ℕ) (u : Universe) (count : ℕ) {header : List ℕ} → header ≡ shape_header_bytes u count → 12 ≤ length out →
-    length (take 12 out) ≡ length header
-header_room out u count e h = length-take-le 12 out h ∙ sym (ap length e)
-
 symbols_checks_lem : (u : Universe) (s : List ℕ) → Left (symbols_refusal u s) (symbols_checks u s)
 unfolding symbols_refusal
 symbols_checks_lem u s = record { same = refl }
@@ -172,14 +160,17 @@ module _ (u : Universe) (s out : List ℕ) where
         write_all =
             written_by_room 0 (rw (le-leb (length s) most_symbols few) (room_enough (length out) (shape_length (length s)) h))
 
-        -- the header stored at the front, and the symbols behind it
-        pub write_leaves : {header : List ℕ} → header ≡ shape_header_bytes u (length s) →
-            put_mid 12 (12 + length s - 12) (header ++ drop 12 out) s ≡ write_buffer u s out
+        -- the header stored from the first place on, and the symbols behind it
+        pub write_leaves : {header front now : List ℕ} → header ≡ shape_header_bytes u (length s) → front ≡ sets out 0 header →
+            now ≡ sets front 12 s → now ≡ write_buffer u s out
         unfolding shape_bytes
-        write_leaves {header} e =
-            stored header s out (ap length e)
-            ∙ ap (λ (l : List ℕ). l ++ s ++ drop (12 + length s) out) e
-            ∙ written (shape_bytes u s) out (sym (ap (λ (w : WrittenAnswer). w.refusal) write_all)) (sym (length-append (shape_header_bytes u (length s)) s))
+        write_leaves k f g =
+            let bytes = shape_header_bytes u (length s) in
+            g
+            ∙ ap (λ (l : List ℕ). sets l 12 s) (f ∙ ap (sets out 0) k)
+            ∙ sets_append bytes s out 0
+            ∙ sets_first (bytes ++ s) out (omega (arith, length-append bytes s))
+            ∙ written (bytes ++ s) out (sym (ap (λ (w : WrittenAnswer). w.refusal) write_all)) refl
 
 pub ruleset write_laws = (
   number-pos,
@@ -236,13 +227,12 @@ module _ (bytes out : List ℕ) where
       pub read_all : h.shape ≡ read_answer bytes out
       read_all = read_by_room 0 (room_enough (length out) h.shape.length l)
 
-      pub read_leaves : {now : List ℕ} → now ≡ symbols_of bytes h ++ drop h.shape.length out → now ≡ read_buffer bytes out
+      pub read_leaves : {now : List ℕ} → now ≡ sets out 0 (symbols_of bytes h) → now ≡ read_buffer bytes out
       read_leaves q =
           let r = left_accepts (shape_checks_lem bytes e) (sym accepts) in
           let room : h.shape.length ≤ length (drop h.place bytes) = omega (arith, symbols_there bytes e, length-drop h.place bytes) in
-          let long : h.shape.length ≡ length (symbols_of bytes h) = sym (length-take-le h.shape.length (drop h.place bytes) room) in
           q
-          ∙ ap (λ (n : ℕ). symbols_of bytes h ++ drop n out) long
+          ∙ sets_first (symbols_of bytes h) out (omega (arith, length-take-le h.shape.length (drop h.place bytes) room))
           ∙ ap (λ (w : List ℕ). w ++ drop (length w) out) (ap (symbols_of bytes) e)
           ∙ written (symbols_of bytes (shape_header bytes)) out (sym (ap (λ (v : ShapeAnswer). v.refusal) read_all) ∙ r) refl
 

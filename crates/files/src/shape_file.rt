@@ -11,7 +11,7 @@ ghost use Rattle.bintree.specs.Told.{writing_told};
 
 use crate::decode::{FIRST_VERSION, has_header, u32_at, universe_said, version_of};
 use crate::{ShapeHeader, ShapeRead};
-use bintree::merge;
+use bintree::{copy, merge};
 use universe::{Refusal, Universe, Unwritten};
 
 // With what a shape file begins.
@@ -81,8 +81,8 @@ pub fn write_shape(universe: Universe, expression: &[u8], out: &mut [u8]) -> Res
     if MOST_SYMBOLS < count || out.len() < needed {
         return Err(Unwritten::NoRoom(needed as u64));
     }
-    out[..HEADER_LENGTH].copy_from_slice(&header_bytes(universe, count));
-    out[HEADER_LENGTH..needed].copy_from_slice(expression);
+    copy(&header_bytes(universe, count), out, 0);
+    copy(expression, out, HEADER_LENGTH);
     Ok(needed as u64)
 }
 
@@ -159,6 +159,6 @@ pub fn read_shape(bytes: &[u8], out: &mut [u8]) -> Result<ShapeRead, Unwritten>
     if out.len() < count {
         return Err(Unwritten::NoRoom(shape.length));
     }
-    out[..count].copy_from_slice(symbols);
+    copy(symbols, out, 0);
     Ok(shape)
 }

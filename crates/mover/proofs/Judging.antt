@@ -126,6 +126,9 @@ pub room_leaves : (words : List ℕ) {leaves : ℕ} → leaves ≡ halfspace_wor
 room_leaves words e h = omega (arith, e, count_words_most 256 256 words)
 
 -- ---- `largest_need`: the largest of the first i needs
+pub larger_second : (a b : ℕ) → a ≤ b → b ≡ larger a b
+larger_second a b h = rw (le-leb a b h)
+
 -- the library's larger number
 larger_lem : (a b : ℕ) → ord_max nat_cmp a b ≡ larger a b
 larger_lem a b = go (dec_le a b)

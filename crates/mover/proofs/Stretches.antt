@@ -10,7 +10,7 @@ use lib.IntN.{ℤ, pos, nat_abs, ◌+ℤ◌, ◌-ℤ◌, ◌*ℤ◌}
 use mir.Syntax.{w64}
 use mir.Val.{to_z}
 use Rattle.lemmas.proofs.Sums.{and_left, and_right}
-use Rattle.lemmas.proofs.Machine.{Near, near, near_cast, near_add, near_sub, near_mul, near_back}
+use Rattle.lemmas.proofs.Machine.{Near, near, near_cast, near_add, near_sub, near_mul, near_back, near_call}
 use Rattle.universe.specs.Refusals.{bad_proxy}
 use Rattle.universe.specs.Universe.{longest_side}
 use Rattle.universe.proofs.Refusing.{unless_holds}
@@ -64,7 +64,7 @@ module _ (p : Proxy) (still : still_refusal p ≡ 0) where
   unfolding size_of
   size_none e = rw e
 
--- ---- `worked_back`: what is worked back is small
+-- ---- `worked_back`: what is worked back is small, and is what the machine works out
 module _ {m : ℕ} {a s : ℤ} (w : Working m a s) where
   product : Near (to_z w64 m *ℤ back s) (pos m *ℤ s) (longest_side * normal_limit)
   product = near_mul {x = pos m} {y = s} (near_cast m longest_side w.early tt) (near (record { most = w.step_small }) tt)
@@ -76,6 +76,20 @@ module _ {m : ℕ} {a s : Numbers} (w : WorkingAll m a s) where
   module _ (p q : ℤ) (h : nat_abs p ≤ corner_limit) (k : nat_abs q ≤ normal_limit) where
     axis_small : nat_abs (p -ℤ pos m *ℤ q) ≤ back_limit
     axis_small = (worked {a = p} {s = q} (record { early = w.early; corner_small = h; step_small = k })).size
+
+    axis_made : {r : ℤ} → r ≡ back p -ℤ pos m *ℤ back q → back r ≡ p -ℤ pos m *ℤ q
+    axis_made x =
+        let e : back p ≡ p = (near {b = corner_limit} (record { most = h }) tt).same in
+        let f : back q ≡ q = (near {b = normal_limit} (record { most = k }) tt).same in
+        (near_call (rw (e, f) at x) (record { same = refl; size = axis_small }) tt).same
+
+  pub worked_all : {p q r : ℤ} → p ≡ back a.x -ℤ pos m *ℤ back s.x → q ≡ back a.y -ℤ pos m *ℤ back s.y →
+      r ≡ back a.z -ℤ pos m *ℤ back s.z → ◌≡◌ {A = Numbers} (record { x = back p; y = back q; z = back r }) (worked_back m a s)
+  worked_all e f g =
+      numbers_eq
+      (axis_made a.x s.x w.corner_small.x w.step_small.x e)
+      (axis_made a.y s.y w.corner_small.y w.step_small.y f)
+      (axis_made a.z s.z w.corner_small.z w.step_small.z g)
 
   pub worked_small : Limited back_limit (worked_back m a s)
   worked_small =

@@ -18,6 +18,17 @@ pub const MOST_STATIC: usize = MOST_ROWS - BOX_ROWS;
 // The numbers of all rows of a stretch.
 pub(crate) const MOST_NUMBERS: usize = MOST_ROWS * ROW_LENGTH;
 
+// Copies numbers to the front of `all`, one by one: `copy_from_slice` would have the archive for C need `memmove` of
+// its host.
+fn lay_front(numbers: &[i64], all: &mut [i64])
+    requires { length numbers.now ≤ length all.old }
+    ensures { all.new ≡ numbers.now ++ drop (length numbers.now) all.old }
+{
+    for i in 0..numbers.len() {
+        all[i] = numbers[i];
+    }
+}
+
 // Copies the static rows, and behind them the Box's over stretch i, to the front of `all`: so many numbers.
 pub(crate) fn lay_rows(mover: Mover<'_>, i: usize, rows: &[i64], all: &mut [i64]) -> usize
     requires has_box { HasBox (mover_lent mover) i }
@@ -27,7 +38,7 @@ pub(crate) fn lay_rows(mover: Mover<'_>, i: usize, rows: &[i64], all: &mut [i64]
         all.new ≡ numbers ++ drop (length numbers) all.old }
 {
     let mut end = rows.len();
-    all[..end].copy_from_slice(rows);
+    lay_front(rows, all);
     for row in mover.rows_of(i) {
         all[end..end + ROW_LENGTH].copy_from_slice(&row);
         end += ROW_LENGTH;

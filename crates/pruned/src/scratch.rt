@@ -19,8 +19,7 @@ pub(crate) const SHORT_SCRATCH: usize = 768;
 // The same for where more is lent; where more than this is lent none is taken.
 pub const MOST_SCRATCH: usize = 4096;
 
-// Both halves are written into scratch room of so many symbols, and copied where they fit the room lent. Each size has a
-// function of its own, since a function pays at entry for the size of its locals.
+// Both halves are written into scratch room of so many symbols, and copied where they fit the room lent.
 pub(crate) fn in_scratch<const ROOM: usize>(
     axes: usize,
     rows: &[i64],

@@ -151,7 +151,7 @@ fn numbers(to: &mut impl Write) -> io::Result<()> {
     everywhere(to, "-0.0", -0.0)?;
     everywhere(to, "least subnormal", 5e-324)?;
     everywhere(to, "largest subnormal", 2.225073858507201e-308)?;
-    everywhere(to, "NaN", f64::NAN)?;
+    everywhere(to, "NaN", 0.0 / 0.0)?;
     everywhere(to, "infinity", f64::INFINITY)?;
     everywhere(to, "-infinity", f64::NEG_INFINITY)?;
     everywhere(to, "largest float", 1.7976931348623157e308)
@@ -230,7 +230,7 @@ fn corners_in_sixteenths(to: &mut impl Write) -> io::Result<()> {
     in_sixteenths(to, "(4096 and 1/16, 1, 1)", triple(4096.0625, 1.0, 1.0))?;
     in_sixteenths(to, "(1, -4096 and -1/16, 1)", triple(1.0, -4096.0625, 1.0))?;
     in_sixteenths(to, "(1, 1, 1/32)", triple(1.0, 1.0, 0.03125))?;
-    in_sixteenths(to, "(1, NaN, 1)", triple(1.0, f64::NAN, 1.0))?;
+    in_sixteenths(to, "(1, NaN, 1)", triple(1.0, 0.0 / 0.0, 1.0))?;
     in_sixteenths(to, "(infinity, 1, 1)", triple(f64::INFINITY, 1.0, 1.0))?;
     in_sixteenths(to, "(-0.0, 2.5, -0.0)", triple(-0.0, 2.5, -0.0))
 }

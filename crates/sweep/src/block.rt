@@ -5,7 +5,7 @@ ghost use Rattle.bintree.specs.Walks.{laid};
 ghost use Rattle.sweep.specs.Places.{past_all, Sweeping, Halving, is_same, piece_of};
 ghost use Rattle.sweep.specs.Places.{swept_block, swept_across, swept_halves};
 
-use crate::places::{pull_back, push_lows, push_past, settle};
+use crate::places::{copy_places, pull_back, push_lows, push_past, settle};
 use universe::Universe;
 
 // What is swept: an expression, the axes that its levels are halved across, by the levels left below, and the one of
@@ -93,7 +93,7 @@ fn sweep_across(
 {
     let (lows, rest) = work.split_at_mut(count);
     let highs = &mut rest[..count];
-    highs.copy_from_slice(lows);
+    copy_places(lows, highs);
     push_past(sweep.expression, highs);
     sweep_block(sweep, left, work, 2 * count, out, at)
 }

@@ -60,6 +60,16 @@ pub(crate) fn push_lows(expression: &[u8], places: &[usize], lows: &mut [usize])
     next
 }
 
+// Copies places, one by one: `copy_from_slice` would have the archive for C need `memmove` of its host.
+pub(crate) fn copy_places(from: &[usize], to: &mut [usize])
+    requires { length to.old ≡ length from.now }
+    ensures { to.new ≡ from.now }
+{
+    for i in 0..from.len() {
+        to[i] = from[i];
+    }
+}
+
 // Past the trees: each place becomes that past its tree.
 pub(crate) fn push_past(expression: &[u8], places: &mut [usize])
     ensures { places.new ≡ past_all expression.now places.old }

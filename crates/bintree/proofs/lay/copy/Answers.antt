@@ -1,13 +1,15 @@
--- `copy` puts in what there is room for.
+-- `copy` puts in what there is room for, one by one. Each answer is a law of lemmas' Stores.
 use Rattle.std.proofs.Common.{rules}
-use Rattle.lemmas.proofs.Stores.{copying_none}
-use Rattle.bintree.proofs.Lays.{copied}
+use Rattle.lemmas.proofs.Stores.{copying_none, copying_next, copying_end}
 use Rattle.bintree.proofs.lay.copy.Goals as goal
 
-pub returns-then-at-out : goal.returns-then-at-out
-returns-then-at-out c =
-    copied c.args.symbols.now c.args.out.now c.copy_from_slice.new.self c.args.at c.min-count.result c.if-at-out.true c.min-count.ensures
-    (search rules)
+pub loop-i-preserved : goal.loop-i-preserved
+loop-i-preserved c =
+    copying_next c.args.symbols.now c.args.out.now c.args.at c.min-count.result c.loop-i.i c.loop-i.out c.loop-i.invariant c.loop-i-test.true
+
+pub returns-after-loop-i : goal.returns-after-loop-i
+returns-after-loop-i c =
+    copying_end c.args.symbols.now c.args.out.now c.args.at c.min-count.result c.loop-i.i c.loop-i.out c.loop-i.invariant c.loop-i-test.false
 
 pub returns-else-at-out : goal.returns-else-at-out
 returns-else-at-out c = copying_none c.args.symbols.now c.args.out.now c.args.at (search rules)

@@ -24,14 +24,14 @@ sweep_across-slice_bounds-highs-end-2 t c =
     let few : c.args.count ≤ length c.split_at_mut-lows.result.1.now = omega (arith, parts.pair_fits c.requires, c.split_at_mut-lows.ensures.back_len) in
     sym (length-take-le c.args.count c.split_at_mut-lows.result.1.now few)
 
-pub sweep_across-copy_from_slice-requires : goal.sweep_across-copy_from_slice-requires
-sweep_across-copy_from_slice-requires t c =
+pub sweep_across-copy_places-requires : goal.sweep_across-copy_places-requires
+sweep_across-copy_places-requires t c =
     let few : c.args.count ≤ length c.split_at_mut-lows.result.1.now = omega (arith, parts.pair_fits c.requires, c.split_at_mut-lows.ensures.back_len) in
     length-take-le c.args.count c.split_at_mut-lows.result.1.now few ∙ sym c.split_at_mut-lows.ensures.front_len
 
 pub sweep_across-sweep_block-requires : goal.sweep_across-sweep_block-requires
 sweep_across-sweep_block-requires t c =
-    let highs = c.push_past.ensures ∙ ap (past_all _) c.copy_from_slice.ensures.after in (
+    let highs = c.push_past.ensures ∙ ap (past_all _) c.copy_places.ensures in (
       omega (arith, c.decreases),
       parts.paired_asks c.requires _
           (parts.paired_length c.requires _ c.split_at_mut-lows.ensures.front highs c.split_at_mut-lows.ensures.back_len)
@@ -40,21 +40,21 @@ sweep_across-sweep_block-requires t c =
 
 pub sweep_across-returns-clause-result_value : goal.sweep_across-returns-clause-result_value
 sweep_across-returns-clause-result_value t c =
-    let highs = c.push_past.ensures ∙ ap (past_all _) c.copy_from_slice.ensures.after in
+    let highs = c.push_past.ensures ∙ ap (past_all _) c.copy_places.ensures in
     c.sweep_block.ensures.result_value ∙ ap (piece_of _)
     (parts.paired_is c.requires _ (parts.paired_length c.requires _ c.split_at_mut-lows.ensures.front highs c.split_at_mut-lows.ensures.back_len)
     (parts.paired_places c.requires _ c.split_at_mut-lows.ensures.front highs c.split_at_mut-lows.ensures.back_len))
 
 pub sweep_across-returns-clause-out_after : goal.sweep_across-returns-clause-out_after
 sweep_across-returns-clause-out_after t c =
-    let highs = c.push_past.ensures ∙ ap (past_all _) c.copy_from_slice.ensures.after in
+    let highs = c.push_past.ensures ∙ ap (past_all _) c.copy_places.ensures in
     c.sweep_block.ensures.out_after ∙ ap (laid _ _)
     (parts.paired_is c.requires _ (parts.paired_length c.requires _ c.split_at_mut-lows.ensures.front highs c.split_at_mut-lows.ensures.back_len)
     (parts.paired_places c.requires _ c.split_at_mut-lows.ensures.front highs c.split_at_mut-lows.ensures.back_len))
 
 pub sweep_across-returns-clause-fact : goal.sweep_across-returns-clause-fact
 sweep_across-returns-clause-fact t c =
-    let highs = c.push_past.ensures ∙ ap (past_all _) c.copy_from_slice.ensures.after in
+    let highs = c.push_past.ensures ∙ ap (past_all _) c.copy_places.ensures in
     parts.paired_ends c.requires _ (parts.paired_length c.requires _ c.split_at_mut-lows.ensures.front highs c.split_at_mut-lows.ensures.back_len)
     (parts.paired_places c.requires _ c.split_at_mut-lows.ensures.front highs c.split_at_mut-lows.ensures.back_len) _ c.sweep_block.ensures.fact
 
